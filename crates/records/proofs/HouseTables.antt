@@ -1,0 +1,8 @@
+-- The house tables are accepted.
+-- Assumes nothing.
+use mathlib.Core.Path.{_≡_, refl}
+use Rattle.records.specs.Table.{Accepted}
+use Rattle.records.specs.House.{tableA, tableB, tableC}
+
+pub house-accepted : Accepted tableA × Accepted tableB × Accepted tableC
+house-accepted = (refl, refl, refl)

@@ -1,0 +1,174 @@
+-- "Reading and writing each record are inverse on every record that is accepted."
+-- Assumes nothing.
+use Prim.Native.Nat.{ℕ, zero, suc, _+_, _*_, _≤_, _<_}
+use mathlib.Core.Bool.{Bool, true, false, not}
+use mathlib.Core.Path.{_≡_, refl, sym, ap, _∙_}
+use mathlib.Core.List.{List, [], _∷_, _++_, append-nil}
+use native.Mathlib.Omega.{arith}
+use lib.Dec.{eqb, leb}
+use lib.ListN.{length, getD, take, drop, drop-of-length-le, length-take}
+use lib.Seq.{take-all, take-append-seam, getD-take, ext-getD}
+use borrow.Author.Tests.{eqb-true, le-leb, not-false}
+use Rattle.records.specs.declared.refusal.Written.the-variants.{Done, Refused}
+use Rattle.records.specs.declared.table.Table.{Table}
+use Rattle.records.specs.declared.table.TableRead.the-variants.{Read as TableIs, Refused as NoTable}
+use Rattle.records.specs.declared.transaction.Transaction.{Transaction}
+use Rattle.records.specs.declared.transaction.TransactionRead.the-variants.{Read as TransactionIs, Refused as NoTransaction}
+use Rattle.records.specs.declared.command.Kind.{Kind}
+use Rattle.records.specs.declared.command.Command.{Command}
+use Rattle.records.specs.declared.command.CommandRead.the-variants.{Read as CommandIs, Refused as NoCommand}
+use Rattle.records.specs.Tests.{pick}
+use Rattle.records.specs.Told.{refusal, over, Wrote}
+use Rattle.records.specs.Little.{num, bytes16}
+use Rattle.records.specs.Table.{tableOf, tableAt, numbersOf, tableRefusal, readTable, writeTable}
+use Rattle.records.specs.Transaction.{transactionAt, transactionRefusal, readTransaction, writeTransaction}
+use Rattle.records.specs.Transaction as Transactions
+use Rattle.records.specs.Command.{kindOf, kindNumber, command, commandAt, commandRefusal, roomRefusal, readCommand, writeCommand}
+use Rattle.records.specs.Command as Commands
+use Rattle.records.proofs.Laws.{read-is, read-was, write-is, write-was, passes, table-size, transaction-size}
+use Rattle.records.proofs.Bytes.{length-16, length-over}
+use Rattle.records.proofs.Inverse.{Bytes, le16-of, le32-of, of-le16, of-le32, table-16, bytes-from, elements-from, kind-number}
+
+-- new bytes that fill the buffer
+over-all : (new s : List ℕ) → length s ≤ length new → over new s ≡ new
+over-all new s h = rw (drop-of-length-le s h) (append-nil new)
+
+-- ---- the table
+
+abbrev tableDone : List ℕ → List ℕ → Wrote
+tableDone l s = record { answer = Done (tableOf l .edition); buffer = over (bytes16 l) s }
+
+no-table : (τ : Table) (n : ℕ) → NoTable (refusal n 0 0) ≡ TableIs τ → ⊥
+no-table τ n k = let y : _≡_ {A = ℕ} 0 1 = cc in omega arith
+
+pub table-written-read : (l s : List ℕ) (e : ℕ) → length l ≡ 16 → writeTable l s .answer ≡ Done e → readTable (writeTable l s .buffer) ≡ TableIs (tableOf l)
+unfolding readTable writeTable
+table-written-read l s e n d =
+    ap (λ (w : Wrote). readTable (w .buffer)) (write-is (tableRefusal (length s) (tableOf l)) (tableDone l s) s z)
+    ∙ read-is tableRefusal tableAt TableIs (λ n. NoTable (refusal n 0 0)) (over (bytes16 l) s) (tableOf l) (table-16 l (drop (length (bytes16 l)) s) n)
+    (ap (λ (k : ℕ). tableRefusal k (tableOf l)) (length-over (bytes16 l) s (omega (arith, length-16 l, table-size (length s) (tableOf l) z))) ∙ z)
+  where
+    z : tableRefusal (length s) (tableOf l) ≡ 0
+    z = write-was (tableRefusal (length s) (tableOf l)) (tableDone l s) s e d
+
+pub table-read-written : (s b : List ℕ) (τ : Table) → Bytes s → length b ≡ 32 → readTable s ≡ TableIs τ
+    → writeTable (numbersOf τ) b ≡ record { answer = Done (τ .edition); buffer = s }
+unfolding readTable writeTable
+table-read-written s b τ y n r =
+    write-is (tableRefusal (length b) τ) (tableDone (numbersOf τ) b) b (ap (λ (k : ℕ). tableRefusal k τ) (n ∙ sym size) ∙ ap (tableRefusal (length s)) (sym e) ∙ z)
+    ∙ ap (λ (l : List ℕ). record { answer = Done (τ .edition); buffer = l }) bytes
+  where
+    was : (tableRefusal (length s) (tableAt s) ≡ 0) × (TableIs (tableAt s) ≡ TableIs τ)
+    was = read-was tableRefusal tableAt TableIs (λ n. NoTable (refusal n 0 0)) s τ (no-table τ) r
+
+    z : tableRefusal (length s) (tableAt s) ≡ 0
+    z = was .0
+
+    e : tableAt s ≡ τ
+    e = let k = was .1 in cc
+
+    size : length s ≡ 32
+    size = table-size (length s) (tableAt s) z
+
+    sixteen : bytes16 (numbersOf (tableAt s)) ≡ s
+    sixteen = bytes-from 16 0 s y (omega (arith, size)) ∙ take-all 32 s (omega (arith, size))
+
+    bytes : over (bytes16 (numbersOf τ)) b ≡ s
+    bytes = ap (λ (t : Table). over (bytes16 (numbersOf t)) b) (sym e) ∙ over-all (bytes16 (numbersOf (tableAt s))) b (omega (arith, n)) ∙ sixteen
+
+-- ---- the transaction
+
+abbrev transactionDone : Transaction → List ℕ → Wrote
+transactionDone x s = record { answer = Done 0; buffer = over (Transactions.bytesOf x) s }
+
+no-transaction : (x : Transaction) (n : ℕ) → NoTransaction (refusal n 0 0) ≡ TransactionIs x → ⊥
+no-transaction x n k = let y : _≡_ {A = ℕ} 0 1 = cc in omega arith
+
+abbrev firstTransaction : List ℕ → Transaction
+firstTransaction s = transactionAt s 0
+
+pub transaction-written-read : (x : Transaction) (s : List ℕ) (e : ℕ) → writeTransaction x s .answer ≡ Done e
+    → readTransaction (writeTransaction x s .buffer) ≡ TransactionIs x
+unfolding readTransaction writeTransaction
+transaction-written-read x s e d =
+    ap (λ (w : Wrote). readTransaction (w .buffer)) (write-is (transactionRefusal (length s) x) (transactionDone x s) s z)
+    ∙ read-is transactionRefusal firstTransaction TransactionIs (λ n. NoTransaction (refusal n 0 0)) (over (Transactions.bytesOf x) s) x refl
+    (ap (λ (k : ℕ). transactionRefusal k x) (length-over (Transactions.bytesOf x) s (omega (arith, transaction-size (length s) x z))) ∙ z)
+  where
+    z : transactionRefusal (length s) x ≡ 0
+    z = write-was (transactionRefusal (length s) x) (transactionDone x s) s e d
+
+pub transaction-read-written : (s b : List ℕ) (x : Transaction) → length b ≡ 4 → readTransaction s ≡ TransactionIs x
+    → writeTransaction x b ≡ record { answer = Done 0; buffer = s }
+unfolding readTransaction writeTransaction
+transaction-read-written s b x n r =
+    write-is (transactionRefusal (length b) x) (transactionDone x b) b (ap (λ (k : ℕ). transactionRefusal k x) (n ∙ sym size) ∙ ap (transactionRefusal (length s)) (sym e) ∙ z)
+    ∙ ap (λ (l : List ℕ). record { answer = Done 0; buffer = l }) bytes
+  where
+    was : (transactionRefusal (length s) (transactionAt s 0) ≡ 0) × (TransactionIs (transactionAt s 0) ≡ TransactionIs x)
+    was = read-was transactionRefusal firstTransaction TransactionIs (λ n. NoTransaction (refusal n 0 0)) s x (no-transaction x) r
+
+    z : transactionRefusal (length s) (transactionAt s 0) ≡ 0
+    z = was .0
+
+    e : transactionAt s 0 ≡ x
+    e = let k = was .1 in cc
+
+    size : length s ≡ 4
+    size = transaction-size (length s) (transactionAt s 0) z
+
+    four : (l : List ℕ) → length l ≡ 4 → Transactions.bytesOf (transactionAt l 0) ≡ l
+    four l h = elements-from 4 0 l (omega (arith, h)) ∙ take-all 4 l (omega (arith, h))
+
+    bytes : over (Transactions.bytesOf x) b ≡ s
+    bytes = ap (λ (t : Transaction). over (Transactions.bytesOf t) b) (sym e) ∙ over-all (Transactions.bytesOf (transactionAt s 0)) b (omega (arith, n)) ∙ four s size
+
+-- ---- the command
+
+abbrev commandDone : Command → List ℕ → Wrote
+commandDone c s = record { answer = Done 0; buffer = over (Commands.bytesOf c) s }
+
+no-command : (c : Command) (n : ℕ) → NoCommand (refusal n 0 0) ≡ CommandIs c → ⊥
+no-command c n k = let y : _≡_ {A = ℕ} 0 1 = cc in omega arith
+
+-- the eight bytes that were written are read; every kind that a number stands for is written
+pub command-written-read : (t k b x : ℕ) (s : List ℕ) (e : ℕ) → t < 4294967296
+    → writeCommand (command t (kindOf k) b x) s .answer ≡ Done e
+    → readCommand (take 8 (writeCommand (command t (kindOf k) b x) s .buffer)) ≡ CommandIs (command t (kindOf k) b x)
+unfolding readCommand writeCommand
+command-written-read t k b x s e h d =
+    ap (λ (w : Wrote). readCommand (take 8 (w .buffer))) (write-is (roomRefusal (length s)) (commandDone c s) s z)
+    ∙ ap CommandIs same
+  where
+    c : Command
+    c = command t (kindOf k) b x
+
+    z : roomRefusal (length s) ≡ 0
+    z = write-was (roomRefusal (length s)) (commandDone c s) s e d
+
+    same : commandAt (Commands.bytesOf c) 0 ≡ c
+    same = rw (le32-of t h, kind-number k, le16-of x)
+
+-- the bytes that were read are written, from the start of any buffer with room
+pub command-read-written : (s b : List ℕ) (c : Command) → Bytes s → 8 ≤ length b → readCommand s ≡ CommandIs c
+    → writeCommand c b ≡ record { answer = Done 0; buffer = over s b }
+unfolding readCommand writeCommand
+command-read-written s b c y n r =
+    write-is (roomRefusal (length b)) (commandDone c b) b (rw (le-leb 8 (length b) n))
+    ∙ ap (λ (l : List ℕ). record { answer = Done 0; buffer = over l b }) (ap Commands.bytesOf (sym e) ∙ eight)
+  where
+    was : (commandRefusal (length s) ≡ 0) × (CommandIs (commandAt s 0) ≡ CommandIs c)
+    was = read-was (λ n a. commandRefusal n) (λ a. commandAt a 0) CommandIs (λ n. NoCommand (refusal n 0 0)) s c (no-command c) r
+
+    e : commandAt s 0 ≡ c
+    e = let k = was .1 in cc
+
+    size : length s ≡ 8
+    size = eqb-true (length s) 8 (not-false _ (passes 7 (not (eqb (length s) 8)) [] (λ k. omega arith) (was .0) .0))
+
+    eight : Commands.bytesOf (commandAt s 0) ≡ s
+    eight =
+        ap (λ (l : List ℕ). l ++ (kindNumber (kindOf (getD s 4 0)) ∷ getD s 5 0 ∷ bytes16 (num s 6 ∷ []))) (of-le32 (getD s 0 0) (getD s 1 0) (getD s 2 0) (getD s 3 0) (y 0) (y 1) (y 2) (y 3))
+        ∙ ap (λ (k : ℕ). getD s 0 0 ∷ getD s 1 0 ∷ getD s 2 0 ∷ getD s 3 0 ∷ k ∷ getD s 5 0 ∷ bytes16 (num s 6 ∷ [])) (kind-number (getD s 4 0))
+        ∙ ap (λ (l : List ℕ). getD s 0 0 ∷ getD s 1 0 ∷ getD s 2 0 ∷ getD s 3 0 ∷ getD s 4 0 ∷ getD s 5 0 ∷ l) (of-le16 (getD s 6 0) (getD s 7 0) (y 6) (y 7))
+        ∙ elements-from 8 0 s (omega (arith, size)) ∙ take-all 8 s (omega (arith, size))

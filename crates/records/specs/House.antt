@@ -1,0 +1,29 @@
+-- "House tables are constants, no device's data sheet": their sixteen numbers, and that each is accepted.
+use Prim.Native.Nat.{ℕ}
+use mathlib.Core.List.{List, [], _∷_}
+use Rattle.records.specs.declared.table.Table.{Table}
+use Rattle.records.specs.Table.{tableOf}
+
+-- A, with its FAW and its RTP left open
+abbrev pub house : ℕ → ℕ → List ℕ
+house faw rtp = 7 ∷ 8 ∷ 4 ∷ 4 ∷ 10 ∷ 10 ∷ 28 ∷ 38 ∷ 6 ∷ faw ∷ 10 ∷ 8 ∷ rtp ∷ 12 ∷ 6 ∷ 0 ∷ []
+
+abbrev pub numbersA : List ℕ
+numbersA = house 32 6
+
+-- "Table B: A with FAW 155."
+abbrev pub numbersB : List ℕ
+numbersB = house 155 6
+
+-- "Table C: A with RTP 2."
+abbrev pub numbersC : List ℕ
+numbersC = house 32 2
+
+abbrev pub tableA : Table
+tableA = tableOf numbersA
+
+abbrev pub tableB : Table
+tableB = tableOf numbersB
+
+abbrev pub tableC : Table
+tableC = tableOf numbersC

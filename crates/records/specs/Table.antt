@@ -1,0 +1,97 @@
+-- "Table, 32 bytes, sixteen 16-bit numbers": edition, banks, B, CCD, RCD, RP, RAS, RC, RRD, FAW, RL, WL, RTP, WR, WTR, and a last that is 0.
+use Prim.Native.Nat.{ℕ}
+use mathlib.Core.Bool.{Bool, true, false, not, _&&_, _||_}
+use mathlib.Core.Path.{_≡_}
+use mathlib.Core.List.{List, [], _∷_, _++_}
+use lib.Dec.{leb, eqb}
+use lib.ListN.{length, getD}
+use Rattle.records.specs.declared.table.Table.{Table}
+use Rattle.records.specs.declared.table.TableRead.{TableRead}
+use Rattle.records.specs.declared.table.TableRead.the-variants.{Read, Refused}
+use Rattle.records.specs.declared.refusal.Written.the-variants.{Done, Refused as NotWritten}
+use Rattle.records.specs.Tests.{pick, allOf, every, within}
+use Rattle.records.specs.Told.{refusal, firstFailed, over, Wrote}
+use Rattle.records.specs.Little.{num, bytes16}
+
+-- the table of sixteen numbers
+abbrev pub tableOf : List ℕ → Table
+tableOf l =
+    record {
+      edition = getD l 0 0;
+      banks = getD l 1 0;
+      b = getD l 2 0;
+      ccd = getD l 3 0;
+      rcd = getD l 4 0;
+      rp = getD l 5 0;
+      ras = getD l 6 0;
+      rc = getD l 7 0;
+      rrd = getD l 8 0;
+      faw = getD l 9 0;
+      rl = getD l 10 0;
+      wl = getD l 11 0;
+      rtp = getD l 12 0;
+      wr = getD l 13 0;
+      wtr = getD l 14 0;
+      last = getD l 15 0;
+    }
+
+-- the table of 32 bytes
+abbrev pub tableAt : List ℕ → Table
+tableAt s =
+    record {
+      edition = num s 0;
+      banks = num s 2;
+      b = num s 4;
+      ccd = num s 6;
+      rcd = num s 8;
+      rp = num s 10;
+      ras = num s 12;
+      rc = num s 14;
+      rrd = num s 16;
+      faw = num s 18;
+      rl = num s 20;
+      wl = num s 22;
+      rtp = num s 24;
+      wr = num s 26;
+      wtr = num s 28;
+      last = num s 30;
+    }
+
+-- the timing numbers: all but the edition, the banks and the last
+abbrev pub timings : Table → List ℕ
+timings τ =
+    τ .b ∷ τ .ccd ∷ τ .rcd ∷ τ .rp ∷ τ .ras ∷ τ .rc ∷ τ .rrd ∷ τ .faw ∷ τ .rl ∷ τ .wl ∷ τ .rtp ∷ τ .wr ∷ τ .wtr ∷ []
+
+-- the sixteen numbers of a table
+abbrev pub numbersOf : Table → List ℕ
+numbersOf τ = τ .edition ∷ τ .banks ∷ (timings τ ++ (τ .last ∷ []))
+
+-- "Edition is 1 to 65,535, banks 1 to 16, the others 1 to 255; CCD is at least 2 and at least B."
+abbrev pub inRange : Table → Bool
+inRange τ =
+    within 1 65535 (τ .edition) && (within 1 16 (τ .banks)
+    && (leb 2 (τ .ccd) && (leb (τ .b) (τ .ccd)
+    && every (within 1 255) (timings τ))))
+
+-- an accepted table: its last number is 0, the others are in range
+abbrev pub accepted : Table → Bool
+accepted τ = eqb (τ .last) 0 && inRange τ
+
+abbrev pub Accepted : Table → Type 0
+Accepted τ = accepted τ ≡ true
+
+-- number 1: "table not 32 bytes, or its last number not 0"; number 2: "a table number out of range, CCD below 2 or below B"
+abbrev pub tableRefusal : ℕ → Table → ℕ
+tableRefusal size τ = firstFailed ((1, not (eqb size 32 && eqb (τ .last) 0)) ∷ (2, not (inRange τ)) ∷ [])
+
+-- "Refusals 1 and 2 name edition 0."
+unfoldable pub readTable : List ℕ → TableRead
+readTable s = let z = tableRefusal (length s) (tableAt s) in pick (eqb z 0) (Read (tableAt s)) (Refused (refusal z 0 0))
+
+-- writing checks the values as a reader would, and the room
+unfoldable pub writeTable : List ℕ → List ℕ → Wrote
+writeTable l s =
+    let z = tableRefusal (length s) (tableOf l) in
+    pick (eqb z 0)
+    (record { answer = Done (tableOf l .edition); buffer = over (bytes16 l) s })
+    (record { answer = NotWritten (refusal z 0 0); buffer = s })

@@ -1,0 +1,28 @@
+// The house tables of document 01: constants, no device's data sheet.
+ghost use mathlib.Core.Path.{_≡_};
+ghost use Rattle.records.specs.House.{numbersA, numbersB, numbersC};
+
+pub const TABLE_A: [u16; 16] = [7, 8, 4, 4, 10, 10, 28, 38, 6, 32, 10, 8, 6, 12, 6, 0];
+
+pub const TABLE_B: [u16; 16] = [7, 8, 4, 4, 10, 10, 28, 38, 6, 155, 10, 8, 6, 12, 6, 0];
+
+pub const TABLE_C: [u16; 16] = [7, 8, 4, 4, 10, 10, 28, 38, 6, 32, 10, 8, 2, 12, 6, 0];
+
+// The constants are the numbers that the definitions speak of.
+pub fn table_a() -> [u16; 16]
+    ensures { λ r. ⌜ r ≡ numbersA ⌝ }
+{
+    TABLE_A
+}
+
+pub fn table_b() -> [u16; 16]
+    ensures { λ r. ⌜ r ≡ numbersB ⌝ }
+{
+    TABLE_B
+}
+
+pub fn table_c() -> [u16; 16]
+    ensures { λ r. ⌜ r ≡ numbersC ⌝ }
+{
+    TABLE_C
+}

@@ -1,0 +1,164 @@
+// The table, 32 bytes: sixteen 16-bit numbers.
+use crate::little::num_at;
+use crate::little::put_16;
+use crate::refusal::Refusal;
+use crate::refusal::Written;
+use crate::refusal::first_failed;
+use crate::refusal::refuse;
+use crate::tests::both_of;
+use crate::tests::is_within;
+use crate::tests::not_of;
+ghost use mathlib.Core.Path.{_≡_};
+ghost use mathlib.Core.Bool.{_&&_};
+ghost use Prim.Native.Nat.{_≤_};
+ghost use lib.ListN.{length};
+ghost use Rattle.records.specs.Tests.{within};
+ghost use Rattle.records.specs.Told.{over, Leaves};
+ghost use Rattle.records.specs.Little.{bytes16};
+ghost use Rattle.records.specs.Table.{tableOf, tableAt, inRange, tableRefusal, readTable, writeTable};
+
+pub struct Table {
+    pub edition: u16,
+    pub banks: u16,
+    pub b: u16,
+    pub ccd: u16,
+    pub rcd: u16,
+    pub rp: u16,
+    pub ras: u16,
+    pub rc: u16,
+    pub rrd: u16,
+    pub faw: u16,
+    pub rl: u16,
+    pub wl: u16,
+    pub rtp: u16,
+    pub wr: u16,
+    pub wtr: u16,
+    // The last number: 0 in every table that is accepted.
+    pub last: u16,
+}
+
+pub enum TableRead {
+    Read(Table),
+    Refused(Refusal),
+}
+
+// The table of sixteen numbers.
+pub fn table_of(n: [u16; 16]) -> Table
+    ensures { λ r. ⌜ r ≡ tableOf n ⌝ }
+{
+    Table {
+        edition: n[0],
+        banks: n[1],
+        b: n[2],
+        ccd: n[3],
+        rcd: n[4],
+        rp: n[5],
+        ras: n[6],
+        rc: n[7],
+        rrd: n[8],
+        faw: n[9],
+        rl: n[10],
+        wl: n[11],
+        rtp: n[12],
+        wr: n[13],
+        wtr: n[14],
+        last: n[15],
+    }
+}
+
+// The table of 32 bytes.
+pub fn table_at(s: &[u8]) -> Table
+    requires { ⌜ 32 ≤ length (now s) ⌝ }
+    ensures { λ r. ⌜ r ≡ tableAt (now (s .entry)) ⌝ }
+{
+    Table {
+        edition: num_at(s, 0),
+        banks: num_at(s, 2),
+        b: num_at(s, 4),
+        ccd: num_at(s, 6),
+        rcd: num_at(s, 8),
+        rp: num_at(s, 10),
+        ras: num_at(s, 12),
+        rc: num_at(s, 14),
+        rrd: num_at(s, 16),
+        faw: num_at(s, 18),
+        rl: num_at(s, 20),
+        wl: num_at(s, 22),
+        rtp: num_at(s, 24),
+        wr: num_at(s, 26),
+        wtr: num_at(s, 28),
+        last: num_at(s, 30),
+    }
+}
+
+// Four timing numbers are 1 to 255, and the rest is as it should be.
+pub fn four_and(a: u16, b: u16, c: u16, d: u16, rest: bool) -> bool
+    ensures { λ r. ⌜ r ≡ (within 1 255 a && (within 1 255 b && (within 1 255 c && (within 1 255 d && rest)))) ⌝ }
+{
+    let bc = both_of(
+        is_within(1, 255, b),
+        both_of(is_within(1, 255, c), both_of(is_within(1, 255, d), rest)),
+    );
+    both_of(is_within(1, 255, a), bc)
+}
+
+// "Edition is 1 to 65,535, banks 1 to 16, the others 1 to 255; CCD is at least 2 and at least B."
+pub fn in_range(t: Table) -> bool
+    ensures { λ r. ⌜ r ≡ inRange t ⌝ }
+{
+    let wtr = is_within(1, 255, t.wtr);
+    let to_wr = four_and(t.rl, t.wl, t.rtp, t.wr, wtr);
+    let to_faw = four_and(t.ras, t.rc, t.rrd, t.faw, to_wr);
+    let timings = four_and(t.b, t.ccd, t.rcd, t.rp, to_faw);
+    let ccd = both_of(2 <= t.ccd, both_of(t.b <= t.ccd, timings));
+    both_of(
+        is_within(1, 65535, t.edition),
+        both_of(is_within(1, 16, t.banks), ccd),
+    )
+}
+
+// 0, or the number by which a table of so many bytes is refused.
+pub fn table_refusal(size: usize, t: Table) -> u8
+    ensures { λ r. ⌜ r ≡ tableRefusal size t ⌝ }
+{
+    let whole = both_of(size == 32, t.last == 0);
+    first_failed(1, not_of(whole), 2, not_of(in_range(t)))
+}
+
+pub fn read_table(s: &[u8]) -> TableRead
+    ensures { λ r. ⌜ r ≡ readTable (now (s .entry)) ⌝ }
+{
+    if s.len() != 32 {
+        return TableRead::Refused(refuse(1, 0, 0));
+    }
+    let t = table_at(s);
+    let z = table_refusal(s.len(), t);
+    if z != 0 {
+        return TableRead::Refused(refuse(z, 0, 0));
+    }
+    TableRead::Read(t)
+}
+
+// Writes sixteen numbers from the buffer's start.
+pub fn put_numbers(n: [u16; 16], s: &mut [u8])
+    requires { ⌜ 32 ≤ length (now s) ⌝ }
+    ensures { λ r. ⌜ now (s .exit) ≡ over (bytes16 n) (now (s .entry)) ⌝ }
+{
+    let mut i = 0;
+    while i < 16 {
+        put_16(s, 2 * i, n[i]);
+        i += 1;
+    }
+}
+
+pub fn write_table(n: [u16; 16], s: &mut [u8]) -> Written
+    ensures { λ r. ⌜ Leaves (writeTable n (now (s .entry))) r (now (s .exit)) ⌝ }
+{
+    let t = table_of(n);
+    let z = table_refusal(s.len(), t);
+    if z != 0 {
+        return Written::Refused(refuse(z, 0, 0));
+    }
+    put_numbers(n, s);
+    Written::Done(t.edition)
+}

@@ -1,0 +1,95 @@
+// The transaction, 4 bytes.
+use crate::refusal::Refusal;
+use crate::refusal::Written;
+use crate::refusal::first_failed;
+use crate::refusal::refuse;
+use crate::tests::both_of;
+use crate::tests::is_within;
+use crate::tests::not_of;
+ghost use mathlib.Core.Path.{_≡_};
+ghost use Prim.Native.Nat.{_+_, _≤_};
+ghost use lib.ListN.{length};
+ghost use Rattle.records.specs.Told.{over, Leaves};
+ghost use Rattle.records.specs.Transaction.{transaction, transactionAt, bytesOf, fitsIn, transactionRefusal, readTransaction, writeTransaction};
+
+// `kind` is the paper's type: 0 read, 1 write. (`type` is a word of the language.)
+pub struct Transaction {
+    pub kind: u8,
+    pub start: u8,
+    pub bi: u8,
+    pub bc: u8,
+}
+
+pub enum TransactionRead {
+    Read(Transaction),
+    Refused(Refusal),
+}
+
+// The transaction of the four bytes from a place on.
+pub fn transaction_at(s: &[u8], at: usize) -> Transaction
+    requires { ⌜ at + 4 ≤ length (now s) ⌝ }
+    ensures { λ r. ⌜ r ≡ transactionAt (now (s .entry)) at ⌝ }
+{
+    Transaction {
+        kind: s[at],
+        start: s[at + 1],
+        bi: s[at + 2],
+        bc: s[at + 3],
+    }
+}
+
+// "BI and BC are 1 to 16; start + BI is at most banks."
+pub fn fits_in(banks: u16, kind: u8, start: u8, bi: u8, bc: u8) -> bool
+    ensures { λ r. ⌜ r ≡ fitsIn banks (transaction kind start bi bc) ⌝ }
+{
+    let within = start as u16 + bi as u16 <= banks;
+    let counts = both_of(
+        is_within(1, 16, bi as u16),
+        both_of(is_within(1, 16, bc as u16), within),
+    );
+    both_of(kind <= 1, counts)
+}
+
+// 0, or the number by which a transaction of so many bytes is refused.
+pub fn transaction_refusal(size: usize, x: Transaction) -> u8
+    ensures { λ r. ⌜ r ≡ transactionRefusal size x ⌝ }
+{
+    let good = fits_in(16, x.kind, x.start, x.bi, x.bc);
+    first_failed(3, size != 4, 4, not_of(good))
+}
+
+pub fn read_transaction(s: &[u8]) -> TransactionRead
+    ensures { λ r. ⌜ r ≡ readTransaction (now (s .entry)) ⌝ }
+{
+    if s.len() != 4 {
+        return TransactionRead::Refused(refuse(3, 0, 0));
+    }
+    let x = transaction_at(s, 0);
+    let z = transaction_refusal(s.len(), x);
+    if z != 0 {
+        return TransactionRead::Refused(refuse(z, 0, 0));
+    }
+    TransactionRead::Read(x)
+}
+
+// Writes the four bytes from the buffer's start.
+pub fn put_transaction(x: Transaction, s: &mut [u8])
+    requires { ⌜ 4 ≤ length (now s) ⌝ }
+    ensures { λ r. ⌜ now (s .exit) ≡ over (bytesOf x) (now (s .entry)) ⌝ }
+{
+    s[0] = x.kind;
+    s[1] = x.start;
+    s[2] = x.bi;
+    s[3] = x.bc;
+}
+
+pub fn write_transaction(x: Transaction, s: &mut [u8]) -> Written
+    ensures { λ r. ⌜ Leaves (writeTransaction x (now (s .entry))) r (now (s .exit)) ⌝ }
+{
+    let z = transaction_refusal(s.len(), x);
+    if z != 0 {
+        return Written::Refused(refuse(z, 0, 0));
+    }
+    put_transaction(x, s);
+    Written::Done(0)
+}

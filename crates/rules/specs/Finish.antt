@@ -1,0 +1,30 @@
+-- "A transaction finishes at the cycle of its last data command."
+use Prim.Native.Nat.{ℕ}
+use mathlib.Core.Bool.{Bool, true, false, _&&_}
+use mathlib.Core.List.{List, [], _∷_}
+use lib.Dec.{eqb}
+use Rattle.records.specs.Tests.{pick}
+use Rattle.records.specs.declared.table.Table.{Table}
+use Rattle.records.specs.declared.transaction.Transaction.{Transaction}
+use Rattle.records.specs.declared.command.Command.{Command}
+use Rattle.rules.specs.declared.state.Stamp.{Stamp}
+use Rattle.rules.specs.declared.state.Stamp.the-variants.{Never, At}
+use Rattle.rules.specs.Kinds.{isData}
+use Rattle.rules.specs.Pattern.{onto}
+
+-- the cycle of the last data command of transaction k, in a history, newest first
+abbrev pub lastDataIn : ℕ → List Command → Stamp
+lastDataIn k [] = Never
+lastDataIn k (r ∷ h) = pick (eqb (r .number) k && isData (r .kind)) (At (r .cycle)) (lastDataIn k h)
+
+-- where a transaction finishes whose last data command goes at cycle c
+abbrev pub finishOf : Table → Transaction → ℕ → ℕ
+finishOf τ x c = c
+
+-- where the count of the next transaction starts, if this one's last data command goes at cycle c
+abbrev pub countFrom : Table → Transaction → ℕ → ℕ
+countFrom τ x c = c
+
+-- the cycle of the last data command of transaction k in a schedule
+abbrev pub lastData : ℕ → List Command → Stamp
+lastData k rs = lastDataIn k (onto rs [])

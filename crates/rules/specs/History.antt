@@ -1,0 +1,115 @@
+-- Document 01, "Timing rules": the table of rules, "against all records before it", which stand newest first.
+use Prim.Native.Nat.{ℕ, zero, suc, _+_, max}
+use mathlib.Core.Bool.{Bool, true, false, not, _&&_, _||_}
+use mathlib.Core.List.{List, [], _∷_}
+use lib.Dec.{leb, ltb, eqb}
+use Rattle.records.specs.Tests.{pick, every}
+use Rattle.records.specs.declared.table.Table.{Table}
+use Rattle.records.specs.declared.command.Kind.{Kind}
+use Rattle.records.specs.declared.command.Kind.the-variants.{Act, Rd, Rda, Wr, Wra, Other}
+use Rattle.records.specs.declared.command.Command.{Command}
+use Rattle.rules.specs.declared.state.Stamp.{Stamp}
+use Rattle.rules.specs.declared.state.Stamp.the-variants.{Never, At}
+use Rattle.rules.specs.declared.verdict.Found.{Found}
+use Rattle.rules.specs.declared.verdict.Found.the-variants.{Fine, Broken}
+use Rattle.rules.specs.Kinds.{isAct, isRd, isWr, isKnown, firstBroken, rulesInOrder}
+use Rattle.rules.specs.Square.{fromRd, fromWr, writeTail}
+use Rattle.rules.specs.State.{past}
+
+-- rule 1: "kind above 4, or bank not below banks"
+abbrev pub inTable : Table → Kind → ℕ → Bool
+inTable τ k b = isKnown k && ltb b (τ .banks)
+
+-- rule 2: "cycle not greater than the record's before it"
+abbrev pub later : ℕ → List Command → Bool
+later t [] = true
+later t (r ∷ h) = ltb (r .cycle) t
+
+-- rule 3: a bank is open from its ACT to the data command with auto precharge
+abbrev pub openAfter : Kind → Bool → Bool
+openAfter Act o = true
+openAfter Rd o = true
+openAfter Rda o = false
+openAfter Wr o = true
+openAfter Wra o = false
+openAfter (Other n) o = o
+
+abbrev pub openIn : ℕ → List Command → Bool
+openIn b [] = false
+openIn b (r ∷ h) = pick (eqb (r .bank) b) (openAfter (r .kind) (openIn b h)) (openIn b h)
+
+-- the cycle of the bank's last ACT
+abbrev pub actIn : ℕ → List Command → Stamp
+actIn b [] = Never
+actIn b (r ∷ h) = pick (eqb (r .bank) b && isAct (r .kind)) (At (r .cycle)) (actIn b h)
+
+-- the greater of a cycle and a stamp
+abbrev pub greater : ℕ → Stamp → Stamp
+greater n Never = At n
+greater n (At c) = At (max n c)
+
+-- "A bank's precharge starts at the greatest of: its ACT + RAS, each RD since that ACT + RTP, each WR since that ACT + WL + B + WR."
+abbrev pub prechargeAfter : Table → ℕ → Kind → Stamp → Stamp
+prechargeAfter τ c Act s = At (c + τ .ras)
+prechargeAfter τ c Rd s = greater (c + τ .rtp) s
+prechargeAfter τ c Rda s = greater (c + τ .rtp) s
+prechargeAfter τ c Wr s = greater (c + writeTail τ) s
+prechargeAfter τ c Wra s = greater (c + writeTail τ) s
+prechargeAfter τ c (Other n) s = s
+
+abbrev pub prechargeIn : Table → ℕ → List Command → Stamp
+prechargeIn τ b [] = Never
+prechargeIn τ b (r ∷ h) = pick (eqb (r .bank) b) (prechargeAfter τ (r .cycle) (r .kind) (prechargeIn τ b h)) (prechargeIn τ b h)
+
+-- the cycle of the n-th ACT back, from 0
+abbrev pub actBack : ℕ → List Command → Stamp
+actBack n [] = Never
+actBack zero (r ∷ h) = pick (isAct (r .kind)) (At (r .cycle)) (actBack zero h)
+actBack (suc n) (r ∷ h) = pick (isAct (r .kind)) (actBack n h) (actBack (suc n) h)
+
+-- rule 7: "the fourth ACT before it"
+abbrev pub fourthAct : List Command → Stamp
+fourthAct h = actBack 3 h
+
+-- cycle t is at least d after a record, if that is of the kinds p
+abbrev pub far : (Kind → Bool) → ℕ → ℕ → Command → Bool
+far p d t r = not (p (r .kind)) || leb (r .cycle + d) t
+
+-- rule 6: an ACT to bank b at cycle t is far enough from an earlier ACT
+abbrev pub farAct : Table → ℕ → ℕ → Command → Bool
+farAct τ b t r = far isAct (τ .rrd) t r
+
+-- rule 9: a data command to bank b at cycle t, a write or not, is no nearer to an earlier one than their distance
+abbrev pub farData : Table → Bool → ℕ → ℕ → Command → Bool
+farData τ w b t r = far isRd (fromRd τ w) t r && far isWr (fromWr τ w) t r
+
+-- rules 3 to 9 for an ACT to bank b at cycle t: an open bank, precharge start + RP, RC, RRD, FAW; rules 8 and 9 do not apply
+abbrev pub actRules : Table → ℕ → ℕ → List Command → List Bool
+actRules τ t b h =
+    not (openIn b h) ∷ past (prechargeIn τ b h) (τ .rp) t ∷ past (actIn b h) (τ .rc) t ∷ every (farAct τ b t) h
+    ∷ past (fourthAct h) (τ .faw) t ∷ []
+
+-- rules 3 to 9 for a data command: a closed bank, RCD, the distances; rules 4 to 7 do not apply
+abbrev pub dataRules : Table → Bool → ℕ → ℕ → List Command → List Bool
+dataRules τ w t b h =
+    openIn b h ∷ true ∷ true ∷ true ∷ true ∷ past (actIn b h) (τ .rcd) t ∷ every (farData τ w b t) h ∷ []
+
+abbrev pub rulesBy : Table → Kind → ℕ → ℕ → List Command → List Bool
+rulesBy τ Act t b h = actRules τ t b h
+rulesBy τ Rd t b h = dataRules τ false t b h
+rulesBy τ Rda t b h = dataRules τ false t b h
+rulesBy τ Wr t b h = dataRules τ true t b h
+rulesBy τ Wra t b h = dataRules τ true t b h
+rulesBy τ (Other n) t b h = []
+
+-- rules 1 to 9, in the order of their numbers, for a record after the history h
+abbrev pub rules : Table → Command → List Command → List Bool
+rules τ r h = inTable τ (r .kind) (r .bank) ∷ later (r .cycle) h ∷ rulesBy τ (r .kind) (r .cycle) (r .bank) h
+
+-- "A record breaks the first of these that applies, against all records before it"
+abbrev pub broken : Table → Command → List Command → Found
+broken τ r h = firstBroken (rules τ r h) rulesInOrder
+
+abbrev pub isFine : Found → Bool
+isFine Fine = true
+isFine (Broken r) = false

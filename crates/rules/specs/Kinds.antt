@@ -1,0 +1,71 @@
+-- "RD meaning RD or RDA and WR meaning WR or WRA"; the rules by their numbers.
+use Prim.Native.Nat.{ℕ}
+use mathlib.Core.Bool.{Bool, true, false, _||_}
+use mathlib.Core.List.{List, [], _∷_}
+use Rattle.records.specs.declared.command.Kind.{Kind}
+use Rattle.records.specs.declared.command.Kind.the-variants.{Act, Rd, Rda, Wr, Wra, Other}
+use Rattle.rules.specs.declared.verdict.Rule.{Rule}
+use Rattle.rules.specs.declared.verdict.Rule.the-variants.{Range, Order, Opened, Precharge, Rc, Rrd, Faw, Rcd, Distance, End}
+use Rattle.rules.specs.declared.verdict.Found.{Found}
+use Rattle.rules.specs.declared.verdict.Found.the-variants.{Fine, Broken}
+
+abbrev pub isAct : Kind → Bool
+isAct Act = true
+isAct Rd = false
+isAct Rda = false
+isAct Wr = false
+isAct Wra = false
+isAct (Other n) = false
+
+abbrev pub isRd : Kind → Bool
+isRd Act = false
+isRd Rd = true
+isRd Rda = true
+isRd Wr = false
+isRd Wra = false
+isRd (Other n) = false
+
+abbrev pub isWr : Kind → Bool
+isWr Act = false
+isWr Rd = false
+isWr Rda = false
+isWr Wr = true
+isWr Wra = true
+isWr (Other n) = false
+
+-- a data command
+abbrev pub isData : Kind → Bool
+isData k = isRd k || isWr k
+
+-- no kind above 4
+abbrev pub isKnown : Kind → Bool
+isKnown Act = true
+isKnown Rd = true
+isKnown Rda = true
+isKnown Wr = true
+isKnown Wra = true
+isKnown (Other n) = false
+
+-- document 01's number of a rule
+abbrev pub ruleNumber : Rule → ℕ
+ruleNumber Range = 1
+ruleNumber Order = 2
+ruleNumber Opened = 3
+ruleNumber Precharge = 4
+ruleNumber Rc = 5
+ruleNumber Rrd = 6
+ruleNumber Faw = 7
+ruleNumber Rcd = 8
+ruleNumber Distance = 9
+ruleNumber End = 10
+
+-- the rules that one record is tested by, in the order of their numbers
+abbrev pub rulesInOrder : List Rule
+rulesInOrder = Range ∷ Order ∷ Opened ∷ Precharge ∷ Rc ∷ Rrd ∷ Faw ∷ Rcd ∷ Distance ∷ []
+
+-- "A record breaks the first of these that applies": of tests in the order of the rules, the rule of the first that fails
+abbrev pub firstBroken : List Bool → List Rule → Found
+firstBroken [] rs = Fine
+firstBroken (t ∷ ts) [] = Fine
+firstBroken (true ∷ ts) (r ∷ rs) = firstBroken ts rs
+firstBroken (false ∷ ts) (r ∷ rs) = Broken r

@@ -1,0 +1,12 @@
+pub mod Kinds
+pub mod Square
+pub mod History
+pub mod Verdict
+pub mod Pattern
+pub mod State
+pub mod Queues
+pub mod CycleRule
+pub mod Run
+pub mod Bound
+pub mod Finish
+pub mod Worked

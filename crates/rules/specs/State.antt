@@ -1,0 +1,147 @@
+-- Document 01, "Running a few cycles": what a state tells, the rules read off it, and the state after a command.
+use Prim.Native.Nat.{ℕ, zero, suc, _+_}
+use mathlib.Core.Bool.{Bool, true, false, not, _&&_, _||_}
+use mathlib.Core.Option.{Option, none, some}
+use mathlib.Core.List.{List, [], _∷_, _++_}
+use lib.Dec.{leb, ltb, eqb}
+use lib.ListN.{getD, set, replicate}
+use Rattle.records.specs.Tests.{pick, allOf}
+use Rattle.records.specs.declared.table.Table.{Table}
+use Rattle.records.specs.declared.command.Kind.{Kind}
+use Rattle.records.specs.declared.command.Kind.the-variants.{Act, Rd, Rda, Wr, Wra, Other}
+use Rattle.records.specs.declared.command.Command.{Command}
+use Rattle.rules.specs.declared.state.Stamp.{Stamp}
+use Rattle.rules.specs.declared.state.Stamp.the-variants.{Never, At}
+use Rattle.rules.specs.declared.state.Bank.{Bank}
+use Rattle.rules.specs.declared.state.State.{State}
+use Rattle.rules.specs.Kinds.{isAct, isRd, isWr, isData}
+use Rattle.rules.specs.Square.{square, side, cell, writeTail}
+
+-- cycle t is at least d after the stamp; "never" breaks no rule
+abbrev pub past : Stamp → ℕ → ℕ → Bool
+past Never d t = true
+past (At c) d t = leb (c + d) t
+
+abbrev pub isOpen : Bank → Bool
+isOpen k = not (eqb (k .opened) 0)
+
+-- a closed bank that no command has reached
+abbrev pub shut : Bank
+shut = record { opened = 0; act = Never; rd = Never; wr = Never }
+
+abbrev pub bankOf : State → ℕ → Bank
+bankOf s b = getD (s .banks) b shut
+
+-- rule 4: "Rules 4, 5 and 8 read the bank's cycles". t is at least RP after each of the three from which the precharge starts
+abbrev pub charged : Table → Bank → ℕ → Bool
+charged τ k t =
+    past (k .act) (τ .ras + τ .rp) t && (past (k .rd) (τ .rtp + τ .rp) t && past (k .wr) (writeTail τ + τ .rp) t)
+
+-- "of the four ACTs, kept newest first, rule 6 reads the first": for an ACT to bank b at cycle t
+abbrev pub rule6 : Table → State → ℕ → ℕ → Bool
+rule6 τ s t b = past (s .a1) (τ .rrd) t
+
+-- "and rule 7 the fourth"
+abbrev pub rule7 : Table → State → ℕ → Bool
+rule7 τ s t = past (s .a4) (τ .faw) t
+
+-- cycle t is far enough, by a square of distances, from the last RD and the last WR, for a write or not
+abbrev pub farBy : List (List ℕ) → Stamp → Stamp → Bool → ℕ → Bool
+farBy q rd wr w t = past rd (cell q 0 (side w)) t && past wr (cell q 1 (side w)) t
+
+-- "rule 9 reads the last RD and WR of all": for a data command to bank b at cycle t, a write or not
+abbrev pub rule9 : Table → State → Bool → ℕ → ℕ → Bool
+rule9 τ s w t b = farBy (square τ) (s .rd) (s .wr) w t
+
+-- rules 3 to 9 for an ACT to bank k at cycle t, which keeps rules 6 and 7 or not; rules 8 and 9 do not apply
+abbrev pub actTestsOf : Table → Bank → Bool → Bool → ℕ → List Bool
+actTestsOf τ k keeps6 keeps7 t = not (isOpen k) ∷ charged τ k t ∷ past (k .act) (τ .rc) t ∷ keeps6 ∷ keeps7 ∷ []
+
+abbrev pub actTests : Table → State → ℕ → ℕ → List Bool
+actTests τ s t b = actTestsOf τ (bankOf s b) (rule6 τ s t b) (rule7 τ s t) t
+
+-- rules 3 to 9 for a data command to bank k at cycle t, which keeps rule 9 or not; rules 4 to 7 do not apply
+abbrev pub dataTestsOf : Table → Bank → Bool → ℕ → List Bool
+dataTestsOf τ k keeps9 t = isOpen k ∷ true ∷ true ∷ true ∷ true ∷ past (k .act) (τ .rcd) t ∷ keeps9 ∷ []
+
+abbrev pub dataTests : Table → State → Bool → ℕ → ℕ → List Bool
+dataTests τ s w t b = dataTestsOf τ (bankOf s b) (rule9 τ s w t b) t
+
+abbrev pub testsBy : Table → State → Kind → ℕ → ℕ → List Bool
+testsBy τ s Act t b = actTests τ s t b
+testsBy τ s Rd t b = dataTests τ s false t b
+testsBy τ s Rda t b = dataTests τ s false t b
+testsBy τ s Wr t b = dataTests τ s true t b
+testsBy τ s Wra t b = dataTests τ s true t b
+testsBy τ s (Other n) t b = []
+
+-- by what the state tells, the command breaks none of rules 3 to 9
+abbrev pub breaksNone : Table → State → Command → Bool
+breaksNone τ s c = allOf (testsBy τ s (c .kind) (c .cycle) (c .bank))
+
+-- "A fresh state has the table's edition, cycle 0, all banks closed and "never" throughout."
+abbrev pub fresh : Table → State
+fresh τ =
+    record {
+      edition = τ .edition;
+      cycle = 0;
+      acts = 0;
+      datas = 0;
+      banks = replicate 16 shut;
+      a1 = Never;
+      a2 = Never;
+      a3 = Never;
+      a4 = Never;
+      rd = Never;
+      wr = Never;
+    }
+
+-- a bank after a command to it at cycle c: its last ACT, and the last RD and WR since
+abbrev pub bankAfter : Kind → ℕ → Bank → Bank
+bankAfter Act c k = record { opened = 1; act = At c; rd = Never; wr = Never }
+bankAfter Rd c k = record { opened = 1; act = k .act; rd = At c; wr = k .wr }
+bankAfter Rda c k = record { opened = 0; act = k .act; rd = At c; wr = k .wr }
+bankAfter Wr c k = record { opened = 1; act = k .act; rd = k .rd; wr = At c }
+bankAfter Wra c k = record { opened = 0; act = k .act; rd = k .rd; wr = At c }
+bankAfter (Other n) c k = k
+
+abbrev pub addIf : Bool → ℕ → ℕ
+addIf b n = pick b (n + 1) n
+
+-- the state after a command of a kind to bank b at cycle c; "The cycle then advances by one."
+abbrev pub note : State → ℕ → Kind → ℕ → State
+note s c k b =
+    record {
+      edition = s .edition;
+      cycle = c + 1;
+      acts = addIf (isAct k) (s .acts);
+      datas = addIf (isData k) (s .datas);
+      banks = set (s .banks) b (bankAfter k c (bankOf s b));
+      a1 = pick (isAct k) (At c) (s .a1);
+      a2 = pick (isAct k) (s .a1) (s .a2);
+      a3 = pick (isAct k) (s .a2) (s .a3);
+      a4 = pick (isAct k) (s .a3) (s .a4);
+      rd = pick (isRd k) (At c) (s .rd);
+      wr = pick (isWr k) (At c) (s .wr);
+    }
+
+-- the state after a cycle in which nothing goes
+abbrev pub idle : State → State
+idle s =
+    record {
+      edition = s .edition;
+      cycle = s .cycle + 1;
+      acts = s .acts;
+      datas = s .datas;
+      banks = s .banks;
+      a1 = s .a1;
+      a2 = s .a2;
+      a3 = s .a3;
+      a4 = s .a4;
+      rd = s .rd;
+      wr = s .wr;
+    }
+
+abbrev pub after : State → Option Command → State
+after s none = idle s
+after s (some c) = note s (c .cycle) (c .kind) (c .bank)

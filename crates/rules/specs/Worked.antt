@@ -1,0 +1,90 @@
+-- Document 01, "Examples from the desk": those marked †, as a single list under a single claim.
+use Prim.Native.Nat.{ℕ, zero, suc, _+_}
+use mathlib.Core.Path.{_≡_}
+use mathlib.Core.List.{List, [], _∷_}
+use Rattle.records.specs.declared.transaction.Transaction.{Transaction}
+use Rattle.records.specs.declared.command.Kind.the-variants.{Act, Rd, Rda, Wr, Wra}
+use Rattle.records.specs.declared.command.Command.{Command}
+use Rattle.records.specs.Command.{command}
+use Rattle.records.specs.Transaction.{transaction}
+use Rattle.records.specs.House.{tableA, tableB, tableC}
+use Rattle.rules.specs.declared.state.Stamp.the-variants.{At}
+use Rattle.rules.specs.declared.verdict.Rule.the-variants.{Order, Precharge, Faw}
+use Rattle.rules.specs.declared.verdict.Verdict.the-variants.{Accepted, Refused}
+use Rattle.rules.specs.declared.verdict.PatternVerdict.the-variants.{Accepted as AllAccepted, Refused as RefusedAt}
+use Rattle.rules.specs.Verdict.{judge}
+use Rattle.rules.specs.Pattern.{copies}
+use Rattle.rules.specs.CycleRule.{Built}
+use Rattle.rules.specs.Finish.{lastData}
+use Rattle.rules.specs.Bound.{bound}
+
+-- a read, and a write, of (bank, BI, BC)
+abbrev pub read : ℕ → ℕ → ℕ → Transaction
+read b i c = transaction 0 b i c
+
+abbrev pub write : ℕ → ℕ → ℕ → Transaction
+write b i c = transaction 1 b i c
+
+abbrev pub one : List Command
+one = command 0 Act 0 0 ∷ command 10 Rda 0 0 ∷ []
+
+abbrev pub two : List Command
+two = command 0 Act 0 0 ∷ command 10 Rda 0 0 ∷ command 38 Act 0 1 ∷ command 48 Rda 0 1 ∷ []
+
+abbrev pub three : List Command
+three = command 0 Act 0 0 ∷ command 10 Wra 0 0 ∷ command 44 Act 0 1 ∷ command 54 Rda 0 1 ∷ []
+
+abbrev pub four : List Command
+four = command 0 Act 0 0 ∷ command 6 Act 1 1 ∷ command 10 Rda 0 0 ∷ command 18 Wra 1 1 ∷ []
+
+abbrev pub fourSwapped : List Command
+fourSwapped = command 0 Act 0 0 ∷ command 6 Act 1 1 ∷ command 10 Wra 0 0 ∷ command 28 Rda 1 1 ∷ []
+
+abbrev pub five : List Command
+five =
+    command 0 Act 0 0 ∷ command 6 Act 1 0 ∷ command 10 Rd 0 0 ∷ command 12 Act 2 0 ∷ command 14 Rda 0 0 ∷ command 18 Rd 1 0
+    ∷ command 19 Act 3 0 ∷ command 22 Rda 1 0 ∷ command 26 Rd 2 0 ∷ command 30 Rda 2 0 ∷ command 34 Rd 3 0 ∷ command 38 Rda 3 0 ∷ []
+
+abbrev pub six : List Command
+six =
+    command 0 Act 0 0 ∷ command 6 Act 1 0 ∷ command 10 Rda 0 0 ∷ command 12 Act 2 0 ∷ command 16 Rda 1 0 ∷ command 18 Act 3 0
+    ∷ command 22 Rda 2 0 ∷ command 28 Rda 3 0 ∷ command 32 Act 4 0 ∷ command 42 Rda 4 0 ∷ []
+
+abbrev pub eleven : ℕ → List Command
+eleven t = command 0 Act 0 0 ∷ command 10 Wr 0 0 ∷ command 28 Rda 0 0 ∷ command t Act 0 1 ∷ command (t + 10) Rda 0 1 ∷ []
+
+-- the examples, in the order of their numbers
+abbrev pub examples : List (Type 0)
+examples =
+    -- 1 to 3, with 3's finishes, and its bound, which is met exactly
+    Built tableA (read 0 1 1 ∷ []) one
+    ∷ Built tableA (read 0 1 1 ∷ read 0 1 1 ∷ []) two
+    ∷ Built tableA (write 0 1 1 ∷ read 0 1 1 ∷ []) three
+    ∷ (lastData 0 three ≡ At 10)
+    ∷ (lastData 1 three ≡ At 54)
+    ∷ (bound tableA 1 1 ≡ 44)
+    ∷ (10 + bound tableA 1 1 ≡ 54)
+    -- 4, and with its types swapped
+    ∷ Built tableA (read 0 1 1 ∷ write 1 1 1 ∷ []) four
+    ∷ Built tableA (write 0 1 1 ∷ read 1 1 1 ∷ []) fourSwapped
+    ∷ (lastData 1 fourSwapped ≡ At 28)
+    -- 5 and 6
+    ∷ Built tableA (read 0 4 2 ∷ []) five
+    ∷ Built tableA (read 0 5 1 ∷ []) six
+    ∷ (lastData 0 six ≡ At 42)
+    -- 8 to 10: five copies are accepted; the refusal stands for every number of copies that has the copy it names
+    ∷ (copies tableA 38 one 5 ≡ AllAccepted)
+    ∷ ((n : ℕ) → copies tableA 37 one (suc (suc n)) ≡ RefusedAt Precharge 2 0)
+    ∷ (copies tableA 39 five 5 ≡ AllAccepted)
+    ∷ ((n : ℕ) → copies tableA 38 five (suc (suc n)) ≡ RefusedAt Order 2 0)
+    ∷ (copies tableB 39 one 5 ≡ AllAccepted)
+    ∷ ((n : ℕ) → copies tableB 38 one (suc (suc (suc (suc (suc n))))) ≡ RefusedAt Faw 5 0)
+    -- 11
+    ∷ (judge tableC (eleven 44) ≡ Accepted)
+    ∷ (judge tableC (eleven 43) ≡ Refused Precharge 3)
+    ∷ []
+
+-- every statement of a list holds
+abbrev pub All : List (Type 0) → Type 0
+All [] = Unit {0}
+All (P ∷ l) = P × All l

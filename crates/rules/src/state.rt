@@ -1,0 +1,59 @@
+// What a running state tells.
+use records::table::Table;
+ghost use mathlib.Core.Path.{_≡_};
+ghost use Rattle.rules.specs.State.{fresh};
+
+// A cycle that may be "never". 64 bits, so that the cycles of a pattern's copies never wrap.
+pub enum Stamp {
+    Never,
+    At(u64),
+}
+
+// A bank: open unless `opened` is 0; the cycles of its last ACT and of the last RD and WR since.
+pub struct Bank {
+    pub opened: u8,
+    pub act: Stamp,
+    pub rd: Stamp,
+    pub wr: Stamp,
+}
+
+// `cycle` is the next to be tried; `acts` and `datas` have left the two queues; `a1` to `a4` are the cycles of the last four ACTs, newest
+// first; `rd` and `wr` those of the last RD and the last WR of all.
+pub struct State {
+    pub edition: u16,
+    pub cycle: u64,
+    pub acts: u32,
+    pub datas: u32,
+    pub banks: [Bank; 16],
+    pub a1: Stamp,
+    pub a2: Stamp,
+    pub a3: Stamp,
+    pub a4: Stamp,
+    pub rd: Stamp,
+    pub wr: Stamp,
+}
+
+// "A fresh state has the table's edition, cycle 0, all banks closed and "never" throughout."
+pub fn fresh_of(t: Table) -> State
+    ensures { λ r. ⌜ r ≡ fresh t ⌝ }
+{
+    let shut = Bank {
+        opened: 0,
+        act: Stamp::Never,
+        rd: Stamp::Never,
+        wr: Stamp::Never,
+    };
+    State {
+        edition: t.edition,
+        cycle: 0,
+        acts: 0,
+        datas: 0,
+        banks: [shut; 16],
+        a1: Stamp::Never,
+        a2: Stamp::Never,
+        a3: Stamp::Never,
+        a4: Stamp::Never,
+        rd: Stamp::Never,
+        wr: Stamp::Never,
+    }
+}
