@@ -1,5 +1,5 @@
 -- "Command, 8 bytes: cycle (32 bits), kind (0 ACT, 1 RD, 2 RDA, 3 WR, 4 WRA), bank, transaction number (16 bits)."
-use Prim.Native.Nat.{ℕ, zero, suc, _+_}
+use Prim.Native.Nat.{ℕ, zero, suc, _+_, _/_}
 use mathlib.Core.Bool.{Bool, true, false, not}
 use mathlib.Core.List.{List, [], _∷_, _++_}
 use lib.Dec.{leb, ltb, eqb}
@@ -36,6 +36,18 @@ commandAt s at =
 
 abbrev pub bytesOf : Command → List ℕ
 bytesOf c = bytes32 (c .cycle) ++ (kindNumber (c .kind) ∷ c .bank ∷ bytes16 (c .number ∷ []))
+
+-- n commands from a place on; those of a run of records; and the bytes of commands
+unfoldable pub commandsFrom : List ℕ → ℕ → ℕ → List Command
+commandsFrom s zero at = []
+commandsFrom s (suc n) at = commandAt s at ∷ commandsFrom s n (at + 8)
+
+abbrev pub commandsIn : List ℕ → List Command
+commandsIn s = commandsFrom s (length s / 8) 0
+
+abbrev pub bytesOfAll : List Command → List ℕ
+bytesOfAll [] = []
+bytesOfAll (c ∷ l) = bytesOf c ++ bytesOfAll l
 
 -- "Any 8 bytes are a readable command": number 7 for any other size
 abbrev pub commandRefusal : ℕ → ℕ

@@ -1,5 +1,5 @@
 -- "Transaction, 4 bytes: type (0 read, 1 write), start bank, BI, BC."
-use Prim.Native.Nat.{ℕ, _+_}
+use Prim.Native.Nat.{ℕ, zero, suc, _+_, _/_}
 use mathlib.Core.Bool.{Bool, true, false, not, _&&_}
 use mathlib.Core.List.{List, [], _∷_}
 use lib.Dec.{leb, eqb}
@@ -21,6 +21,14 @@ transactionAt s at = transaction (getD s at 0) (getD s (at + 1) 0) (getD s (at +
 
 abbrev pub bytesOf : Transaction → List ℕ
 bytesOf x = x .kind ∷ x .start ∷ x .bi ∷ x .bc ∷ []
+
+-- n transactions from a place on; those of a run of records
+unfoldable pub transactionsFrom : List ℕ → ℕ → ℕ → List Transaction
+transactionsFrom s zero at = []
+transactionsFrom s (suc n) at = transactionAt s at ∷ transactionsFrom s n (at + 4)
+
+abbrev pub transactionsIn : List ℕ → List Transaction
+transactionsIn s = transactionsFrom s (length s / 4) 0
 
 abbrev pub isWrite : Transaction → Bool
 isWrite x = eqb (x .kind) 1

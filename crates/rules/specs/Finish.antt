@@ -28,3 +28,11 @@ countFrom τ x c = c
 -- the cycle of the last data command of transaction k in a schedule
 abbrev pub lastData : ℕ → List Command → Stamp
 lastData k rs = lastDataIn k (onto rs [])
+
+abbrev pub mapStamp : (ℕ → ℕ) → Stamp → Stamp
+mapStamp f Never = Never
+mapStamp f (At c) = At (f c)
+
+-- where transaction x, number k of the list, finishes in a schedule
+abbrev pub finish : Table → Transaction → ℕ → List Command → Stamp
+finish τ x k rs = mapStamp (finishOf τ x) (lastData k rs)

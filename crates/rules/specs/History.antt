@@ -25,7 +25,7 @@ abbrev pub later : ℕ → List Command → Bool
 later t [] = true
 later t (r ∷ h) = ltb (r .cycle) t
 
--- rule 3: a bank is open from its ACT to the data command with auto precharge
+-- rule 3: a bank is open from its ACT to the data command with auto precharge. (A data command finds its bank open in a legal history.)
 abbrev pub openAfter : Kind → Bool → Bool
 openAfter Act o = true
 openAfter Rd o = true
@@ -48,6 +48,7 @@ abbrev pub greater : ℕ → Stamp → Stamp
 greater n Never = At n
 greater n (At c) = At (max n c)
 
+-- (Before a bank's first ACT every RD and WR counts; a legal history has none there.)
 -- "A bank's precharge starts at the greatest of: its ACT + RAS, each RD since that ACT + RTP, each WR since that ACT + WL + B + WR."
 abbrev pub prechargeAfter : Table → ℕ → Kind → Stamp → Stamp
 prechargeAfter τ c Act s = At (c + τ .ras)

@@ -15,7 +15,7 @@ use Rattle.rules.specs.declared.verdict.PatternVerdict.the-variants.{Acc
 use Rattle.rules.specs.Verdict.{judge}
 use Rattle.rules.specs.Pattern.{copies}
 use Rattle.rules.specs.CycleRule.{Built}
-use Rattle.rules.specs.Finish.{lastData}
+use Rattle.rules.specs.Finish.{finish}
 use Rattle.rules.specs.Bound.{bound}
 
 -- a read, and a write, of (bank, BI, BC)
@@ -60,18 +60,18 @@ examples =
     Built tableA (read 0 1 1 ∷ []) one
     ∷ Built tableA (read 0 1 1 ∷ read 0 1 1 ∷ []) two
     ∷ Built tableA (write 0 1 1 ∷ read 0 1 1 ∷ []) three
-    ∷ (lastData 0 three ≡ At 10)
-    ∷ (lastData 1 three ≡ At 54)
+    ∷ (finish tableA (write 0 1 1) 0 three ≡ At 10)
+    ∷ (finish tableA (read 0 1 1) 1 three ≡ At 54)
     ∷ (bound tableA 1 1 ≡ 44)
     ∷ (10 + bound tableA 1 1 ≡ 54)
     -- 4, and with its types swapped
     ∷ Built tableA (read 0 1 1 ∷ write 1 1 1 ∷ []) four
     ∷ Built tableA (write 0 1 1 ∷ read 1 1 1 ∷ []) fourSwapped
-    ∷ (lastData 1 fourSwapped ≡ At 28)
+    ∷ (finish tableA (read 1 1 1) 1 fourSwapped ≡ At 28)
     -- 5 and 6
     ∷ Built tableA (read 0 4 2 ∷ []) five
     ∷ Built tableA (read 0 5 1 ∷ []) six
-    ∷ (lastData 0 six ≡ At 42)
+    ∷ (finish tableA (read 0 5 1) 0 six ≡ At 42)
     -- 8 to 10: five copies are accepted; the refusal stands for every number of copies that has the copy it names
     ∷ (copies tableA 38 one 5 ≡ AllAccepted)
     ∷ ((n : ℕ) → copies tableA 37 one (suc (suc n)) ≡ RefusedAt Precharge 2 0)

@@ -1,0 +1,287 @@
+// Hands hostile bytes to the readers and the writers of `records`, and writes a line on what each answers.
+//
+// Standard input, of which 65,536 bytes are read at most, is a sequence of cases, `[call][n][n bytes]`. Calls 1, 3 and 5 read a table,
+// a transaction and a command from the n bytes. Calls 2, 4 and 6 write one: the values come first, in 32, 4 or 8 bytes, and the rest is
+// the buffer. The line is `case` for any other call, for a write whose bytes are too few for the values or leave more than 64 for the
+// buffer, and for a case that the input cuts short, which is the last.
+use libc::STDIN_FILENO;
+use libc::STDOUT_FILENO;
+use records::command::Command;
+use records::command::CommandRead;
+use records::command::kind_number;
+use records::command::read_command;
+use records::command::write_command;
+use records::little::from_le32;
+use records::little::num_at;
+use records::refusal::Refusal;
+use records::refusal::Written;
+use records::table::Table;
+use records::table::TableRead;
+use records::table::read_table;
+use records::table::write_table;
+use records::transaction::Transaction;
+use records::transaction::TransactionRead;
+use records::transaction::read_transaction;
+use records::transaction::transaction_at;
+use records::transaction::write_transaction;
+ghost use mathlib.Core.Path.{_≡_};
+ghost use Prim.Native.Nat.{_≤_};
+ghost use lib.ListN.{length};
+ghost use Rattle.io.specs.Counts.{Counts};
+
+fn main() {
+    let mut input = io::large_buffer();
+    let n = io::read_full(STDIN_FILENO, &mut input);
+    all_cases(&input[..n]);
+}
+
+fn all_cases(s: &[u8]) {
+    let mut at = 0;
+    while 2 <= s.len() - at {
+        let from = at + 2;
+        let n = size(s[at + 1]);
+        if s.len() - from < n {
+            break;
+        }
+        let end = from + n;
+        one_case(s[at], &s[from..end]);
+        at = end;
+    }
+    if at < s.len() {
+        no_case();
+    }
+}
+
+fn size(n: u8) -> usize
+    ensures { λ r. ⌜ r ≡ n ⌝ }
+{
+    n as usize
+}
+
+fn one_case(call: u8, s: &[u8]) {
+    match call {
+        1 => table_line(read_table(s)),
+        2 => write_table_line(s),
+        3 => transaction_line(read_transaction(s)),
+        4 => write_transaction_line(s),
+        5 => command_line(read_command(s)),
+        6 => write_command_line(s),
+        _ => no_case(),
+    }
+}
+
+fn no_case() {
+    text(b"case\n");
+}
+
+fn table_line(answer: TableRead) {
+    text(b"read_table");
+    match answer {
+        TableRead::Read(t) => numbers(t),
+        TableRead::Refused(r) => refused(r),
+    }
+    text(b"\n");
+}
+
+fn transaction_line(answer: TransactionRead) {
+    text(b"read_transaction");
+    match answer {
+        TransactionRead::Read(x) => transaction(x),
+        TransactionRead::Refused(r) => refused(r),
+    }
+    text(b"\n");
+}
+
+fn command_line(answer: CommandRead) {
+    text(b"read_command");
+    match answer {
+        CommandRead::Read(c) => command(c),
+        CommandRead::Refused(r) => refused(r),
+    }
+    text(b"\n");
+}
+
+fn write_table_line(s: &[u8]) {
+    let from = 32;
+    if s.len() < from {
+        no_case();
+        return;
+    }
+    if 64 < s.len() - from {
+        no_case();
+        return;
+    }
+    let mut space = [0u8; 64];
+    let n = fill(&s[from..], &mut space);
+    let room = &mut space[..n];
+    let values = sixteen(s);
+    let answer = write_table(values, room);
+    text(b"write_table");
+    written(answer, room);
+}
+
+fn write_transaction_line(s: &[u8]) {
+    let from = 4;
+    if s.len() < from {
+        no_case();
+        return;
+    }
+    if 64 < s.len() - from {
+        no_case();
+        return;
+    }
+    let mut space = [0u8; 64];
+    let n = fill(&s[from..], &mut space);
+    let room = &mut space[..n];
+    let x = transaction_at(s, 0);
+    let answer = write_transaction(x, room);
+    text(b"write_transaction");
+    written(answer, room);
+}
+
+fn write_command_line(s: &[u8]) {
+    let from = 8;
+    if s.len() < from {
+        no_case();
+        return;
+    }
+    if 64 < s.len() - from {
+        no_case();
+        return;
+    }
+    let mut space = [0u8; 64];
+    let n = fill(&s[from..], &mut space);
+    let room = &mut space[..n];
+    let cycle = from_le32(s[0], s[1], s[2], s[3]);
+    let number = num_at(s, 6);
+    let answer = write_command(cycle, s[4], s[5], number, room);
+    text(b"write_command");
+    written(answer, room);
+}
+
+// The numbers of a table, in range or not.
+fn sixteen(s: &[u8]) -> [u16; 16]
+    requires { ⌜ 32 ≤ length (now s) ⌝ }
+{
+    [
+        num_at(s, 0),
+        num_at(s, 2),
+        num_at(s, 4),
+        num_at(s, 6),
+        num_at(s, 8),
+        num_at(s, 10),
+        num_at(s, 12),
+        num_at(s, 14),
+        num_at(s, 16),
+        num_at(s, 18),
+        num_at(s, 20),
+        num_at(s, 22),
+        num_at(s, 24),
+        num_at(s, 26),
+        num_at(s, 28),
+        num_at(s, 30),
+    ]
+}
+
+// Copies the bytes to the room's start, and answers how many they are.
+fn fill(s: &[u8], room: &mut [u8]) -> usize
+    requires { ⌜ length (now s) ≤ length (now room) ⌝ }
+    ensures { λ r. ⌜ Counts r (now (room .exit)) ⌝ }
+{
+    let mut i = 0;
+    while i < s.len() {
+        room[i] = s[i];
+        i += 1;
+    }
+    i
+}
+
+fn numbers(t: Table) {
+    number(t.edition);
+    number(t.banks);
+    number(t.b);
+    number(t.ccd);
+    number(t.rcd);
+    number(t.rp);
+    number(t.ras);
+    number(t.rc);
+    number(t.rrd);
+    number(t.faw);
+    number(t.rl);
+    number(t.wl);
+    number(t.rtp);
+    number(t.wr);
+    number(t.wtr);
+    number(t.last);
+}
+
+fn transaction(x: Transaction) {
+    small(x.kind);
+    small(x.start);
+    small(x.bi);
+    small(x.bc);
+}
+
+fn command(c: Command) {
+    let k = c.kind;
+    long(c.cycle);
+    small(kind_number(k));
+    small(c.bank);
+    number(c.number);
+}
+
+fn refused(r: Refusal) {
+    text(b" refused");
+    small(r.number);
+    text(b" at");
+    long(r.position);
+    text(b" edition");
+    number(r.edition);
+}
+
+// The end of a writer's line, with all of the buffer it was lent.
+fn written(answer: Written, room: &[u8]) {
+    match answer {
+        Written::Done(edition) => {
+            text(b" edition");
+            number(edition);
+        }
+        Written::Refused(r) => refused(r),
+    }
+    text(b" ");
+    if room.len() == 0 {
+        text(b"-");
+    }
+    hex(room);
+    text(b"\n");
+}
+
+fn hex(room: &[u8]) {
+    let mut i = 0;
+    while i < room.len() {
+        byte(room[i]);
+        i += 1;
+    }
+}
+
+fn byte(b: u8) {
+    io::print_hex(STDOUT_FILENO, b as u64, 2);
+}
+
+// A number after a space, of each width.
+fn small(n: u8) {
+    long(n as u32);
+}
+
+fn number(n: u16) {
+    long(n as u32);
+}
+
+fn long(n: u32) {
+    text(b" ");
+    io::print_decimal(STDOUT_FILENO, n as u64);
+}
+
+fn text(s: &[u8]) {
+    io::write_all(STDOUT_FILENO, s);
+}

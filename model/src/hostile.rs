@@ -1,0 +1,127 @@
+//! The cases of the program `hostile`, and the line of each.
+//!
+//! A case is `[call][n][n bytes]`. Calls 1, 3 and 5 read a table, a transaction and a command from the bytes. Calls 2, 4 and 6 write
+//! one: its values come first, in 32, 4 or 8 bytes, and the rest is the buffer.
+
+mod cases;
+
+pub use cases::cases;
+
+use crate::records::*;
+
+const READ_TABLE: u8 = 1;
+const WRITE_TABLE: u8 = 2;
+const READ_TRANSACTION: u8 = 3;
+const WRITE_TRANSACTION: u8 = 4;
+const READ_COMMAND: u8 = 5;
+const WRITE_COMMAND: u8 = 6;
+
+/// The longest buffer that a case can have.
+const ROOM: usize = 64;
+
+pub fn lines(input: &[u8]) -> String {
+    let mut out = String::new();
+    let mut rest = input;
+    while !rest.is_empty() {
+        let Some((call, bytes, after)) = first_case(rest) else {
+            out.push_str("case\n");
+            break;
+        };
+        out.push_str(&line(call, bytes).unwrap_or_else(|| "case".to_string()));
+        out.push('\n');
+        rest = after;
+    }
+    out
+}
+
+/// The first case and what follows it, unless the input is cut short within the case.
+fn first_case(input: &[u8]) -> Option<(u8, &[u8], &[u8])> {
+    let (head, rest) = input.split_at_checked(2)?;
+    let (bytes, after) = rest.split_at_checked(head[1].into())?;
+    Some((head[0], bytes, after))
+}
+
+fn line(call: u8, bytes: &[u8]) -> Option<String> {
+    match call {
+        READ_TABLE => Some(reader(
+            "read_table",
+            read_table(bytes).map(|t| t.map(u32::from)),
+        )),
+        READ_TRANSACTION => {
+            let numbers = |x: Transaction| [x.kind, x.start, x.bi, x.bc].map(u32::from);
+            Some(reader(
+                "read_transaction",
+                read_transaction(bytes).map(numbers),
+            ))
+        }
+        READ_COMMAND => {
+            let numbers =
+                |c: Command| [c.cycle, c.kind.into(), c.bank.into(), c.transaction.into()];
+            Some(reader("read_command", read_command(bytes).map(numbers)))
+        }
+        WRITE_TABLE => {
+            let (v, mut room) = values_and_room(bytes, 32)?;
+            let t: Table = std::array::from_fn(|i| u16::from_le_bytes([v[2 * i], v[2 * i + 1]]));
+            let answer = write_table(&t, &mut room);
+            Some(writer("write_table", answer, &room))
+        }
+        WRITE_TRANSACTION => {
+            let (v, mut room) = values_and_room(bytes, 4)?;
+            let x = Transaction {
+                kind: v[0],
+                start: v[1],
+                bi: v[2],
+                bc: v[3],
+            };
+            let answer = write_transaction(&x, &mut room);
+            Some(writer("write_transaction", answer, &room))
+        }
+        WRITE_COMMAND => {
+            let (v, mut room) = values_and_room(bytes, 8)?;
+            let cycle = u32::from_le_bytes([v[0], v[1], v[2], v[3]]);
+            let transaction = u16::from_le_bytes([v[6], v[7]]);
+            let answer = write_command(
+                &Command {
+                    cycle,
+                    kind: v[4],
+                    bank: v[5],
+                    transaction,
+                },
+                &mut room,
+            );
+            Some(writer("write_command", answer, &room))
+        }
+        _ => None,
+    }
+}
+
+fn values_and_room(bytes: &[u8], size: usize) -> Option<(&[u8], Vec<u8>)> {
+    let (values, room) = bytes.split_at_checked(size)?;
+    (room.len() <= ROOM).then(|| (values, room.to_vec()))
+}
+
+fn reader<const N: usize>(name: &str, answer: Result<[u32; N], Refusal>) -> String {
+    match answer {
+        Ok(numbers) => numbers
+            .iter()
+            .fold(name.to_string(), |line, n| format!("{line} {n}")),
+        Err(r) => format!("{name} {}", refusal(r)),
+    }
+}
+
+fn writer(name: &str, answer: Result<u16, Refusal>, room: &[u8]) -> String {
+    let told = match answer {
+        Ok(edition) => format!("edition {edition}"),
+        Err(r) => refusal(r),
+    };
+    let hex: String = room.iter().map(|b| format!("{b:02x}")).collect();
+    let hex = if hex.is_empty() { "-" } else { &hex };
+    format!("{name} {told} {hex}")
+}
+
+fn refusal(r: Refusal) -> String {
+    format!(
+        "refused {} at {} edition {}",
+        r.number, r.position, r.edition
+    )
+}

@@ -1,0 +1,262 @@
+//! The cases themselves: the edges of each number, sizes one off, buffers that are too small or too great, and bytes of no meaning.
+
+use super::*;
+
+const TABLE_A: Table = [7, 8, 4, 4, 10, 10, 28, 38, 6, 32, 10, 8, 6, 12, 6, 0];
+const FAW: usize = 9;
+const RTP: usize = 12;
+
+fn with(changes: &[(usize, u16)]) -> Table {
+    let mut t = TABLE_A;
+    for &(i, n) in changes {
+        t[i] = n;
+    }
+    t
+}
+
+fn bytes_of(t: &Table) -> Vec<u8> {
+    t.iter().flat_map(|n| n.to_le_bytes()).collect()
+}
+
+/// A linear congruential generator, so that the cases are the same on every machine.
+struct Numbers(u64);
+
+impl Numbers {
+    fn byte(&mut self) -> u8 {
+        self.0 = self
+            .0
+            .wrapping_mul(6364136223846793005)
+            .wrapping_add(1442695040888963407);
+        (self.0 >> 56) as u8
+    }
+
+    fn below(&mut self, n: usize) -> usize {
+        self.byte() as usize % n
+    }
+
+    fn bytes(&mut self, n: usize) -> Vec<u8> {
+        (0..n).map(|_| self.byte()).collect()
+    }
+}
+
+struct Cases(Vec<u8>);
+
+impl Cases {
+    fn put(&mut self, call: u8, bytes: &[u8]) {
+        self.0.push(call);
+        self.0.push(
+            bytes
+                .len()
+                .try_into()
+                .expect("a case has at most 255 bytes"),
+        );
+        self.0.extend_from_slice(bytes);
+    }
+
+    /// A write into a buffer of so many bytes, no two neighbours alike, so that a byte that is left alone is seen.
+    fn put_write(&mut self, call: u8, values: &[u8], room: usize) {
+        let pattern = (0..room).map(|i| 0xa5 ^ (i * 7) as u8);
+        self.put(
+            call,
+            &values.iter().copied().chain(pattern).collect::<Vec<u8>>(),
+        );
+    }
+
+    /// A record read, and written into a buffer of its size.
+    fn put_both(&mut self, read: u8, values: &[u8]) {
+        self.put(read, values);
+        self.put_write(read + 1, values, values.len());
+    }
+
+    /// A record written into buffers that are too small, right and too great.
+    fn put_rooms(&mut self, write: u8, values: &[u8]) {
+        let size = values.len();
+        for room in [0, 1, size - 1, size, size + 1, 40, ROOM] {
+            self.put_write(write, values, room);
+        }
+    }
+
+    /// 60 byte strings to a reader: of any size, of the record's size, and one byte away from a good record.
+    fn put_any(&mut self, read: u8, good: &[u8], numbers: &mut Numbers) {
+        for i in 0..60 {
+            let bytes = match i % 3 {
+                0 => {
+                    let n = numbers.below(41);
+                    numbers.bytes(n)
+                }
+                1 => numbers.bytes(good.len()),
+                _ => {
+                    let mut near = good.to_vec();
+                    let place = numbers.below(good.len());
+                    near[place] = numbers.byte();
+                    near
+                }
+            };
+            self.put(read, &bytes);
+        }
+    }
+}
+
+pub fn cases() -> Vec<u8> {
+    let mut cases = Cases(Vec::new());
+    let mut numbers = Numbers(1);
+    tables(&mut cases);
+    transactions(&mut cases);
+    commands(&mut cases);
+    cases.put_any(READ_TABLE, &bytes_of(&TABLE_A), &mut numbers);
+    cases.put_any(READ_TRANSACTION, &[1, 3, 4, 2], &mut numbers);
+    cases.put_any(READ_COMMAND, &[10, 0, 0, 0, 2, 0, 0, 0], &mut numbers);
+    not_cases(&mut cases);
+    cases.0
+}
+
+fn tables(cases: &mut Cases) {
+    let a = bytes_of(&TABLE_A);
+    for size in [0, 1, 2, 31, 32, 33, 64, 255] {
+        let bytes: Vec<u8> = a.iter().copied().cycle().take(size).collect();
+        cases.put(READ_TABLE, &bytes);
+    }
+    let mut tables = vec![
+        TABLE_A,
+        with(&[(FAW, 155)]),
+        with(&[(RTP, 2)]),
+        [0; 16],
+        [65535; 16],
+    ];
+    for i in EDITION..=LAST {
+        // With table A's CCD, B is at most 4.
+        let greatest = match i {
+            EDITION => 65535,
+            BANKS => 16,
+            B => 4,
+            LAST => 0,
+            _ => 255,
+        };
+        let over = if i == EDITION { 256 } else { greatest + 1 };
+        tables.extend([0, 1, greatest, over, 65535].map(|n| with(&[(i, n)])));
+    }
+    tables.extend([1, 2, 3, 4, 5].map(|ccd| with(&[(CCD, ccd)])));
+    for (b, ccd) in [
+        (1, 1),
+        (1, 2),
+        (2, 2),
+        (3, 2),
+        (5, 4),
+        (255, 254),
+        (255, 255),
+        (255, 256),
+        (256, 256),
+    ] {
+        tables.push(with(&[(B, b), (CCD, ccd)]));
+    }
+    for last in [1, 65535] {
+        for fault in [(EDITION, 0), (BANKS, 17), (CCD, 1), (FAW, 256)] {
+            tables.push(with(&[fault, (LAST, last)]));
+        }
+    }
+    for t in &tables {
+        cases.put_both(READ_TABLE, &bytes_of(t));
+    }
+    for t in [
+        TABLE_A,
+        with(&[(BANKS, 0)]),
+        with(&[(LAST, 1)]),
+        with(&[(CCD, 1), (LAST, 1)]),
+    ] {
+        cases.put_rooms(WRITE_TABLE, &bytes_of(&t));
+    }
+}
+
+fn transactions(cases: &mut Cases) {
+    for size in 0..=6 {
+        cases.put(READ_TRANSACTION, &[0, 0, 1, 1, 0, 0][..size]);
+        cases.put(READ_TRANSACTION, &[255; 6][..size]);
+    }
+    let edges = [0, 1, 2, 15, 16, 17, 255];
+    for kind in [0, 1, 2, 3, 255] {
+        cases.put_both(READ_TRANSACTION, &[kind, 0, 1, 1]);
+    }
+    for start in edges {
+        for bi in edges {
+            cases.put_both(READ_TRANSACTION, &[0, start, bi, 1]);
+        }
+    }
+    for bc in edges {
+        cases.put_both(READ_TRANSACTION, &[1, 0, 1, bc]);
+    }
+    for (start, bi) in [
+        (8, 8),
+        (8, 9),
+        (7, 9),
+        (14, 2),
+        (14, 3),
+        (240, 16),
+        (241, 15),
+        (255, 2),
+    ] {
+        cases.put_both(READ_TRANSACTION, &[1, start, bi, 16]);
+    }
+    for x in [
+        [0, 0, 1, 1],
+        [1, 15, 1, 16],
+        [2, 0, 1, 1],
+        [0, 15, 2, 1],
+        [1, 0, 0, 1],
+        [1, 0, 1, 17],
+        [255; 4],
+    ] {
+        cases.put_rooms(WRITE_TRANSACTION, &x);
+    }
+}
+
+fn command(cycle: u32, kind: u8, bank: u8, transaction: u16) -> [u8; 8] {
+    let [c0, c1, c2, c3] = cycle.to_le_bytes();
+    let [t0, t1] = transaction.to_le_bytes();
+    [c0, c1, c2, c3, kind, bank, t0, t1]
+}
+
+fn commands(cases: &mut Cases) {
+    let bytes: Vec<u8> = command(10, 2, 0, 0).repeat(2);
+    for size in [0, 1, 7, 8, 9, 16] {
+        cases.put(READ_COMMAND, &bytes[..size]);
+    }
+    for kind in [0, 1, 2, 3, 4, 5, 6, 255] {
+        cases.put_both(READ_COMMAND, &command(10, kind, 0, 0));
+    }
+    for cycle in [0, 1, 255, 256, 65535, 65536, 4294967294, 4294967295] {
+        cases.put_both(READ_COMMAND, &command(cycle, 0, 7, 1));
+    }
+    for bank in [0, 15, 16, 255] {
+        for transaction in [0, 255, 256, 65535] {
+            cases.put_both(READ_COMMAND, &command(16909060, 3, bank, transaction));
+        }
+    }
+    for c in [
+        command(54, 2, 0, 1),
+        command(16909060, 4, 15, 772),
+        command(4294967295, 255, 255, 65535),
+    ] {
+        cases.put_rooms(WRITE_COMMAND, &c);
+    }
+}
+
+/// Calls that there are not, writes whose values are cut or whose buffer is too long, and at the end a case that is cut short.
+fn not_cases(cases: &mut Cases) {
+    for call in [0, 7, 128, 255] {
+        cases.put(call, &[]);
+        cases.put(call, &bytes_of(&TABLE_A));
+    }
+    for (write, values) in [
+        (WRITE_TABLE, &bytes_of(&TABLE_A)[..]),
+        (WRITE_TRANSACTION, &[0, 0, 1, 1]),
+        (WRITE_COMMAND, &[0; 8]),
+    ] {
+        for size in [0, 1, values.len() - 1] {
+            cases.put(write, &values[..size]);
+        }
+        for room in [ROOM + 1, 255 - values.len()] {
+            cases.put_write(write, values, room);
+        }
+    }
+    cases.0.extend([READ_TABLE, 32, 7, 0]);
+}

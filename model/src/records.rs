@@ -1,0 +1,140 @@
+//! The three records of document 01: a reader and a writer of each, and the refusals.
+//!
+//! Numbers are little-endian. A writer checks the values as the reader would, and the room. The checks go in the order of their
+//! numbers, and a refused writer changes no byte.
+
+/// "What the caller is told".
+#[derive(Debug, Clone, Copy, PartialEq, Eq)]
+pub struct Refusal {
+    pub number: u8,
+    pub position: u32,
+    pub edition: u16,
+}
+
+/// The refusal of one record. Every position is 0, the number of the only transaction included; and so is the edition, since 1 and 2
+/// name edition 0 and the other calls are given no table.
+fn refused<T>(number: u8) -> Result<T, Refusal> {
+    Err(Refusal {
+        number,
+        position: 0,
+        edition: 0,
+    })
+}
+
+/// Edition, banks, B, CCD, RCD, RP, RAS, RC, RRD, FAW, RL, WL, RTP, WR, WTR, and a last that is 0.
+pub type Table = [u16; 16];
+
+pub const EDITION: usize = 0;
+pub const BANKS: usize = 1;
+pub const B: usize = 2;
+pub const CCD: usize = 3;
+pub const LAST: usize = 15;
+
+/// "Edition is 1 to 65,535, banks 1 to 16, the others 1 to 255; CCD is at least 2 and at least B."
+fn check_table(size: usize, t: &Table) -> Result<(), Refusal> {
+    if size != 32 || t[LAST] != 0 {
+        return refused(1);
+    }
+    let others = t[B..LAST].iter().all(|n| (1..=255).contains(n));
+    if t[EDITION] == 0 || !(1..=16).contains(&t[BANKS]) || !others || t[CCD] < 2 || t[CCD] < t[B] {
+        return refused(2);
+    }
+    Ok(())
+}
+
+pub fn read_table(bytes: &[u8]) -> Result<Table, Refusal> {
+    let mut t = [0; 16];
+    for (number, pair) in t.iter_mut().zip(bytes.chunks_exact(2)) {
+        *number = u16::from_le_bytes([pair[0], pair[1]]);
+    }
+    check_table(bytes.len(), &t)?;
+    Ok(t)
+}
+
+/// Answers the edition of the table written.
+pub fn write_table(t: &Table, room: &mut [u8]) -> Result<u16, Refusal> {
+    check_table(room.len(), t)?;
+    for (number, pair) in t.iter().zip(room.chunks_exact_mut(2)) {
+        pair.copy_from_slice(&number.to_le_bytes());
+    }
+    Ok(t[EDITION])
+}
+
+#[derive(Debug, Clone, Copy, PartialEq, Eq)]
+pub struct Transaction {
+    /// The paper's type: 0 read, 1 write.
+    pub kind: u8,
+    pub start: u8,
+    pub bi: u8,
+    pub bc: u8,
+}
+
+/// "Where no table is given, banks counts as 16."
+const BANKS_WITHOUT_TABLE: u32 = 16;
+
+/// "BI and BC are 1 to 16; start + BI is at most banks."
+fn check_transaction(size: usize, x: &Transaction) -> Result<(), Refusal> {
+    if size != 4 {
+        return refused(3);
+    }
+    let counts = (1..=16).contains(&x.bi) && (1..=16).contains(&x.bc);
+    if x.kind > 1 || !counts || u32::from(x.start) + u32::from(x.bi) > BANKS_WITHOUT_TABLE {
+        return refused(4);
+    }
+    Ok(())
+}
+
+pub fn read_transaction(bytes: &[u8]) -> Result<Transaction, Refusal> {
+    let &[kind, start, bi, bc] = bytes else {
+        return refused(3);
+    };
+    let x = Transaction {
+        kind,
+        start,
+        bi,
+        bc,
+    };
+    check_transaction(bytes.len(), &x)?;
+    Ok(x)
+}
+
+pub fn write_transaction(x: &Transaction, room: &mut [u8]) -> Result<u16, Refusal> {
+    check_transaction(room.len(), x)?;
+    room.copy_from_slice(&[x.kind, x.start, x.bi, x.bc]);
+    Ok(0)
+}
+
+#[derive(Debug, Clone, Copy, PartialEq, Eq)]
+pub struct Command {
+    pub cycle: u32,
+    /// 0 ACT, 1 RD, 2 RDA, 3 WR, 4 WRA; "any 8 bytes are a readable command", so any other number too.
+    pub kind: u8,
+    pub bank: u8,
+    pub transaction: u16,
+}
+
+pub fn read_command(bytes: &[u8]) -> Result<Command, Refusal> {
+    let &[c0, c1, c2, c3, kind, bank, t0, t1] = bytes else {
+        return refused(7);
+    };
+    let cycle = u32::from_le_bytes([c0, c1, c2, c3]);
+    let transaction = u16::from_le_bytes([t0, t1]);
+    Ok(Command {
+        cycle,
+        kind,
+        bank,
+        transaction,
+    })
+}
+
+/// The one writer whose room may be greater than the record: what is beyond stays as it stood.
+pub fn write_command(c: &Command, room: &mut [u8]) -> Result<u16, Refusal> {
+    if room.len() < 8 {
+        return refused(5);
+    }
+    room[..4].copy_from_slice(&c.cycle.to_le_bytes());
+    room[4] = c.kind;
+    room[5] = c.bank;
+    room[6..8].copy_from_slice(&c.transaction.to_le_bytes());
+    Ok(0)
+}
