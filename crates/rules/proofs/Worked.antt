@@ -1,67 +1,39 @@
 -- The examples marked † follow from the written rules themselves.
 -- Assumes nothing.
 use mathlib.Core.Path.{_≡_, refl}
+use Rattle.records.specs.House.{tableA, tableB}
 use Rattle.rules.specs.Queues.{actQueue, dataQueue}
 use Rattle.rules.specs.Bound.{bound, boundS, boundD, boundX}
-use Rattle.rules.specs.Worked.{examples, All}
+use Rattle.rules.specs.Worked.{one, five, examples, All}
+use Rattle.rules.proofs.Pattern.{five-legal}
+
+infixr 4 _⨾_
+-- a proof of the first statement, and of the rest
+abbrev _⨾_ : {P Q : Type 0} → P → Q → P × Q
+p ⨾ ps = (p, ps)
 
 pub worked : All examples
 unfolding bound boundS boundD boundX actQueue dataQueue
-worked = (
-  record { cycles = 11; schedule = refl; acts = refl; datas = refl },
-  (
-    record { cycles = 49; schedule = refl; acts = refl; datas = refl },
-    (
-      record { cycles = 55; schedule = refl; acts = refl; datas = refl },
-      (
-        refl,
-        (
-          refl,
-          (
-            refl,
-            (
-              refl,
-              (
-                record { cycles = 19; schedule = refl; acts = refl; datas = refl },
-                (
-                  record { cycles = 29; schedule = refl; acts = refl; datas = refl },
-                  (
-                    refl,
-                    (
-                      record { cycles = 39; schedule = refl; acts = refl; datas = refl },
-                      (
-                        record { cycles = 43; schedule = refl; acts = refl; datas = refl },
-                        (
-                          refl,
-                          (
-                            refl,
-                            (
-                              λ n. refl,
-                              (
-                                refl,
-                                (
-                                  λ n. refl,
-                                  (
-                                    refl,
-                                    (
-                                      λ n. refl,
-                                      (refl, (refl, tt)),
-                                    ),
-                                  ),
-                                ),
-                              ),
-                            ),
-                          ),
-                        ),
-                      ),
-                    ),
-                  ),
-                ),
-              ),
-            ),
-          ),
-        ),
-      ),
-    ),
-  ),
-)
+worked =
+    record { cycles = 11; schedule = refl; acts = refl; datas = refl }
+    ⨾ record { cycles = 49; schedule = refl; acts = refl; datas = refl }
+    ⨾ record { cycles = 55; schedule = refl; acts = refl; datas = refl }
+    ⨾ refl
+    ⨾ refl
+    ⨾ refl
+    ⨾ refl
+    ⨾ record { cycles = 19; schedule = refl; acts = refl; datas = refl }
+    ⨾ record { cycles = 29; schedule = refl; acts = refl; datas = refl }
+    ⨾ refl
+    ⨾ record { cycles = 39; schedule = refl; acts = refl; datas = refl }
+    ⨾ record { cycles = 43; schedule = refl; acts = refl; datas = refl }
+    ⨾ refl
+    ⨾ five-legal tableA 38 one .0 refl
+    ⨾ (λ n. refl)
+    ⨾ five-legal tableA 39 five .0 refl
+    ⨾ (λ n. refl)
+    ⨾ five-legal tableB 39 one .0 refl
+    ⨾ (λ n. refl)
+    ⨾ refl
+    ⨾ refl
+    ⨾ tt

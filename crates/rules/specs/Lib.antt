@@ -10,3 +10,5 @@ pub mod Run
 pub mod Bound
 pub mod Finish
 pub mod Worked
+pub mod Promise
+pub mod Demands

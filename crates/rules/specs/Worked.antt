@@ -11,9 +11,9 @@ use Rattle.records.specs.House.{tableA, tableB, tableC}
 use Rattle.rules.specs.declared.state.Stamp.the-variants.{At}
 use Rattle.rules.specs.declared.verdict.Rule.the-variants.{Order, Precharge, Faw}
 use Rattle.rules.specs.declared.verdict.Verdict.the-variants.{Accepted, Refused}
-use Rattle.rules.specs.declared.verdict.PatternVerdict.the-variants.{Accepted as AllAccepted, Refused as RefusedAt}
+use Rattle.rules.specs.declared.verdict.PatternVerdict.the-variants.{Refused as RefusedAt}
 use Rattle.rules.specs.Verdict.{judge}
-use Rattle.rules.specs.Pattern.{copies}
+use Rattle.rules.specs.Pattern.{copies, EveryNumberLegal}
 use Rattle.rules.specs.CycleRule.{Built}
 use Rattle.rules.specs.Finish.{finish}
 use Rattle.rules.specs.Bound.{bound}
@@ -72,12 +72,12 @@ examples =
     ∷ Built tableA (read 0 4 2 ∷ []) five
     ∷ Built tableA (read 0 5 1 ∷ []) six
     ∷ (finish tableA (read 0 5 1) 0 six ≡ At 42)
-    -- 8 to 10: five copies are accepted; the refusal stands for every number of copies that has the copy it names
-    ∷ (copies tableA 38 one 5 ≡ AllAccepted)
+    -- 8 to 10: accepted, so every number of copies is legal; refused, whatever number of copies there is beyond the copy named
+    ∷ EveryNumberLegal tableA 38 one
     ∷ ((n : ℕ) → copies tableA 37 one (suc (suc n)) ≡ RefusedAt Precharge 2 0)
-    ∷ (copies tableA 39 five 5 ≡ AllAccepted)
+    ∷ EveryNumberLegal tableA 39 five
     ∷ ((n : ℕ) → copies tableA 38 five (suc (suc n)) ≡ RefusedAt Order 2 0)
-    ∷ (copies tableB 39 one 5 ≡ AllAccepted)
+    ∷ EveryNumberLegal tableB 39 one
     ∷ ((n : ℕ) → copies tableB 38 one (suc (suc (suc (suc (suc n))))) ≡ RefusedAt Faw 5 0)
     -- 11
     ∷ (judge tableC (eleven 44) ≡ Accepted)

@@ -1,0 +1,50 @@
+-- What the four kinds of data commands have in common.
+-- Assumes nothing.
+use Prim.Native.Nat.{ℕ}
+use mathlib.Core.Path.{_≡_, refl}
+use mathlib.Core.Bool.{Bool, true, false, not}
+use Rattle.records.specs.declared.table.Table.{Table}
+use Rattle.rules.specs.declared.state.Bank.{Bank}
+use Rattle.rules.specs.declared.state.State.{State}
+use Rattle.rules.specs.Kinds.{isAct, isData, isKnown}
+use Rattle.rules.specs.State.{isOpen, dataTests, testsBy, bankAfter}
+use Rattle.rules.specs.Queues.{dataKind}
+
+-- a data command is no ACT
+pub no-act : (w z : Bool) → isAct (dataKind w z) ≡ false
+no-act true true = refl
+no-act true false = refl
+no-act false true = refl
+no-act false false = refl
+
+pub is-data : (w z : Bool) → isData (dataKind w z) ≡ true
+is-data true true = refl
+is-data true false = refl
+is-data false true = refl
+is-data false false = refl
+
+pub is-known : (w z : Bool) → isKnown (dataKind w z) ≡ true
+is-known true true = refl
+is-known true false = refl
+is-known false true = refl
+is-known false false = refl
+
+-- a bank after a data command; z where the command closes it
+pub open-after : (w z : Bool) (t : ℕ) (k : Bank) → isOpen (bankAfter (dataKind w z) t k) ≡ not z
+open-after true true t k = refl
+open-after true false t k = refl
+open-after false true t k = refl
+open-after false false t k = refl
+
+pub act-after : (w z : Bool) (t : ℕ) (k : Bank) → bankAfter (dataKind w z) t k .act ≡ k .act
+act-after true true t k = refl
+act-after true false t k = refl
+act-after false true t k = refl
+act-after false false t k = refl
+
+-- the rules of a data command are those of its type
+pub rules-kind : (τ : Table) (s : State) (w z : Bool) (t b : ℕ) → testsBy τ s (dataKind w z) t b ≡ dataTests τ s w t b
+rules-kind τ s true true t b = refl
+rules-kind τ s true false t b = refl
+rules-kind τ s false true t b = refl
+rules-kind τ s false false t b = refl

@@ -1,0 +1,143 @@
+-- A state has sixteen places for banks; those past the table's banks are neither read nor changed.
+-- Assumes nothing.
+use Prim.Native.Nat.{ℕ, zero, suc, _+_, _%_, _<_}
+use mathlib.Core.Path.{_≡_, refl, sym, ap, _∙_, subst}
+use mathlib.Core.Bool.{Bool, true, false}
+use mathlib.Core.Option.{Option, none, some}
+use mathlib.Core.List.{List}
+use lib.Dec.{eqb}
+use lib.ListN.{length, getD, drop}
+use lib.Seq.{drop-set-lt, take-set-lt, getD-take}
+use Rattle.records.specs.declared.table.Table.{Table}
+use Rattle.records.specs.declared.transaction.Transaction.{Transaction}
+use Rattle.records.specs.declared.command.Command.{Command}
+use Rattle.rules.specs.declared.state.Bank.{Bank}
+use Rattle.rules.specs.declared.state.State.{State}
+use Rattle.records.specs.Transaction.{isWrite}
+use Rattle.rules.specs.State.{shut, bankOf, breaksNone, bankAfter, after}
+use Rattle.rules.specs.CycleRule.{goes, push}
+use Rattle.rules.specs.Run.{stops, steps, Ran, oneMore, run}
+use Rattle.rules.specs.Promise.{SameTold}
+use Rattle.rules.proofs.TestLaws.{OnSome}
+use Rattle.rules.proofs.Queue.{Place, actCount, dataCount, actPlace, dataPlace, actDue, dataDue}
+use Rattle.rules.proofs.Fit.{AllFit, Inside, place-at, act-bank, data-bank}
+use Rattle.rules.proofs.DataKinds.{rules-kind}
+use Rattle.rules.proofs.Heads.{dataFrom, actFrom, goes-place, goes-try}
+use Rattle.rules.proofs.Caps.{after-size}
+use Rattle.rules.proofs.RunTo.{stopped, going, run-steps}
+
+module _ (τ : Table) (l : List Transaction) (v : AllFit τ l) where
+  -- what goes is to a bank of the table
+  pub goes-bank : (s : State) → OnSome (λ c. c .bank < τ .banks) (goes τ l s)
+  goes-bank s =
+      goes-place (breaksNone τ s) τ l (s .cycle) (s .acts) (s .datas) (λ c. c .bank < τ .banks)
+      (λ p e. data-bank τ p (subst (OnSome (Inside τ dataCount)) e (place-at τ dataCount l v 0 0 (s .datas))))
+      (λ p e. act-bank τ p (subst (OnSome (Inside τ actCount)) e (place-at τ actCount l v 0 0 (s .acts))))
+
+  after-edition : (s : State) (o : Option Command) → after s o .edition ≡ s .edition
+  after-edition s none = refl
+  after-edition s (some c) = refl
+
+  after-past : (s : State) (o : Option Command) → OnSome (λ c. c .bank < τ .banks) o → drop (τ .banks) (after s o .banks) ≡ drop (τ .banks) (s .banks)
+  after-past s none k = refl
+  after-past s (some c) k = drop-set-lt (τ .banks) (s .banks) (c .bank) _ k
+
+  -- what a run leaves as it stood
+  abbrev Untouched : State → State → Type 0
+  Untouched s u = (drop (τ .banks) (u .banks) ≡ drop (τ .banks) (s .banks)) × (length (u .banks) ≡ length (s .banks)) × (u .edition ≡ s .edition)
+
+  steps-past : (n : ℕ) (s : State) (h : List Command) → Untouched s (steps n τ l s h .0)
+  steps-past zero s h = (refl, refl, refl)
+  steps-past (suc n) s h =
+      let ih = steps-past n (after s (goes τ l s)) (push (goes τ l s) h) in
+      (ih .0 ∙ after-past s (goes τ l s) (goes-bank s), ih .1 ∙ after-size s (goes τ l s), ih .2 ∙ after-edition s (goes τ l s))
+
+  pub past-kept : (n : ℕ) (s : State) (h : List Command) → Untouched s (run n τ l s h .state)
+  past-kept n s h = subst (λ (y : State × List Command). Untouched s (y .0)) (run-steps n τ l s h) (steps-past (run n τ l s h .cycles) s h)
+
+  module _ (s u : State) (q : SameTold τ s u) where
+    bank-same : (b : ℕ) → b < τ .banks → bankOf s b ≡ bankOf u b
+    bank-same b h = sym (getD-take (τ .banks) (s .banks) b shut h) ∙ (ap (λ (y : List Bank). getD y b shut) (q .banks) ∙ getD-take (τ .banks) (u .banks) b shut h)
+
+    act-same : (o : Option Place) → OnSome (Inside τ actCount) o → actFrom (breaksNone τ s) τ (s .cycle) o ≡ actFrom (breaksNone τ u) τ (u .cycle) o
+    act-same none h = refl
+    act-same (some p) h = rw (bank-same (actDue τ p .bank) (act-bank τ p h), q .a1, q .a4, q .cycle)
+
+    data-same : (o : Option Place) → OnSome (Inside τ dataCount) o
+        → dataFrom (breaksNone τ s) τ (s .cycle) (s .acts) o ≡ dataFrom (breaksNone τ u) τ (u .cycle) (u .acts) o
+    data-same none h = refl
+    data-same (some p) h =
+        rw (
+          rules-kind τ s (isWrite (p .transaction)) (eqb (p .offset % p .transaction .bc + 1) (p .transaction .bc)) (s .cycle) (dataDue τ p .bank),
+          rules-kind τ u (isWrite (p .transaction)) (eqb (p .offset % p .transaction .bc + 1) (p .transaction .bc)) (u .cycle) (dataDue τ p .bank),
+          bank-same (dataDue τ p .bank) (data-bank τ p h),
+          q .rd,
+          q .wr,
+          q .cycle,
+          q .acts,
+        )
+
+    goes-alike : goes τ l s ≡ goes τ l u
+    goes-alike =
+        rw (
+          goes-try τ l s,
+          goes-try τ l u,
+          data-same (dataPlace l (s .datas)) (place-at τ dataCount l v 0 0 (s .datas)),
+          act-same (actPlace l (s .acts)) (place-at τ actCount l v 0 0 (s .acts)),
+          q .datas,
+          q .acts,
+        )
+
+    stops-alike : stops τ l s ≡ stops τ l u
+    stops-alike = rw (q .datas, q .acts, q .cycle)
+
+    after-alike : (o : Option Command) → OnSome (λ c. c .bank < τ .banks) o → SameTold τ (after s o) (after u o)
+    after-alike none k =
+        record {
+          cycle = ap (λ (y : ℕ). y + 1) (q .cycle);
+          acts = q .acts;
+          datas = q .datas;
+          banks = q .banks;
+          a1 = q .a1;
+          a2 = q .a2;
+          a3 = q .a3;
+          a4 = q .a4;
+          rd = q .rd;
+          wr = q .wr;
+        }
+    after-alike (some c) k =
+        record {
+          cycle = refl;
+          acts = rw (q .acts);
+          datas = rw (q .datas);
+          banks = rw (
+            take-set-lt (τ .banks) (s .banks) (c .bank) (bankAfter (c .kind) (c .cycle) (bankOf s (c .bank))) k,
+            take-set-lt (τ .banks) (u .banks) (c .bank) (bankAfter (c .kind) (c .cycle) (bankOf u (c .bank))) k,
+            bank-same (c .bank) k,
+            q .banks,
+          );
+          a1 = rw (q .a1);
+          a2 = rw (q .a1, q .a2);
+          a3 = rw (q .a2, q .a3);
+          a4 = rw (q .a3, q .a4);
+          rd = rw (q .rd);
+          wr = rw (q .wr);
+        }
+
+  -- states that differ only there give the same commands and cycles, and again such states
+  pub past-unread : (n : ℕ) (s u : State) (h : List Command) → SameTold τ s u
+      → (run n τ l s h .history ≡ run n τ l u h .history) × (run n τ l s h .cycles ≡ run n τ l u h .cycles) × SameTold τ (run n τ l s h .state) (run n τ l u h .state)
+  past-unread zero s u h q = (refl, refl, q)
+  past-unread (suc n) s u h q =
+      on (stops τ l s) refl (past-unread n (after s (goes τ l s)) (after u (goes τ l s)) (push (goes τ l s) h) (after-alike s u q (goes τ l s) (goes-bank s)))
+    where
+      Same : Ran → Ran → Type 0
+      Same x y = (x .history ≡ y .history) × (x .cycles ≡ y .cycles) × SameTold τ (x .state) (y .state)
+
+      on : (b : Bool) → stops τ l s ≡ b → Same (run n τ l (after s (goes τ l s)) (push (goes τ l s) h)) (run n τ l (after u (goes τ l s)) (push (goes τ l s) h))
+          → Same (run (suc n) τ l s h) (run (suc n) τ l u h)
+      on true e ih = rw (stopped (suc n) τ l s h e, stopped (suc n) τ l u h (sym (stops-alike s u q) ∙ e)) (refl, refl, q)
+      on false e ih =
+          rw (going n τ l s h e, going n τ l u h (sym (stops-alike s u q) ∙ e))
+          (subst (λ (o : Option Command). Same (oneMore (run n τ l (after s (goes τ l s)) (push (goes τ l s) h))) (oneMore (run n τ l (after u o) (push o h)))) (goes-alike s u q)
+          (ih .0, ap (λ (y : ℕ). y + 1) (ih .1), ih .2))

@@ -1,0 +1,127 @@
+-- The promises on the built schedule and on runs, for every table that is accepted and every list that fits it.
+-- Assumes nothing.
+use Prim.Native.Nat.{ℕ, zero, suc, _+_, _≤_, _<_}
+use native.Mathlib.Omega.{arith}
+use native.Mathlib.Numerals.{add-one}
+use mathlib.Core.Path.{_≡_, refl, sym, ap, _∙_, subst}
+use mathlib.Core.Bool.{Bool, true}
+use mathlib.Core.Option.{some}
+use mathlib.Core.List.{List, [], _∷_, _++_}
+use lib.Dec.{leb}
+use lib.ListN.{length, getElem?, length-append}
+use borrow.Author.Tests.{leb-true, le-leb}
+use Rattle.records.specs.declared.table.Table.{Table}
+use Rattle.records.specs.declared.transaction.Transaction.{Transaction}
+use Rattle.records.specs.declared.command.Command.{Command}
+use Rattle.rules.specs.declared.state.Stamp.the-variants.{At}
+use Rattle.records.specs.Tests.{every}
+use Rattle.records.specs.Table.{Accepted}
+use Rattle.records.specs.Transaction.{fits, listFits}
+use Rattle.rules.specs.Pattern.{onto}
+use Rattle.rules.specs.CycleRule.{gone, Built}
+use Rattle.rules.specs.Bound.{bound, span, startAt}
+use Rattle.rules.specs.Finish.{lastDataIn, lastData}
+use Rattle.rules.specs.Promise.{ofFirst, cycleOf, lastDataCycle, Kept, RunsKept}
+use Rattle.rules.proofs.TestLaws.{and-both, and-fst, and-snd}
+use Rattle.rules.proofs.Ranges.{ranges}
+use Rattle.rules.proofs.Finishes.{nth, Finishes}
+use Rattle.rules.proofs.Served.{total}
+use Rattle.rules.proofs.RunTo.{n-then-m}
+use Rattle.rules.proofs.Places.{past-kept, past-unread}
+use Rattle.rules.proofs.Count.{run-room}
+use Rattle.rules.proofs.OfFirst.{first-onto, last-first}
+use Rattle.rules.proofs.Prefix.{front-unmoved}
+use Rattle.rules.proofs.Built.{each-fits, historyAt, by-state, stop-built, enough, exists, built-only, built-at, built-count, built-passes, built-early, built-bound, run-built, run-reports, run-ends}
+
+-- a transaction of a list, by its number
+at-number : (l : List Transaction) (k : ℕ) (x : Transaction) → getElem? l k ≡ some x → (nth l k ≡ x) × (k < length l)
+at-number [] k x e = let z : _≡_ {A = ℕ} 0 1 = cc in absurd (omega arith)
+at-number (y ∷ l) zero x e = (cc, omega arith)
+at-number (y ∷ l) (suc k) x e = let z = at-number l k x e in (z .0, omega (arith, z .1))
+
+-- a list that fits has a front that fits
+every-front : (f : Transaction → Bool) (xs ys : List Transaction) → every f (xs ++ ys) ≡ true → every f xs ≡ true
+every-front f [] ys e = refl
+every-front f (x ∷ xs) ys e = and-both (f x) (every f xs) (and-fst (f x) (every f (xs ++ ys)) e) (every-front f xs ys (and-snd (f x) (every f (xs ++ ys)) e))
+
+front-fits : (τ : Table) (xs ys : List Transaction) → listFits τ (xs ++ ys) ≡ true → listFits τ xs ≡ true
+front-fits τ xs ys e =
+    let h : length (xs ++ ys) ≤ 256 = leb-true (length (xs ++ ys)) 256 (and-fst (leb (length (xs ++ ys)) 256) (every (fits τ) (xs ++ ys)) e) in
+    and-both (leb (length xs) 256) (every (fits τ) xs) (le-leb (length xs) 256 (omega (arith, h, length-append xs ys)))
+    (every-front (fits τ) xs ys (and-snd (leb (length (xs ++ ys)) 256) (every (fits τ) (xs ++ ys)) e))
+
+module _ (τ : Table) (acc : Accepted τ) where
+  module _ (l : List Transaction) (fit : listFits τ l ≡ true) (rs : List Command) (b : Built τ l rs) where
+    abbrev fin : (last : ℕ → ℕ) × (start : ℕ → ℕ) × Finishes τ l (length l) last start (onto rs [])
+    fin = built-bound τ acc l fit rs b
+
+    last-is : (k : ℕ) → k < length l → lastData k rs ≡ At (lastDataCycle k rs)
+    last-is k z = let e = fin .2 .got k z in e ∙ ap At (sym (ap cycleOf e))
+
+    -- a last data command is within its bound after where its count started
+    within-bound : (k : ℕ) (x : Transaction) → getElem? l k ≡ some x → lastDataCycle k rs ≤ fin .1 k + bound τ (x .bi) (x .bc)
+    unfolding startAt
+    within-bound k x e =
+        let a = at-number l k x e in
+        let n : fin .0 k ≤ fin .1 k + span τ x = rw (a .0) at (fin .2 .near k (a .1)) in
+        omega (arith, ap cycleOf (fin .2 .got k (a .1)), n)
+
+    first-in : (x : Transaction) → getElem? l 0 ≡ some x → lastDataCycle 0 rs ≤ bound τ (x .bi) (x .bc)
+    first-in x e = omega (arith, within-bound 0 x e, fin .2 .zeroth)
+
+    next-in : (k : ℕ) (x : Transaction) → getElem? l (suc k) ≡ some x → lastDataCycle (suc k) rs ≤ lastDataCycle k rs + bound τ (x .bi) (x .bc)
+    next-in k x e =
+        let z : k < length l = omega (arith, at-number l (suc k) x e .1) in
+        omega (arith, within-bound (suc k) x e, ap cycleOf (fin .2 .got k z), fin .2 .next k z, ap (fin .1) (add-one k))
+
+  -- transactions added at the end move no command of the earlier ones
+  module _ (xs ys : List Transaction) (fit : listFits τ (xs ++ ys) ≡ true) where
+    pub unmoved-at : (n : ℕ) → ofFirst (length xs) (gone n τ (xs ++ ys)) ≡ gone n τ xs
+    unmoved-at n =
+        rw (by-state τ acc (xs ++ ys) fit n, by-state τ acc xs (front-fits τ xs ys fit) n)
+        (front-unmoved τ (ranges τ acc) xs ys (each-fits τ acc xs (front-fits τ xs ys fit)) n)
+
+    unmoved : (rs : List Command) → Built τ (xs ++ ys) rs → Built τ xs (ofFirst (length xs) rs)
+    unmoved rs b = subst (Built τ xs) (sym same) (stop-built τ acc xs (front-fits τ xs ys fit) n (enough τ acc xs (front-fits τ xs ys fit) n (omega arith)))
+      where
+        n : ℕ
+        n = total τ (xs ++ ys) (length (xs ++ ys)) + total τ xs (length xs) + 1
+
+        same : ofFirst (length xs) rs ≡ onto (historyAt τ acc xs (front-fits τ xs ys fit) n) []
+        same =
+            ap (ofFirst (length xs)) (built-at τ acc (xs ++ ys) fit n (omega arith) rs b)
+            ∙ (first-onto (length xs) (gone n τ (xs ++ ys)) [] ∙ ap (λ (h : List Command). onto h []) (unmoved-at n ∙ by-state τ acc xs (front-fits τ xs ys fit) n))
+
+  -- every promise, of whatever is the built schedule
+  pub kept : (l : List Transaction) → listFits τ l ≡ true → (rs : List Command) → Built τ l rs → Kept τ l rs
+  kept l fit rs b =
+      record {
+        built = b;
+        only = λ rs' b'. built-only τ acc l fit rs' rs b' b;
+        count = built-count τ acc l fit rs b;
+        passes = built-passes τ acc l fit rs b;
+        finishes = last-is l fit rs b;
+        firstIn = first-in l fit rs b;
+        nextIn = next-in l fit rs b;
+        unmoved = λ xs ys e. unmoved xs ys (subst (λ (y : List Transaction). listFits τ y ≡ true) e fit) rs (subst (λ (y : List Transaction). Built τ y rs) e b);
+        sameFinish = λ xs ys e k z. ap (lastDataIn k) (sym (first-onto (length xs) rs [])) ∙ last-first k (length xs) z (onto rs []);
+        early = built-early τ acc l fit rs b;
+        running = λ n e. (run-built τ acc l fit rs b n e, run-reports τ acc l fit rs b n e);
+        ends = run-ends τ acc l fit;
+      }
+
+  -- and there is one
+  pub promise : (l : List Transaction) → listFits τ l ≡ true → (rs : List Command) × Kept τ l rs
+  promise l fit = let b = exists τ acc l fit in (b .0, kept l fit (b .0) (b .1))
+
+  -- of runs from any state
+  pub runs-kept : (l : List Transaction) → listFits τ l ≡ true → RunsKept τ l
+  runs-kept l fit =
+      record {
+        splits = λ n m s. n-then-m n m τ l s;
+        edition = λ n s. past-kept τ l (each-fits τ acc l fit) n s [] .2;
+        size = λ n s. past-kept τ l (each-fits τ acc l fit) n s [] .1;
+        pastKept = λ n s. past-kept τ l (each-fits τ acc l fit) n s [] .0;
+        pastUnread = λ n s u q. past-unread τ l (each-fits τ acc l fit) n s u [] q;
+        room = λ n s a d. run-room τ l n s a d;
+      }

@@ -1,0 +1,71 @@
+-- What the numbers of an accepted table are.
+-- Assumes nothing.
+use Prim.Native.Nat.{ℕ, _≤_}
+use mathlib.Core.Path.{_≡_}
+use mathlib.Core.Bool.{Bool, true}
+use mathlib.Core.List.{List, [], _∷_}
+use lib.Dec.{leb, eqb}
+use lib.ListN.{getD, getElem?}
+use borrow.Author.Tests.{leb-true}
+use Rattle.records.specs.Tests.{within, every}
+use Rattle.records.specs.declared.table.Table.{Table}
+use Rattle.records.specs.Table.{timings, Accepted}
+use Rattle.rules.proofs.TestLaws.{and-fst, and-snd, and-at, OnSome, on-map, every-at}
+
+pub record Within (lo hi x : ℕ) : Type 0 where
+  pub least : lo ≤ x
+  pub most : x ≤ hi
+
+pub record Ranges (τ : Table) : Type 0 where
+  pub banks : Within 1 16 (τ .banks)
+  pub two : 2 ≤ τ .ccd
+  pub burst : τ .b ≤ τ .ccd
+  pub b : Within 1 255 (τ .b)
+  pub ccd : Within 1 255 (τ .ccd)
+  pub rcd : Within 1 255 (τ .rcd)
+  pub rp : Within 1 255 (τ .rp)
+  pub ras : Within 1 255 (τ .ras)
+  pub rc : Within 1 255 (τ .rc)
+  pub rrd : Within 1 255 (τ .rrd)
+  pub faw : Within 1 255 (τ .faw)
+  pub rl : Within 1 255 (τ .rl)
+  pub wl : Within 1 255 (τ .wl)
+  pub rtp : Within 1 255 (τ .rtp)
+  pub wr : Within 1 255 (τ .wr)
+  pub wtr : Within 1 255 (τ .wtr)
+
+pub is-within : (lo hi x : ℕ) → within lo hi x ≡ true → Within lo hi x
+is-within lo hi x e =
+    record { least = leb-true lo x (and-fst (leb lo x) (leb x hi) e); most = leb-true x hi (and-snd (leb lo x) (leb x hi) e) }
+
+-- the tests of a table before that of its timing numbers
+abbrev firstTests : Table → List Bool
+firstTests τ = eqb (τ .last) 0 ∷ within 1 65535 (τ .edition) ∷ within 1 16 (τ .banks) ∷ leb 2 (τ .ccd) ∷ leb (τ .b) (τ .ccd) ∷ []
+
+module _ (τ : Table) (e : Accepted τ) where
+  test : (i : ℕ) → getD (firstTests τ) i (every (within 1 255) (timings τ)) ≡ true
+  test i = and-at (firstTests τ) (every (within 1 255) (timings τ)) i e
+
+  timing : (i : ℕ) → OnSome (Within 1 255) (getElem? (timings τ) i)
+  timing i = on-map (getElem? (timings τ) i) (is-within 1 255) (every-at (within 1 255) (timings τ) i (test 5))
+
+  pub ranges : Ranges τ
+  ranges =
+      record {
+        banks = is-within 1 16 (τ .banks) (test 2);
+        two = leb-true 2 (τ .ccd) (test 3);
+        burst = leb-true (τ .b) (τ .ccd) (test 4);
+        b = timing 0;
+        ccd = timing 1;
+        rcd = timing 2;
+        rp = timing 3;
+        ras = timing 4;
+        rc = timing 5;
+        rrd = timing 6;
+        faw = timing 7;
+        rl = timing 8;
+        wl = timing 9;
+        rtp = timing 10;
+        wr = timing 11;
+        wtr = timing 12;
+      }

@@ -1,0 +1,165 @@
+-- Stamps, and what the state says of the latest commands of all banks: rules 6, 7 and 9 are read off it.
+-- Assumes nothing.
+use Prim.Native.Nat.{ℕ, _+_, _≤_, _<_}
+use native.Mathlib.Omega.{arith}
+use mathlib.Core.Path.{_≡_, refl}
+use mathlib.Core.Logic.{_≢_}
+use mathlib.Core.Bool.{Bool, true, false, and-false}
+use lib.Dec.{leb, eqb}
+use borrow.Author.Tests.{le-leb, lt-leb, eq-eqb, ne-eqb}
+use Rattle.records.specs.declared.table.Table.{Table}
+use Rattle.records.specs.declared.command.Kind.the-variants.{Act}
+use Rattle.rules.specs.declared.state.Stamp.{Stamp}
+use Rattle.rules.specs.declared.state.Stamp.the-variants.{Never, At}
+use Rattle.rules.specs.declared.state.State.{State}
+use Rattle.records.specs.Tests.{pick}
+use Rattle.rules.specs.Square.{fromRd, fromWr}
+use Rattle.rules.specs.State.{past, rule6, rule9, fresh, note, idle}
+use Rattle.rules.specs.Queues.{dataKind}
+use Rattle.rules.specs.Bound.{mostRrd, mostFromRd, mostFromWr}
+use Rattle.rules.proofs.TestLaws.{and-both}
+use Rattle.rules.proofs.Ranges.{Ranges}
+use Rattle.rules.proofs.DataKinds.{no-act}
+
+-- a stamp with d added is at most c
+abbrev pub Upto : ℕ → ℕ → Stamp → Type 0
+Upto d c Never = Unit {0}
+Upto d c (At x) = x + d ≤ c
+
+pub upto-map : (d c d' c' : ℕ) (s : Stamp) → ((x : ℕ) → x + d ≤ c → x + d' ≤ c') → Upto d c s → Upto d' c' s
+upto-map d c d' c' Never f q = tt
+upto-map d c d' c' (At x) f q = f x q
+
+pub upto-up : (d c c' : ℕ) (s : Stamp) → c ≤ c' → Upto d c s → Upto d c' s
+upto-up d c c' s h q = upto-map d c d c' s (λ x k. omega arith) q
+
+pub upto-past : (d t : ℕ) (s : Stamp) → Upto d t s → past s d t ≡ true
+upto-past d t Never q = refl
+upto-past d t (At x) q = le-leb (x + d) t q
+
+-- the stamp is the cycle of an ACT at least j back from number a; `A i x` says that number i went as an ACT at cycle x
+abbrev pub Back : (ℕ → ℕ → Type 0) → ℕ → ℕ → Stamp → Type 0
+Back A a j Never = Unit {0}
+Back A a j (At x) = (i : ℕ) × (i + j + 1 ≤ a) × A i x
+
+-- ta, with t at n
+abbrev pub ext : (ℕ → ℕ) → ℕ → ℕ → ℕ → ℕ
+ext ta n t i = pick (eqb i n) t (ta i)
+
+pub ext-same : (ta : ℕ → ℕ) (n t : ℕ) → ext ta n t n ≡ t
+ext-same ta n t = rw (eq-eqb n n refl)
+
+pub ext-eq : (ta : ℕ → ℕ) (n t i : ℕ) → i ≡ n → ext ta n t i ≡ t
+ext-eq ta n t i e = rw (eq-eqb i n e)
+
+pub ext-other : (ta : ℕ → ℕ) (n t i : ℕ) → i ≢ n → ext ta n t i ≡ ta i
+ext-other ta n t i h = rw (ne-eqb i n h)
+
+back-next : (A A' : ℕ → ℕ → Type 0) (a j : ℕ) (s : Stamp) → ((i x : ℕ) → i < a → A i x → A' i x) → Back A a j s → Back A' (a + 1) (j + 1) s
+back-next A A' a j Never f q = tt
+back-next A A' a j (At x) f q = (q .0, omega (arith, q .1), f (q .0) x (omega (arith, q .1)) (q .2))
+
+-- every RD kept (every WR kept), with d added, is at most c
+abbrev pub RdUp : ℕ → ℕ → State → Type 0
+RdUp d c s = Upto d c (s .rd)
+
+abbrev pub WrUp : ℕ → ℕ → State → Type 0
+WrUp d c s = Upto d c (s .wr)
+
+pub rd-map : (d c d' c' : ℕ) (s : State) → ((x : ℕ) → x + d ≤ c → x + d' ≤ c') → RdUp d c s → RdUp d' c' s
+rd-map d c d' c' s f q = upto-map d c d' c' (s .rd) f q
+
+pub wr-map : (d c d' c' : ℕ) (s : State) → ((x : ℕ) → x + d ≤ c → x + d' ≤ c') → WrUp d c s → WrUp d' c' s
+wr-map d c d' c' s f q = upto-map d c d' c' (s .wr) f q
+
+-- a data command keeps that, if its own kind's is kept by it
+pub rd-data : (s : State) (t b : ℕ) (w z : Bool) (d c c' : ℕ) → c ≤ c' → RdUp d c s → (w ≡ false → t + d ≤ c') → RdUp d c' (note s t (dataKind w z) b)
+rd-data s t b true true d c c' g q h = rd-map d c d c' s (λ x k. omega arith) q
+rd-data s t b true false d c c' g q h = rd-map d c d c' s (λ x k. omega arith) q
+rd-data s t b false true d c c' g q h = h refl
+rd-data s t b false false d c c' g q h = h refl
+
+pub wr-data : (s : State) (t b : ℕ) (w z : Bool) (d c c' : ℕ) → c ≤ c' → WrUp d c s → (w ≡ true → t + d ≤ c') → WrUp d c' (note s t (dataKind w z) b)
+wr-data s t b true true d c c' g q h = h refl
+wr-data s t b true false d c c' g q h = h refl
+wr-data s t b false true d c c' g q h = wr-map d c d c' s (λ x k. omega arith) q
+wr-data s t b false false d c c' g q h = wr-map d c d c' s (λ x k. omega arith) q
+
+-- what the bound's proof keeps of them: a have gone from the ACT queue, no stamp is past c
+pub record Recent (τ : Table) (A : ℕ → ℕ → Type 0) (a c : ℕ) (s : State) : Type 0 where
+  pub back1 : Back A a 0 (s .a1)
+  pub back2 : Back A a 1 (s .a2)
+  pub back3 : Back A a 2 (s .a3)
+  pub back4 : Back A a 3 (s .a4)
+  pub rds : RdUp 0 c s
+  pub wrs : WrUp 0 c s
+
+module _ (τ : Table) where
+  pub recent-up : (A : ℕ → ℕ → Type 0) (a c c' : ℕ) (s : State) → c ≤ c' → Recent τ A a c s → Recent τ A a c' s
+  recent-up A a c c' s h q =
+      record {
+        back1 = q .back1;
+        back2 = q .back2;
+        back3 = q .back3;
+        back4 = q .back4;
+        rds = rd-map 0 c 0 c' s (λ x k. omega arith) (q .rds);
+        wrs = wr-map 0 c 0 c' s (λ x k. omega arith) (q .wrs);
+      }
+
+  pub recent-idle : (A : ℕ → ℕ → Type 0) (a c : ℕ) (s : State) → Recent τ A a c s → Recent τ A a c (idle s)
+  recent-idle A a c s q = record { back1 = q .back1; back2 = q .back2; back3 = q .back3; back4 = q .back4; rds = q .rds; wrs = q .wrs }
+
+  pub recent-fresh : (A : ℕ → ℕ → Type 0) → Recent τ A 0 0 (fresh τ)
+  recent-fresh A =
+      record {
+        back1 = tt;
+        back2 = tt;
+        back3 = tt;
+        back4 = tt;
+        rds = tt;
+        wrs = tt;
+      }
+
+  module _ (A : ℕ → ℕ → Type 0) (a c : ℕ) (s : State) (q : Recent τ A a c s) (t : ℕ) (ct : c ≤ t) where
+    module _ (A' : ℕ → ℕ → Type 0) (f : (i x : ℕ) → i < a → A i x → A' i x) where
+      pub recent-act : (b : ℕ) → A' a t → Recent τ A' (a + 1) t (note s t Act b)
+      recent-act b new =
+          record {
+            back1 = (a, omega arith, new);
+            back2 = back-next A A' a 0 (s .a1) f (q .back1);
+            back3 = back-next A A' a 1 (s .a2) f (q .back2);
+            back4 = back-next A A' a 2 (s .a3) f (q .back3);
+            rds = rd-map 0 c 0 t s (λ x k. omega arith) (q .rds);
+            wrs = wr-map 0 c 0 t s (λ x k. omega arith) (q .wrs);
+          }
+
+    pub recent-data : (b : ℕ) (w z : Bool) → Recent τ A a t (note s t (dataKind w z) b)
+    recent-data b w z =
+        record {
+          back1 = rw (no-act w z) (q .back1);
+          back2 = rw (no-act w z) (q .back2);
+          back3 = rw (no-act w z) (q .back3);
+          back4 = rw (no-act w z) (q .back4);
+          rds = rd-data s t b w z 0 c t ct (q .rds) (λ e. omega arith);
+          wrs = wr-data s t b w z 0 c t ct (q .wrs) (λ e. omega arith);
+        }
+
+-- rules 6 and 9 hold once the greatest distance is past, and rule 9 does not right after a data command of the kind
+module _ (τ : Table) (rng : Ranges τ) (s : State) where
+  pub six-ready : (A : ℕ → ℕ → Type 0) (a c t b : ℕ) → Recent τ A a c s → ((d : ℕ) (st : Stamp) → d ≤ mostRrd τ → Back A a 0 st → Upto d t st) → rule6 τ s t b ≡ true
+  six-ready A a c t b q near = upto-past (τ .rrd) t (s .a1) (near (τ .rrd) (s .a1) (omega arith) (q .back1))
+
+  pub nine-ready : (w : Bool) (t b : ℕ) → RdUp (mostFromRd τ w) t s → WrUp (mostFromWr τ w) t s → rule9 τ s w t b ≡ true
+  nine-ready w t b x y = and-both _ _ (upto-past (fromRd τ w) t (s .rd) x) (upto-past (fromWr τ w) t (s .wr) y)
+
+  pub nine-blocked : (A : ℕ → ℕ → Type 0) (a c : ℕ) → Recent τ A a c s → (t b b' : ℕ) (w z : Bool) → rule9 τ (note s t (dataKind w z) b) w (t + 1) b' ≡ false
+  nine-blocked A a c q t b b' w z = on w z
+    where
+      too-near : leb (t + τ .ccd) (t + 1) ≡ false
+      too-near = lt-leb (t + τ .ccd) (t + 1) (omega (arith, rng .two))
+
+      on : (w z : Bool) → rule9 τ (note s t (dataKind w z) b) w (t + 1) b' ≡ false
+      on true true = rw too-near (and-false (past (s .rd) (fromRd τ true) (t + 1)))
+      on true false = rw too-near (and-false (past (s .rd) (fromRd τ true) (t + 1)))
+      on false true = rw too-near
+      on false false = rw too-near
