@@ -105,23 +105,16 @@ fn reader<const N: usize>(name: &str, answer: Result<[u32; N], Refusal>) -> Stri
         Ok(numbers) => numbers
             .iter()
             .fold(name.to_string(), |line, n| format!("{line} {n}")),
-        Err(r) => format!("{name} {}", refusal(r)),
+        Err(r) => format!("{name} {r}"),
     }
 }
 
 fn writer(name: &str, answer: Result<u16, Refusal>, room: &[u8]) -> String {
     let told = match answer {
         Ok(edition) => format!("edition {edition}"),
-        Err(r) => refusal(r),
+        Err(r) => r.to_string(),
     };
     let hex: String = room.iter().map(|b| format!("{b:02x}")).collect();
     let hex = if hex.is_empty() { "-" } else { &hex };
     format!("{name} {told} {hex}")
-}
-
-fn refusal(r: Refusal) -> String {
-    format!(
-        "refused {} at {} edition {}",
-        r.number, r.position, r.edition
-    )
 }

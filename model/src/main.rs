@@ -1,9 +1,16 @@
 //! What document 01 says, once more in plain Rust and from the paper alone, to hold the proved programs against.
 //!
-//! `model vectors ROOT` writes what the program `hostile` is run on and what it must write.
+//! `model vectors ROOT` writes what the programs `hostile`, `verdicts` and `runs` are run on and what they must write.
 
+#[cfg(test)]
+mod examples;
 mod hostile;
+mod house;
 mod records;
+mod rules;
+mod runs;
+mod scheduler;
+mod verdicts;
 
 use std::fs;
 use std::io;
@@ -29,15 +36,20 @@ fn main() -> ExitCode {
 }
 
 fn vectors(root: &Path) -> io::Result<()> {
-    let folder = root.join("crates/hostile");
     let input = hostile::cases();
-    let output = hostile::lines(&input);
-    fs::write(folder.join("stdin"), &input)?;
-    fs::write(folder.join("stdout"), &output)?;
-    println!(
-        "hostile: {} cases, {} bytes",
-        output.lines().count(),
-        input.len()
-    );
+    stored(root, "hostile", &input, &hostile::lines(&input))?;
+    let input = verdicts::cases();
+    stored(root, "verdicts", &input, &verdicts::lines(&input))?;
+    let input = runs::cases();
+    stored(root, "runs", &input, &runs::lines(&input))
+}
+
+fn stored(root: &Path, program: &str, input: &[u8], output: &str) -> io::Result<()> {
+    let folder = root.join("crates").join(program);
+    fs::create_dir_all(&folder)?;
+    fs::write(folder.join("stdin"), input)?;
+    fs::write(folder.join("stdout"), output)?;
+    let (bytes, lines) = (input.len(), output.lines().count());
+    println!("{program}: {bytes} bytes in, {lines} lines out");
     Ok(())
 }

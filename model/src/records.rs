@@ -3,12 +3,21 @@
 //! Numbers are little-endian. A writer checks the values as the reader would, and the room. The checks go in the order of their
 //! numbers, and a refused writer changes no byte.
 
+use std::fmt;
+
 /// "What the caller is told".
 #[derive(Debug, Clone, Copy, PartialEq, Eq)]
 pub struct Refusal {
     pub number: u8,
     pub position: u32,
     pub edition: u16,
+}
+
+impl fmt::Display for Refusal {
+    fn fmt(&self, f: &mut fmt::Formatter) -> fmt::Result {
+        let (number, position, edition) = (self.number, self.position, self.edition);
+        write!(f, "refused {number} at {position} edition {edition}")
+    }
 }
 
 /// The refusal of one record. Every position is 0, the number of the only transaction included; and so is the edition, since 1 and 2
@@ -70,15 +79,19 @@ pub struct Transaction {
 }
 
 /// "Where no table is given, banks counts as 16."
-const BANKS_WITHOUT_TABLE: u32 = 16;
+const BANKS_WITHOUT_TABLE: u16 = 16;
 
 /// "BI and BC are 1 to 16; start + BI is at most banks."
+pub fn in_range(x: &Transaction, banks: u16) -> bool {
+    let counts = (1..=16).contains(&x.bi) && (1..=16).contains(&x.bc);
+    x.kind <= 1 && counts && u16::from(x.start) + u16::from(x.bi) <= banks
+}
+
 fn check_transaction(size: usize, x: &Transaction) -> Result<(), Refusal> {
     if size != 4 {
         return refused(3);
     }
-    let counts = (1..=16).contains(&x.bi) && (1..=16).contains(&x.bc);
-    if x.kind > 1 || !counts || u32::from(x.start) + u32::from(x.bi) > BANKS_WITHOUT_TABLE {
+    if !in_range(x, BANKS_WITHOUT_TABLE) {
         return refused(4);
     }
     Ok(())

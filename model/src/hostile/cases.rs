@@ -1,43 +1,7 @@
 //! The cases themselves: the edges of each number, sizes one off, buffers that are too small or too great, and bytes of no meaning.
 
 use super::*;
-
-const TABLE_A: Table = [7, 8, 4, 4, 10, 10, 28, 38, 6, 32, 10, 8, 6, 12, 6, 0];
-const FAW: usize = 9;
-const RTP: usize = 12;
-
-fn with(changes: &[(usize, u16)]) -> Table {
-    let mut t = TABLE_A;
-    for &(i, n) in changes {
-        t[i] = n;
-    }
-    t
-}
-
-fn bytes_of(t: &Table) -> Vec<u8> {
-    t.iter().flat_map(|n| n.to_le_bytes()).collect()
-}
-
-/// A linear congruential generator, so that the cases are the same on every machine.
-struct Numbers(u64);
-
-impl Numbers {
-    fn byte(&mut self) -> u8 {
-        self.0 = self
-            .0
-            .wrapping_mul(6364136223846793005)
-            .wrapping_add(1442695040888963407);
-        (self.0 >> 56) as u8
-    }
-
-    fn below(&mut self, n: usize) -> usize {
-        self.byte() as usize % n
-    }
-
-    fn bytes(&mut self, n: usize) -> Vec<u8> {
-        (0..n).map(|_| self.byte()).collect()
-    }
-}
+use crate::house::*;
 
 struct Cases(Vec<u8>);
 
@@ -207,12 +171,6 @@ fn transactions(cases: &mut Cases) {
     ] {
         cases.put_rooms(WRITE_TRANSACTION, &x);
     }
-}
-
-fn command(cycle: u32, kind: u8, bank: u8, transaction: u16) -> [u8; 8] {
-    let [c0, c1, c2, c3] = cycle.to_le_bytes();
-    let [t0, t1] = transaction.to_le_bytes();
-    [c0, c1, c2, c3, kind, bank, t0, t1]
 }
 
 fn commands(cases: &mut Cases) {

@@ -1,0 +1,98 @@
+// One copy of a schedule, record by record.
+use crate::back::keeps_distance;
+use crate::found::found_by;
+use crate::plain::shift_of;
+use records::command::command_at;
+use records::table::Table;
+use records::tests::both_of;
+use records::tests::not_of;
+use rules::note::note_kind;
+use rules::state::State;
+use rules::tests::is_open;
+use rules::verdict::Found;
+use rules::verdict::Rule;
+use rules::verdict::Verdict;
+ghost use mathlib.Core.Path.{_≡_};
+ghost use Prim.Native.Nat.{suc, _≤_, _<_};
+ghost use Rattle.records.specs.Tests.{pick};
+ghost use Rattle.records.specs.Command.{commandsIn};
+ghost use Rattle.rules.specs.declared.verdict.Verdict.the-variants.{Accepted, Refused};
+ghost use Rattle.rules.specs.declared.verdict.Rule.the-variants.{End};
+ghost use Rattle.rules.specs.Square.{square};
+ghost use Rattle.rules.specs.Verdict.{judgeFrom};
+ghost use Rattle.rules.specs.Pattern.{copy};
+ghost use Rattle.rules.proofs.JudgeState.{Judging};
+ghost use Rattle.judge.specs.Seen.{recordCount, whole};
+ghost use Rattle.judge.specs.ByState.{shutBy};
+
+// The verdict on a copy, and the state after it.
+pub struct Copied {
+    pub state: State,
+    pub verdict: Verdict,
+}
+
+// No bank of the table is open.
+pub fn all_shut(s: State, banks: u16) -> bool
+    requires { ⌜ banks ≤ 16 ⌝ }
+    ensures { λ r. ⌜ r ≡ shutBy s banks ⌝ }
+{
+    let n = banks as usize;
+    let mut shut = true;
+    let mut b: usize = 0;
+    while b < n {
+        let k = s.banks[b];
+        shut = both_of(not_of(is_open(k)), shut);
+        b = b + 1;
+    }
+    shut
+}
+
+// Rule 10: "at the end a bank is open; the record number is then the count"
+pub fn end_of(shut: bool, count: u32) -> Verdict
+    ensures { λ r. ⌜ r ≡ pick shut Accepted (Refused End count) ⌝ }
+{
+    if shut {
+        Verdict::Accepted
+    } else {
+        Verdict::Refused(Rule::End, count)
+    }
+}
+
+// Copy k + 1 of the schedule, after k copies that the state sums up.
+pub fn judge_copy(t: Table, q: [[u32; 2]; 2], s: &[u8], length: u32, k: u32, state: State) -> Copied
+    requires { ⌜ (t .banks ≤ 16) × (q ≡ square t) × (recordCount (now s) ≤ 69632) × (k < 5) × Judging (whole length (now s) k) state ⌝ }
+    ensures { λ r. ⌜ (r .verdict ≡ judgeFrom t (copy length (commandsIn (now (s .entry))) k) 0 (whole length (now (s .entry)) k))
+        × (r .verdict ≡ Accepted → Judging (whole length (now (s .entry)) (suc k)) (r .state)) ⌝ }
+{
+    let n = s.len() / 8;
+    let shift = shift_of(length, k);
+    let mut state = state;
+    let mut i: usize = 0;
+    while i < n {
+        let r = command_at(s, i * 8);
+        let kind = r.kind;
+        let b = r.bank;
+        let c = r.cycle as u64 + shift;
+        let keeps9 = keeps_distance(q, s, length, k, i, kind, c);
+        let next = i + 1;
+        let number = i as u32;
+        i = next;
+        match found_by(t, state, kind, c, b, keeps9) {
+            Found::Broken(x) => {
+                return Copied {
+                    state: state,
+                    verdict: Verdict::Refused(x, number),
+                };
+            }
+            Found::Fine => {
+                state = note_kind(state, kind, c, b);
+            }
+        }
+    }
+    let shut = all_shut(state, t.banks);
+    let verdict = end_of(shut, n as u32);
+    Copied {
+        state: state,
+        verdict: verdict,
+    }
+}

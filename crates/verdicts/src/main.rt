@@ -1,0 +1,186 @@
+// Hands hostile schedules and patterns to the judges of `judge`, and writes a line on what each answers.
+//
+// Standard input, of which 65,536 bytes are read at most, is a sequence of cases, `[call][table: 32 bytes][length: u32][n: u16][n bytes]`.
+// Call 1 judges the n bytes as a schedule and has no use for the length, call 2 judges them as a pattern of that length. The line is
+// `case` for any other call, and for a case that the input cuts short, which is the last.
+use judge::answer::Judged;
+use judge::answer::PatternJudged;
+use judge::pattern::judge_pattern;
+use judge::schedule::judge_schedule;
+use libc::STDIN_FILENO;
+use libc::STDOUT_FILENO;
+use records::little::from_le32;
+use records::little::num_at;
+use records::refusal::Refusal;
+use records::table::TableRead;
+use records::table::read_table;
+use rules::verdict::PatternVerdict;
+use rules::verdict::Rule;
+use rules::verdict::Verdict;
+ghost use mathlib.Core.Path.{_≡_};
+ghost use Prim.Native.Nat.{_+_, _≤_};
+ghost use lib.ListN.{length};
+ghost use Rattle.rules.specs.Kinds.{ruleNumber};
+
+fn main() {
+    let mut input = io::large_buffer();
+    let n = io::read_full(STDIN_FILENO, &mut input);
+    all_cases(&input[..n]);
+}
+
+fn all_cases(s: &[u8]) {
+    let mut at = 0;
+    while 39 <= s.len() - at {
+        let from = at + 39;
+        let n = size(num_at(s, at + 37));
+        if s.len() - from < n {
+            break;
+        }
+        let table = at + 1;
+        let length = at + 33;
+        let end = from + n;
+        one_case(s[at], &s[table..length], long_at(s, length), &s[from..end]);
+        at = end;
+    }
+    if at < s.len() {
+        no_case();
+    }
+}
+
+fn size(n: u16) -> usize
+    ensures { λ r. ⌜ r ≡ n ⌝ }
+{
+    n as usize
+}
+
+// The 32-bit number at a place.
+fn long_at(s: &[u8], at: usize) -> u32
+    requires { ⌜ at + 4 ≤ length (now s) ⌝ }
+{
+    from_le32(s[at], s[at + 1], s[at + 2], s[at + 3])
+}
+
+fn one_case(call: u8, table: &[u8], length: u32, s: &[u8]) {
+    match call {
+        1 => schedule_line(table, s),
+        2 => pattern_line(table, s, length),
+        _ => no_case(),
+    }
+}
+
+fn no_case() {
+    text(b"case\n");
+}
+
+fn schedule_line(table: &[u8], s: &[u8]) {
+    text(b"judge");
+    match read_table(table) {
+        TableRead::Read(t) => judged(judge_schedule(t, s)),
+        TableRead::Refused(r) => refused(r),
+    }
+    text(b"\n");
+}
+
+fn pattern_line(table: &[u8], s: &[u8], length: u32) {
+    text(b"pattern");
+    match read_table(table) {
+        TableRead::Read(t) => pattern_judged(judge_pattern(t, s, length)),
+        TableRead::Refused(r) => refused(r),
+    }
+    text(b"\n");
+}
+
+fn judged(answer: Judged) {
+    match answer {
+        Judged::Verdict(edition, v) => {
+            text(b" edition");
+            number(edition);
+            verdict(v);
+        }
+        Judged::Refused(r) => refused(r),
+    }
+}
+
+fn pattern_judged(answer: PatternJudged) {
+    match answer {
+        PatternJudged::Verdict(edition, v) => {
+            text(b" edition");
+            number(edition);
+            pattern_verdict(v);
+        }
+        PatternJudged::Refused(r) => refused(r),
+    }
+}
+
+fn verdict(v: Verdict) {
+    match v {
+        Verdict::Accepted => text(b" accepted"),
+        Verdict::Refused(x, record) => {
+            rule(x);
+            text(b" record");
+            long(record);
+        }
+    }
+}
+
+fn pattern_verdict(v: PatternVerdict) {
+    match v {
+        PatternVerdict::Accepted => text(b" accepted"),
+        PatternVerdict::Refused(x, copy, record) => {
+            rule(x);
+            text(b" copy");
+            long(copy);
+            text(b" record");
+            long(record);
+        }
+    }
+}
+
+fn rule(x: Rule) {
+    text(b" rule");
+    small(rule_number(x));
+}
+
+fn rule_number(x: Rule) -> u8
+    ensures { λ r. ⌜ r ≡ ruleNumber x ⌝ }
+{
+    match x {
+        Rule::Range => 1,
+        Rule::Order => 2,
+        Rule::Opened => 3,
+        Rule::Precharge => 4,
+        Rule::Rc => 5,
+        Rule::Rrd => 6,
+        Rule::Faw => 7,
+        Rule::Rcd => 8,
+        Rule::Distance => 9,
+        Rule::End => 10,
+    }
+}
+
+fn refused(r: Refusal) {
+    text(b" refused");
+    small(r.number);
+    text(b" at");
+    long(r.position);
+    text(b" edition");
+    number(r.edition);
+}
+
+// A number after a space, of each width.
+fn small(n: u8) {
+    long(n as u32);
+}
+
+fn number(n: u16) {
+    long(n as u32);
+}
+
+fn long(n: u32) {
+    text(b" ");
+    io::print_decimal(STDOUT_FILENO, n as u64);
+}
+
+fn text(s: &[u8]) {
+    io::write_all(STDOUT_FILENO, s);
+}

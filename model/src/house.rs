@@ -1,0 +1,85 @@
+//! The house tables, tables in which one number outgrows the others, and what else the cases are made from.
+
+use crate::records::{Command, Table};
+
+pub const RC: usize = 7;
+pub const FAW: usize = 9;
+pub const RTP: usize = 12;
+
+/// In the order of the record: edition, banks, B, CCD, RCD, RP, RAS, RC, RRD, FAW, RL, WL, RTP, WR, WTR, 0.
+pub const TABLE_A: Table = [7, 8, 4, 4, 10, 10, 28, 38, 6, 32, 10, 8, 6, 12, 6, 0];
+pub const TABLE_B: Table = [7, 8, 4, 4, 10, 10, 28, 38, 6, 155, 10, 8, 6, 12, 6, 0];
+pub const TABLE_C: Table = [7, 8, 4, 4, 10, 10, 28, 38, 6, 32, 10, 8, 2, 12, 6, 0];
+
+/// Every number the least that is accepted, and every number the greatest.
+pub const LEAST: Table = [1, 16, 1, 2, 1, 1, 1, 1, 1, 1, 1, 1, 1, 1, 1, 0];
+pub const GREATEST: Table = [
+    65535, 16, 255, 255, 255, 255, 255, 255, 255, 255, 255, 255, 255, 255, 255, 0,
+];
+
+/// One number, or one pair of numbers, that stands far out.
+pub const ODD: [Table; 12] = [
+    [300, 1, 4, 4, 10, 10, 28, 38, 6, 32, 10, 8, 6, 12, 6, 0],
+    [301, 16, 2, 2, 3, 4, 5, 60, 2, 5, 3, 2, 2, 3, 2, 0],
+    [302, 16, 2, 2, 3, 4, 50, 20, 2, 5, 3, 2, 2, 3, 2, 0],
+    [303, 16, 1, 2, 3, 4, 5, 6, 40, 5, 3, 2, 2, 3, 2, 0],
+    [304, 16, 1, 3, 3, 4, 5, 6, 2, 255, 3, 2, 2, 3, 2, 0],
+    [305, 16, 2, 2, 2, 4, 5, 6, 2, 5, 1, 255, 2, 3, 2, 0],
+    [306, 16, 2, 2, 2, 4, 5, 6, 2, 5, 255, 1, 2, 3, 2, 0],
+    [307, 16, 3, 7, 2, 4, 5, 6, 2, 5, 3, 2, 90, 3, 2, 0],
+    [308, 5, 2, 3, 2, 4, 5, 6, 2, 5, 3, 2, 2, 130, 2, 0],
+    [309, 11, 2, 3, 2, 4, 5, 6, 2, 5, 3, 2, 2, 3, 200, 0],
+    [310, 3, 2, 41, 77, 4, 5, 6, 2, 5, 3, 2, 2, 3, 2, 0],
+    [
+        311, 13, 5, 11, 13, 17, 19, 23, 29, 31, 37, 41, 43, 47, 53, 0,
+    ],
+];
+
+/// Table A with some numbers changed.
+pub fn with(changes: &[(usize, u16)]) -> Table {
+    let mut t = TABLE_A;
+    for &(i, n) in changes {
+        t[i] = n;
+    }
+    t
+}
+
+pub fn bytes_of(t: &Table) -> Vec<u8> {
+    t.iter().flat_map(|n| n.to_le_bytes()).collect()
+}
+
+pub fn command(cycle: u32, kind: u8, bank: u8, transaction: u16) -> [u8; 8] {
+    let [c0, c1, c2, c3] = cycle.to_le_bytes();
+    let [t0, t1] = transaction.to_le_bytes();
+    [c0, c1, c2, c3, kind, bank, t0, t1]
+}
+
+pub fn bytes_of_all(commands: &[Command]) -> Vec<u8> {
+    let bytes = |c: &Command| command(c.cycle, c.kind, c.bank, c.transaction);
+    commands.iter().flat_map(bytes).collect()
+}
+
+/// A linear congruential generator, so that the cases are the same on every machine.
+pub struct Numbers(pub u64);
+
+impl Numbers {
+    pub fn byte(&mut self) -> u8 {
+        self.0 = self
+            .0
+            .wrapping_mul(6364136223846793005)
+            .wrapping_add(1442695040888963407);
+        (self.0 >> 56) as u8
+    }
+
+    pub fn below(&mut self, n: usize) -> usize {
+        self.byte() as usize % n
+    }
+
+    pub fn bytes(&mut self, n: usize) -> Vec<u8> {
+        (0..n).map(|_| self.byte()).collect()
+    }
+
+    pub fn of<T: Copy>(&mut self, choices: &[T]) -> T {
+        choices[self.below(choices.len())]
+    }
+}

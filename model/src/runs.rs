@@ -1,0 +1,185 @@
+//! The cases of the program `runs`, and the lines of each.
+//!
+//! A case is `[call][table: 32 bytes]` and then, for call 1, a build, `[room: u16][slots: u16][n: u16][n bytes]`; for call 2, a run,
+//! `[count: u32][room: u16][state: 246 bytes][n: u16][n bytes]`; for call 3, a bound, `[BI][BC]`. The rooms are in bytes, the n bytes
+//! are the transactions. A case of any other call has no end, so nothing after it is read.
+
+mod cases;
+mod states;
+
+pub use cases::cases;
+
+use std::fmt::Write;
+
+use crate::records::{read_table, Command, Refusal, EDITION};
+use crate::scheduler::*;
+
+const BUILD: u8 = 1;
+const RUN: u8 = 2;
+const BOUND: u8 = 3;
+
+pub fn lines(input: &[u8]) -> String {
+    let mut out = String::new();
+    let mut rest = Bytes(input);
+    while !rest.0.is_empty() {
+        match case_lines(&mut rest) {
+            Some((name, Ok(lines))) => write!(out, "{name} {lines}"),
+            Some((name, Err(r))) => writeln!(out, "{name} {r}"),
+            None => {
+                out.push_str("case\n");
+                break;
+            }
+        }
+        .expect("a string takes it");
+    }
+    out
+}
+
+/// What is left of the input.
+struct Bytes<'a>(&'a [u8]);
+
+impl<'a> Bytes<'a> {
+    fn take(&mut self, n: usize) -> Option<&'a [u8]> {
+        let (taken, rest) = self.0.split_at_checked(n)?;
+        self.0 = rest;
+        Some(taken)
+    }
+
+    fn array<const N: usize>(&mut self) -> Option<[u8; N]> {
+        self.take(N)?.try_into().ok()
+    }
+
+    fn u8(&mut self) -> Option<u8> {
+        self.array().map(u8::from_le_bytes)
+    }
+
+    fn u16(&mut self) -> Option<u16> {
+        self.array().map(u16::from_le_bytes)
+    }
+
+    fn u32(&mut self) -> Option<u32> {
+        self.array().map(u32::from_le_bytes)
+    }
+
+    fn list(&mut self) -> Option<&'a [u8]> {
+        let n = self.u16()?;
+        self.take(n.into())
+    }
+
+    fn state(&mut self) -> Option<State> {
+        let mut state = State::fresh(&[0; 16]);
+        state.edition = self.u16()?;
+        state.cycle = self.u32()?;
+        state.acts = self.u32()?;
+        state.datas = self.u32()?;
+        for bank in &mut state.banks {
+            bank.opened = self.u8()?;
+            bank.act = self.u32()?;
+            bank.rd = self.u32()?;
+            bank.wr = self.u32()?;
+        }
+        for act in &mut state.last {
+            *act = self.u32()?;
+        }
+        state.rd = self.u32()?;
+        state.wr = self.u32()?;
+        Some(state)
+    }
+}
+
+/// The call's name, and the rest of its first line with all that follow, or its refusal. None for no call and for a case cut short.
+fn case_lines(rest: &mut Bytes) -> Option<(&'static str, Result<String, Refusal>)> {
+    let call = rest.u8()?;
+    let table = read_table(rest.take(32)?);
+    let edition = table.map(|t| t[EDITION]);
+    match call {
+        BUILD => {
+            let (room, slots) = (rest.u16()?.into(), rest.u16()?.into());
+            let list = rest.list()?;
+            let built = table.and_then(|t| build(&t, room, slots, list));
+            Some(("build", built.and_then(|b| Ok(build_lines(edition?, &b)))))
+        }
+        RUN => {
+            let (count, room) = (rest.u32()?, rest.u16()?.into());
+            let state = rest.state()?;
+            let list = rest.list()?;
+            let ran = table.and_then(|t| run(&t, count, room, &state, list));
+            Some(("run", ran.and_then(|r| Ok(run_lines(edition?, &r)))))
+        }
+        BOUND => {
+            let (bi, bc) = (rest.u8()?, rest.u8()?);
+            let told =
+                table.and_then(|t| Ok(format!("edition {} {}\n", t[EDITION], bound(&t, bi, bc)?)));
+            Some(("bound", told))
+        }
+        _ => None,
+    }
+}
+
+fn build_lines(edition: u16, built: &Built) -> String {
+    let count = built.commands.len();
+    let mut out = format!("edition {edition} commands {count}\n");
+    out.push_str(&command_lines(&built.commands));
+    for (number, cycle) in built.finishes.iter().enumerate() {
+        out.push_str(&format!("finish {number} {cycle}\n"));
+    }
+    out
+}
+
+fn run_lines(edition: u16, run: &Run) -> String {
+    let (count, cycles) = (run.commands.len(), run.cycles);
+    let mut out = format!("edition {edition} commands {count} cycles {cycles}\n");
+    out.push_str(&command_lines(&run.commands));
+    let s = &run.state;
+    let mut numbers = vec![s.edition.into(), s.cycle, s.acts, s.datas];
+    for bank in &s.banks {
+        numbers.extend([bank.opened.into(), bank.act, bank.rd, bank.wr]);
+    }
+    numbers.extend(s.last);
+    numbers.extend([s.rd, s.wr]);
+    let words: Vec<String> = numbers.iter().map(u32::to_string).collect();
+    out + &words.join(" ") + "\n"
+}
+
+fn command_lines(commands: &[Command]) -> String {
+    let line = |c: &Command| {
+        let kind = ["ACT", "RD", "RDA", "WR", "WRA"][usize::from(c.kind)];
+        format!("{} {kind} {} {}\n", c.cycle, c.bank, c.transaction)
+    };
+    commands.iter().map(line).collect()
+}
+
+#[cfg(test)]
+mod tests {
+    use super::*;
+    use crate::house::*;
+
+    /// What the paper prints for example 3.
+    #[test]
+    fn the_listing() {
+        let head = [&[BUILD][..], &bytes_of(&TABLE_A), &[32, 0, 2, 0, 8, 0]].concat();
+        let lists = lines(&[&head[..], &[1, 0, 1, 1, 0, 0, 1, 1]].concat());
+        let told = "build edition 7 commands 4\n0 ACT 0 0\n10 WRA 0 0\n44 ACT 0 1\n54 RDA 0 1\nfinish 0 10\nfinish 1 54\n";
+        assert_eq!(lists, told);
+        assert_eq!(lines(&head), "case\n");
+        assert_eq!(lines(&[&[4], &head[..]].concat()), "case\n");
+    }
+
+    #[test]
+    fn every_refusal() {
+        let input = cases();
+        assert!(input.len() < 65_000);
+        let told = lines(&input);
+        assert!(told.ends_with("\ncase\n"));
+        for (name, numbers) in [
+            ("build", &[1, 2, 3, 4, 5, 6][..]),
+            ("run", &[1, 2, 3, 4, 5, 9]),
+            ("bound", &[1, 2, 4]),
+        ] {
+            for number in 1..=9 {
+                let start = format!("\n{name} refused {number} at ");
+                assert_eq!(told.contains(&start), numbers.contains(&number), "{start}");
+            }
+        }
+    }
+}

@@ -1,0 +1,231 @@
+//! The cases themselves: builds and bounds under every table, runs cut at every count, and rooms and lists one off.
+
+use super::states::*;
+use super::*;
+use crate::house::*;
+use crate::records::{Table, BANKS, CCD, LAST};
+
+pub struct Cases(Vec<u8>);
+
+impl Cases {
+    fn head(&mut self, call: u8, table: &Table) {
+        self.0.push(call);
+        self.0.extend(bytes_of(table));
+    }
+
+    fn list(&mut self, list: &[u8]) {
+        let n: u16 = list.len().try_into().expect("a list has a 16-bit size");
+        self.0.extend(n.to_le_bytes());
+        self.0.extend_from_slice(list);
+    }
+
+    fn build(&mut self, table: &Table, room: usize, slots: usize, list: &[u8]) {
+        self.head(BUILD, table);
+        self.0.extend((room as u16).to_le_bytes());
+        self.0.extend((slots as u16).to_le_bytes());
+        self.list(list);
+    }
+
+    /// With the room and the slots that are just enough.
+    fn build_all(&mut self, table: &Table, list: &[[u8; 4]]) {
+        self.build(table, room_for(list), list.len(), &list.concat());
+    }
+
+    pub fn run(&mut self, table: &Table, count: u32, room: usize, state: &State, list: &[u8]) {
+        self.head(RUN, table);
+        self.0.extend(count.to_le_bytes());
+        self.0.extend((room as u16).to_le_bytes());
+        self.0.extend(bytes_of_state(state));
+        self.list(list);
+    }
+
+    fn bound(&mut self, table: &Table, bi: u8, bc: u8) {
+        self.head(BOUND, table);
+        self.0.extend([bi, bc]);
+    }
+}
+
+/// 8 bytes for each ACT and each data command.
+pub fn room_for(list: &[[u8; 4]]) -> usize {
+    let due = |x: &[u8; 4]| usize::from(x[2]) * (1 + usize::from(x[3]));
+    8 * list.iter().map(due).sum::<usize>()
+}
+
+pub fn cases() -> Vec<u8> {
+    let mut cases = Cases(Vec::new());
+    let mut numbers = Numbers(5);
+    worked(&mut cases);
+    builds(&mut cases, &mut numbers);
+    largest(&mut cases);
+    rooms(&mut cases);
+    lists(&mut cases);
+    cuts(&mut cases);
+    hand_made(&mut cases);
+    any_states(&mut cases, &mut numbers);
+    bounds(&mut cases);
+    refused_tables(&mut cases);
+    // At the end a case that is cut short.
+    cases.run(&TABLE_A, 1, 8, &State::fresh(&TABLE_A), &[0, 0, 1, 1]);
+    cases.0.pop();
+    cases.0
+}
+
+fn worked(cases: &mut Cases) {
+    let lists: [&[[u8; 4]]; 10] = [
+        &[],
+        &[[0, 0, 1, 1]],
+        &[[0, 0, 1, 1], [0, 0, 1, 1]],
+        &[[1, 0, 1, 1], [0, 0, 1, 1]],
+        &[[0, 0, 1, 1], [1, 1, 1, 1]],
+        &[[1, 0, 1, 1], [0, 1, 1, 1]],
+        &[[0, 0, 4, 2]],
+        &[[0, 0, 5, 1]],
+        &[[0, 7, 1, 1]],
+        &[[0, 7, 2, 1]],
+    ];
+    for list in lists {
+        cases.build_all(&TABLE_A, list);
+    }
+    for (bi, bc) in [(1, 1), (2, 1), (1, 4), (4, 2), (5, 1), (8, 1)] {
+        cases.bound(&TABLE_A, bi, bc);
+    }
+}
+
+/// A list of so many transactions, of few banks and bursts each.
+pub fn any_list(table: &Table, size: usize, numbers: &mut Numbers) -> Vec<[u8; 4]> {
+    let banks = usize::from(table[BANKS]);
+    let mut one = || {
+        let bi = 1 + numbers.below(banks.min(5));
+        let start = numbers.below(banks + 1 - bi);
+        let kind = numbers.byte() % 2;
+        [kind, start as u8, bi as u8, 1 + numbers.byte() % 3]
+    };
+    (0..size).map(|_| one()).collect()
+}
+
+fn builds(cases: &mut Cases, numbers: &mut Numbers) {
+    let house = [TABLE_A, TABLE_B, TABLE_C, LEAST, GREATEST];
+    for table in house.iter().chain(&ODD) {
+        for size in [2, 5] {
+            let list = any_list(table, size, numbers);
+            cases.build_all(table, &list);
+        }
+    }
+    for table in [TABLE_A, LEAST, GREATEST] {
+        let banks = table[BANKS] as u8;
+        cases.build_all(&table, &[[1, 0, banks, 16], [0, 0, banks, 1]]);
+    }
+}
+
+/// 8191 commands, which fill the greatest room that a case can name; and as many as there can be, for which no case has room.
+fn largest(cases: &mut Cases) {
+    let mut list = vec![[0, 0, 16, 16]; 30];
+    list.iter_mut().step_by(3).for_each(|x| x[0] = 1);
+    list.extend([[0, 0, 1, 16], [1, 5, 1, 13]]);
+    let room = room_for(&list);
+    assert_eq!(room, 65_528);
+    let bytes = list.concat();
+    cases.build(&LEAST, room, list.len(), &bytes);
+    cases.build(&LEAST, room - 1, list.len(), &bytes);
+    cases.build(&LEAST, 65_535, 256, &[0, 0, 16, 16].repeat(256));
+    for size in [256, 257] {
+        let list: Vec<u8> = (0..size)
+            .flat_map(|i| [i as u8 % 2, i as u8 % 8, 1, 1])
+            .collect();
+        cases.build(&TABLE_A, 65_535, 300, &list);
+    }
+}
+
+fn rooms(cases: &mut Cases) {
+    let list = [[0, 0, 2, 2], [1, 1, 1, 1]];
+    let (room, bytes) = (room_for(&list), list.concat());
+    for room in [0, 8, room - 8, room - 1, room, room + 1, 65_535] {
+        for slots in [0, 1, 2, 65_535] {
+            cases.build(&TABLE_A, room, slots, &bytes);
+        }
+    }
+    cases.build(&TABLE_A, 0, 0, &[]);
+    cases.build(&TABLE_A, 65_535, 65_535, &[]);
+}
+
+/// Sizes that are no multiple of 4, and transactions out of range, of which the lowest is named.
+fn lists(cases: &mut Cases) {
+    for size in [1, 2, 3, 5, 6, 7] {
+        cases.build(&TABLE_A, 0, 0, &[255; 7][..size]);
+    }
+    let faults = [
+        [2, 0, 1, 1],
+        [255, 0, 1, 1],
+        [0, 8, 1, 1],
+        [0, 7, 2, 1],
+        [1, 0, 9, 1],
+        [1, 255, 1, 1],
+        [1, 255, 255, 1],
+        [0, 0, 0, 1],
+        [0, 0, 1, 0],
+        [0, 0, 1, 17],
+        [0, 0, 17, 1],
+    ];
+    for (i, fault) in faults.into_iter().enumerate() {
+        let mut list = [[0, 7, 1, 1]; 4];
+        list[i % 4] = fault;
+        list[3] = if i % 2 == 0 { fault } else { list[3] };
+        cases.build(&TABLE_A, 65_535, 4, &list.concat());
+        cases.build(&TABLE_A, 0, 0, &list.concat());
+    }
+    cases.build(&ODD[0], 65_535, 1, &[0, 0, 1, 16]);
+    cases.build(&ODD[0], 65_535, 1, &[0, 1, 1, 1]);
+    cases.build(&LEAST, 65_535, 1, &[0, 15, 1, 1]);
+    cases.build(&LEAST, 65_535, 1, &[0, 15, 2, 1]);
+}
+
+/// Two lists, run to every count from 1 to the end and on from there.
+fn cuts(cases: &mut Cases) {
+    let small = [20, 3, 2, 2, 3, 3, 5, 7, 2, 9, 3, 2, 2, 2, 2, 0];
+    for (table, list) in [
+        (TABLE_A, [[0, 0, 1, 1], [1, 1, 1, 1]]),
+        (small, [[1, 0, 2, 2], [0, 1, 2, 1]]),
+    ] {
+        let (room, bytes) = (room_for(&list), list.concat());
+        let fresh = State::fresh(&table);
+        let whole = run(&table, u32::MAX, room, &fresh, &bytes).expect("the list is accepted");
+        for count in 1..=whole.cycles {
+            let first = run(&table, count, room, &fresh, &bytes).expect("the list is accepted");
+            cases.run(&table, count, room, &fresh, &bytes);
+            let left = room - 8 * first.commands.len();
+            cases.run(&table, u32::MAX - count, left, &first.state, &bytes);
+        }
+    }
+}
+
+fn bounds(cases: &mut Cases) {
+    for table in [TABLE_B, TABLE_C, LEAST, GREATEST].iter().chain(&ODD) {
+        for (bi, bc) in [(1, 1), (table[BANKS] as u8, 16), (3, 2)] {
+            cases.bound(table, bi, bc);
+        }
+    }
+    for bi in [0, 1, 8, 9, 16, 17, 255] {
+        for bc in [0, 1, 16, 17, 255] {
+            cases.bound(&TABLE_A, bi, bc);
+        }
+    }
+    cases.bound(&LEAST, 17, 1);
+}
+
+/// The table is refused before anything else is looked at.
+fn refused_tables(cases: &mut Cases) {
+    for table in [
+        with(&[(LAST, 1), (BANKS, 0)]),
+        with(&[(CCD, 1)]),
+        with(&[(BANKS, 17)]),
+        with(&[(EDITION, 0)]),
+    ] {
+        cases.build(&table, 0, 0, &[1]);
+        cases.build(&table, 65_535, 1, &[0, 0, 1, 1]);
+        cases.bound(&table, 0, 0);
+        cases.bound(&table, 1, 1);
+    }
+    for table in [with(&[(LAST, 1)]), with(&[(FAW, 0)])] {
+        cases.run(&table, 1, 0, &State::fresh(&table), &[0, 0, 1, 1]);
+    }
+}

@@ -1,0 +1,175 @@
+//! The two queues, the cycle rule tried against all earlier records, the build and the bound.
+
+mod state;
+
+pub use state::{run, Bank, Run, State, NEVER};
+
+use crate::records::*;
+use crate::rules::{first_broken, Record, Times, ACT, RD, RDA, WR, WRA};
+
+/// "At most 256 transactions."
+const MOST_TRANSACTIONS: usize = 256;
+
+fn refused<T>(table: &Table, number: u8, position: u32) -> Result<T, Refusal> {
+    Err(Refusal {
+        number,
+        position,
+        edition: table[EDITION],
+    })
+}
+
+/// Numbers 3 and 4.
+pub fn read_list(table: &Table, bytes: &[u8]) -> Result<Vec<Transaction>, Refusal> {
+    if !bytes.len().is_multiple_of(4) || bytes.len() / 4 > MOST_TRANSACTIONS {
+        return refused(table, 3, 0);
+    }
+    let list: Vec<Transaction> = bytes
+        .chunks_exact(4)
+        .map(|x| Transaction {
+            kind: x[0],
+            start: x[1],
+            bi: x[2],
+            bc: x[3],
+        })
+        .collect();
+    match list.iter().position(|x| !in_range(x, table[BANKS])) {
+        Some(place) => refused(table, 4, place as u32),
+        None => Ok(list),
+    }
+}
+
+/// A command that waits in a queue.
+#[derive(Debug, Clone, Copy)]
+struct Waiting {
+    kind: u8,
+    bank: u8,
+    transaction: u16,
+    /// The place of its bank's ACT in the ACT queue.
+    act: usize,
+}
+
+impl Waiting {
+    fn at(&self, cycle: u32) -> Command {
+        Command {
+            cycle,
+            kind: self.kind,
+            bank: self.bank,
+            transaction: self.transaction,
+        }
+    }
+}
+
+/// Both queues as they stand before anything has left.
+struct Queues {
+    acts: Vec<Waiting>,
+    datas: Vec<Waiting>,
+}
+
+impl Queues {
+    fn of(list: &[Transaction]) -> Queues {
+        let mut acts = Vec::new();
+        let mut datas = Vec::new();
+        for (transaction, x) in list.iter().enumerate() {
+            let (open, closing) = if x.kind == 0 { (RD, RDA) } else { (WR, WRA) };
+            for bank in x.start..x.start + x.bi {
+                let waits = |kind| Waiting {
+                    kind,
+                    bank,
+                    transaction: transaction as u16,
+                    act: acts.len(),
+                };
+                datas.extend((1..x.bc).map(|_| waits(open)));
+                datas.push(waits(closing));
+                acts.push(waits(ACT));
+            }
+        }
+        Queues { acts, datas }
+    }
+}
+
+pub struct Built {
+    pub commands: Vec<Command>,
+    /// One for each transaction.
+    pub finishes: Vec<u32>,
+}
+
+/// Room in bytes, and the finishing slice's length.
+pub fn build(table: &Table, room: usize, slots: usize, bytes: &[u8]) -> Result<Built, Refusal> {
+    let list = read_list(table, bytes)?;
+    let queues = Queues::of(&list);
+    let due = queues.acts.len() + queues.datas.len();
+    if room < 8 * due {
+        return refused(table, 5, 0);
+    }
+    if slots < list.len() {
+        return refused(table, 6, 0);
+    }
+    let commands = from_fresh_start(table, &queues);
+    let finishes = (0..list.len())
+        .map(|number| {
+            let of_it = |c: &&Command| c.kind != ACT && usize::from(c.transaction) == number;
+            let last = commands.iter().rfind(of_it);
+            last.expect("each transaction has a data command").cycle
+        })
+        .collect();
+    Ok(Built { commands, finishes })
+}
+
+/// Every cycle from 0 is tried, each head against all records that have gone.
+fn from_fresh_start(table: &Table, queues: &Queues) -> Vec<Command> {
+    let mut gone: Vec<Record> = Vec::new();
+    let mut commands = Vec::new();
+    let (mut acts, mut datas) = (0, 0);
+    let mut cycle = 0;
+    while acts < queues.acts.len() || datas < queues.datas.len() {
+        let as_record = |w: &Waiting| Record {
+            cycle: u64::from(cycle),
+            kind: w.kind,
+            bank: w.bank,
+        };
+        let goes = |w: &&Waiting| first_broken(table, &gone, &as_record(w)).is_none();
+        let data = queues.datas.get(datas).filter(|w| w.act < acts);
+        let next = data
+            .filter(goes)
+            .or_else(|| queues.acts.get(acts).filter(goes));
+        if let Some(w) = next {
+            if w.kind == ACT {
+                acts += 1;
+            } else {
+                datas += 1;
+            }
+            commands.push(w.at(cycle));
+            gone.push(as_record(w));
+        }
+        cycle += 1;
+    }
+    commands
+}
+
+pub fn bound(table: &Table, bi: u8, bc: u8) -> Result<u64, Refusal> {
+    let counts = (1..=16).contains(&bi) && (1..=16).contains(&bc);
+    if !counts || u16::from(bi) > table[BANKS] {
+        return refused(table, 4, 0);
+    }
+    let t = Times::of(table);
+    let (bi, bc) = (u64::from(bi), u64::from(bc));
+    let n = bi * bc;
+    let s = [
+        1,
+        t.ras.saturating_sub(t.rcd) + t.rp,
+        t.rc.saturating_sub(t.rcd),
+        t.rtp + t.rp,
+        t.wl + t.b + t.wr + t.rp,
+        t.rrd.saturating_sub(t.rcd),
+        t.faw.saturating_sub(t.rcd),
+    ]
+    .into_iter()
+    .fold(0, u64::max);
+    let d = t.rrd.max(t.faw.div_ceil(4));
+    let x = t
+        .ccd
+        .max(t.distance(true, false))
+        .max(t.distance(false, true));
+    let banks_opened = (bi - 1) * (d + 1) + (bc - 1) * t.ccd;
+    Ok((x + (n - 1) * t.ccd).max(s + t.rcd + ((n - 1) * t.ccd).max(banks_opened)))
+}

@@ -1,0 +1,178 @@
+//! "Running a few cycles": the cycle rule by what a state tells.
+
+use super::{read_list, refused, Queues, Waiting};
+use crate::records::{Command, Refusal, Table, BANKS, EDITION};
+use crate::rules::{Times, ACT, RD, RDA, WR};
+
+/// A stored cycle of this value stands for "never".
+pub const NEVER: u32 = u32::MAX;
+
+/// A run stops here.
+const LAST_CYCLE: u32 = 100_000_000;
+
+#[derive(Debug, Clone, Copy, PartialEq, Eq)]
+pub struct Bank {
+    /// Open unless 0.
+    pub opened: u8,
+    pub act: u32,
+    /// Since that ACT.
+    pub rd: u32,
+    pub wr: u32,
+}
+
+#[derive(Debug, Clone, PartialEq, Eq)]
+pub struct State {
+    pub edition: u16,
+    /// The next to be tried.
+    pub cycle: u32,
+    /// How many commands have left each queue.
+    pub acts: u32,
+    pub datas: u32,
+    pub banks: [Bank; 16],
+    /// Newest first.
+    pub last: [u32; 4],
+    pub rd: u32,
+    pub wr: u32,
+}
+
+/// Whether a command may go at the cycle if the stored one must be so far before it.
+fn far(stored: u32, distance: u64, cycle: u32) -> bool {
+    stored == NEVER || u64::from(stored) + distance <= u64::from(cycle)
+}
+
+impl State {
+    pub fn fresh(table: &Table) -> State {
+        let closed = Bank {
+            opened: 0,
+            act: NEVER,
+            rd: NEVER,
+            wr: NEVER,
+        };
+        State {
+            edition: table[EDITION],
+            cycle: 0,
+            acts: 0,
+            datas: 0,
+            banks: [closed; 16],
+            last: [NEVER; 4],
+            rd: NEVER,
+            wr: NEVER,
+        }
+    }
+
+    fn act_goes(&self, t: &Times, w: &Waiting) -> bool {
+        let bank = &self.banks[usize::from(w.bank)];
+        let precharged = far(bank.act, t.ras + t.rp, self.cycle)
+            && far(bank.rd, t.rtp + t.rp, self.cycle)
+            && far(bank.wr, t.wl + t.b + t.wr + t.rp, self.cycle);
+        bank.opened == 0
+            && precharged
+            && far(bank.act, t.rc, self.cycle)
+            && far(self.last[0], t.rrd, self.cycle)
+            && far(self.last[3], t.faw, self.cycle)
+    }
+
+    fn data_goes(&self, t: &Times, w: &Waiting) -> bool {
+        let bank = &self.banks[usize::from(w.bank)];
+        let reads = w.kind == RD || w.kind == RDA;
+        bank.opened != 0
+            && far(bank.act, t.rcd, self.cycle)
+            && far(self.rd, t.distance(true, reads), self.cycle)
+            && far(self.wr, t.distance(false, reads), self.cycle)
+    }
+
+    fn note(&mut self, w: &Waiting) {
+        let bank = &mut self.banks[usize::from(w.bank)];
+        bank.opened = (w.kind == ACT || w.kind == RD || w.kind == WR).into();
+        if w.kind == ACT {
+            bank.act = self.cycle;
+            bank.rd = NEVER;
+            bank.wr = NEVER;
+            self.last.rotate_right(1);
+            self.last[0] = self.cycle;
+            self.acts += 1;
+        } else {
+            let (of_bank, of_all) = if w.kind == RD || w.kind == RDA {
+                (&mut bank.rd, &mut self.rd)
+            } else {
+                (&mut bank.wr, &mut self.wr)
+            };
+            *of_bank = self.cycle;
+            *of_all = self.cycle;
+            self.datas += 1;
+        }
+    }
+
+    /// One step of the cycle rule.
+    fn step(&mut self, t: &Times, queues: &Queues) -> Option<Command> {
+        let data = queues.datas.get(self.datas as usize);
+        let data = data.filter(|w| w.act < self.acts as usize && self.data_goes(t, w));
+        let act = queues.acts.get(self.acts as usize);
+        let next = data.or_else(|| act.filter(|w| self.act_goes(t, w)));
+        let gone = next.map(|w| w.at(self.cycle));
+        if let Some(w) = next {
+            self.note(w);
+        }
+        self.cycle += 1;
+        gone
+    }
+
+    fn served(&self, queues: &Queues) -> bool {
+        self.acts as usize == queues.acts.len() && self.datas as usize == queues.datas.len()
+    }
+
+    /// Number 9.
+    fn refused(&self, table: &Table, queues: &Queues) -> bool {
+        let banks = &self.banks[..usize::from(table[BANKS])];
+        let of_banks = banks.iter().flat_map(|bank| [bank.act, bank.rd, bank.wr]);
+        let mut stored = of_banks.chain(self.last).chain([self.rd, self.wr]);
+        let (acts, datas) = (self.acts as usize, self.datas as usize);
+        self.cycle >= LAST_CYCLE
+            || self.edition != table[EDITION]
+            || stored.any(|cycle| cycle != NEVER && cycle >= self.cycle)
+            || acts > queues.acts.len()
+            || datas > queues.datas.len()
+            || queues.datas[..datas].iter().any(|w| w.act >= acts)
+    }
+}
+
+#[derive(Debug, Clone, PartialEq, Eq)]
+pub struct Run {
+    pub commands: Vec<Command>,
+    /// The steps that the cycle rule took.
+    pub cycles: u32,
+    pub state: State,
+}
+
+/// Numbers 3, 4, 5 and 9, and then the run. Room in bytes.
+pub fn run(
+    table: &Table,
+    count: u32,
+    room: usize,
+    state: &State,
+    bytes: &[u8],
+) -> Result<Run, Refusal> {
+    let list = read_list(table, bytes)?;
+    let queues = Queues::of(&list);
+    let acts_left = queues.acts.len().saturating_sub(state.acts as usize);
+    let datas_left = queues.datas.len().saturating_sub(state.datas as usize);
+    if room < 8 * (acts_left + datas_left).min(count as usize) {
+        return refused(table, 5, 0);
+    }
+    if state.refused(table, &queues) {
+        return refused(table, 9, 0);
+    }
+    let times = Times::of(table);
+    let mut state = state.clone();
+    let mut commands = Vec::new();
+    let mut cycles = 0;
+    while cycles < count && !state.served(&queues) && state.cycle < LAST_CYCLE {
+        commands.extend(state.step(&times, &queues));
+        cycles += 1;
+    }
+    Ok(Run {
+        commands,
+        cycles,
+        state,
+    })
+}

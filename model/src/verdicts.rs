@@ -1,0 +1,169 @@
+//! The cases of the program `verdicts`, and the line of each.
+//!
+//! A case is `[call][table: 32 bytes][length: u32][n: u16][n bytes]`. Call 1 judges the bytes as a schedule and has no use for the
+//! length, call 2 judges them as a pattern of that length.
+
+mod broken;
+mod cases;
+mod search;
+
+pub use cases::cases;
+
+use crate::records::{read_table, Refusal, EDITION};
+use crate::rules::*;
+
+const JUDGE: u8 = 1;
+const JUDGE_PATTERN: u8 = 2;
+
+struct Case<'a> {
+    call: u8,
+    table: &'a [u8],
+    length: u32,
+    bytes: &'a [u8],
+}
+
+pub fn lines(input: &[u8]) -> String {
+    let mut out = String::new();
+    let mut rest = input;
+    while !rest.is_empty() {
+        let Some((case, after)) = first_case(rest) else {
+            out.push_str("case\n");
+            break;
+        };
+        out.push_str(&line(&case));
+        out.push('\n');
+        rest = after;
+    }
+    out
+}
+
+/// The first case and what follows it, unless the input is cut short within the case.
+fn first_case(input: &[u8]) -> Option<(Case<'_>, &[u8])> {
+    let (call, rest) = input.split_first()?;
+    let (table, rest) = rest.split_at_checked(32)?;
+    let (length, rest) = rest.split_first_chunk()?;
+    let (n, rest) = rest.split_first_chunk()?;
+    let (bytes, after) = rest.split_at_checked(u16::from_le_bytes(*n).into())?;
+    let case = Case {
+        call: *call,
+        table,
+        length: u32::from_le_bytes(*length),
+        bytes,
+    };
+    Some((case, after))
+}
+
+fn line(case: &Case) -> String {
+    match case.call {
+        JUDGE => told("judge", schedule_line(case)),
+        JUDGE_PATTERN => told("pattern", pattern_line(case)),
+        _ => "case".to_string(),
+    }
+}
+
+fn schedule_line(case: &Case) -> Result<String, Refusal> {
+    let table = read_table(case.table)?;
+    let verdict = match judge(&table, case.bytes)? {
+        Verdict::Accepted => "accepted".to_string(),
+        Verdict::Broken { rule, record } => format!("rule {rule} record {record}"),
+    };
+    Ok(format!("edition {} {verdict}", table[EDITION]))
+}
+
+fn pattern_line(case: &Case) -> Result<String, Refusal> {
+    let table = read_table(case.table)?;
+    let verdict = match judge_pattern(&table, case.bytes, case.length)? {
+        PatternVerdict::Accepted => "accepted".to_string(),
+        PatternVerdict::Broken { rule, copy, record } => {
+            format!("rule {rule} copy {copy} record {record}")
+        }
+    };
+    Ok(format!("edition {} {verdict}", table[EDITION]))
+}
+
+fn told(name: &str, answer: Result<String, Refusal>) -> String {
+    match answer {
+        Ok(line) => format!("{name} {line}"),
+        Err(r) => format!("{name} {r}"),
+    }
+}
+
+#[cfg(test)]
+mod tests {
+    use super::*;
+    use std::collections::BTreeSet;
+
+    /// Each case with its line.
+    fn all() -> Vec<(u8, usize, String)> {
+        let input = cases();
+        assert!(input.len() < 65_000);
+        let mut all = Vec::new();
+        let mut rest = &input[..];
+        while let Some((case, after)) = first_case(rest) {
+            all.push((case.call, case.bytes.len() / 8, line(&case)));
+            rest = after;
+        }
+        assert_eq!(lines(rest), "case\n");
+        all
+    }
+
+    /// The numbers in a line's words, the edition left out.
+    fn figures(line: &str) -> Vec<usize> {
+        line.split(' ')
+            .filter_map(|w| w.parse().ok())
+            .skip(1)
+            .collect()
+    }
+
+    #[test]
+    fn every_rule_at_every_place() {
+        let mut seen = BTreeSet::new();
+        for (_, count, line) in all().iter().filter(|(call, ..)| *call == JUDGE) {
+            if let [rule, record] = figures(line)[..] {
+                if line.contains("rule") {
+                    seen.insert((rule, "at", record));
+                    seen.insert((rule, "last", usize::from(record + 1 == *count)));
+                    seen.insert((
+                        rule,
+                        "middle",
+                        usize::from(record > 0 && record + 1 < *count),
+                    ));
+                }
+            }
+        }
+        // The first record that can break each rule.
+        let firsts = [
+            (1, 0),
+            (2, 1),
+            (3, 0),
+            (4, 2),
+            (5, 2),
+            (6, 1),
+            (7, 4),
+            (8, 1),
+            (9, 2),
+        ];
+        for (rule, first) in firsts {
+            assert!(seen.contains(&(rule, "at", first)), "rule {rule} first");
+            assert!(seen.contains(&(rule, "last", 1)), "rule {rule} last");
+            assert!(seen.contains(&(rule, "middle", 1)), "rule {rule} middle");
+        }
+        assert!(seen.contains(&(10, "at", 1)));
+    }
+
+    /// After the second copy only rule 7 is left: in the third with two or three ACTs in a copy, in the fifth with one.
+    #[test]
+    fn every_rule_in_every_copy() {
+        let mut seen = BTreeSet::new();
+        for (_, count, line) in all().iter().filter(|(call, ..)| *call == JUDGE_PATTERN) {
+            if let [rule, copy, _] = figures(line)[..] {
+                seen.insert((copy, rule));
+                assert!(copy == 1 || *count > 1);
+            }
+        }
+        let first = (1..=10).map(|rule| (1, rule));
+        let second = [2, 4, 5, 6, 7, 9].map(|rule| (2, rule));
+        let later = [(3, 7), (5, 7)];
+        assert!(seen.into_iter().eq(first.chain(second).chain(later)));
+    }
+}

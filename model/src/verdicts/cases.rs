@@ -1,0 +1,218 @@
+//! The cases themselves: the worked examples, built schedules, each rule at each place, the ends of every range, and sizes one off.
+
+use super::broken::*;
+use super::search::*;
+use super::*;
+use crate::house::*;
+use crate::records::{Table, BANKS, CCD, LAST};
+use crate::scheduler::build;
+
+const TOP: u64 = u32::MAX as u64;
+
+pub struct Cases(Vec<u8>);
+
+impl Cases {
+    fn put(&mut self, call: u8, table: &Table, length: u32, bytes: &[u8]) {
+        self.0.push(call);
+        self.0.extend(bytes_of(table));
+        self.0.extend(length.to_le_bytes());
+        let n: u16 = bytes.len().try_into().expect("a case has a 16-bit size");
+        self.0.extend(n.to_le_bytes());
+        self.0.extend_from_slice(bytes);
+    }
+
+    pub fn schedule(&mut self, table: &Table, records: &[(u32, u8, u8)]) {
+        self.put(JUDGE, table, 0, &bytes_of_some(records));
+    }
+
+    pub fn pattern(&mut self, table: &Table, records: &[(u32, u8, u8)], length: u32) {
+        self.put(JUDGE_PATTERN, table, length, &bytes_of_some(records));
+    }
+}
+
+/// The transaction number, which the judge doesn't look at, differs from record to record.
+fn bytes_of_some(records: &[(u32, u8, u8)]) -> Vec<u8> {
+    let bytes = |(&(cycle, kind, bank), number)| command(cycle, kind, bank, number);
+    records
+        .iter()
+        .zip((0..=65535).rev())
+        .flat_map(bytes)
+        .collect()
+}
+
+fn built(table: &Table, list: &[[u8; 4]]) -> Vec<u8> {
+    let built = build(table, 1 << 20, 256, &list.concat()).expect("the list is accepted");
+    bytes_of_all(&built.commands)
+}
+
+pub fn cases() -> Vec<u8> {
+    let mut cases = Cases(Vec::new());
+    let mut numbers = Numbers(11);
+    worked(&mut cases);
+    legal(&mut cases);
+    first_rules(&mut cases);
+    later_rules(&mut cases);
+    left_open(&mut cases);
+    two_records(&mut cases);
+    for (table, place, records) in too_early(&mut numbers) {
+        let bytes = bytes_of_records(&records);
+        cases.put(JUDGE, &table, 0, &bytes);
+        let rule = first_broken(&table, &records[..place], &records[place]);
+        if rule == Some(5) || rule == Some(7) {
+            cases.put(JUDGE_PATTERN, &table, 4000, &bytes);
+        }
+        if ODD.contains(&table) {
+            at_the_top(&mut cases, &table, &records[..=place]);
+        }
+    }
+    for (table, records) in broken_sets(&mut numbers) {
+        cases.put(JUDGE, &table, 0, &bytes_of_records(&records));
+    }
+    for (table, records, length) in patterns(&mut numbers) {
+        cases.put(JUDGE_PATTERN, &table, length, &bytes_of_records(&records));
+    }
+    top_patterns(&mut cases);
+    sizes(&mut cases);
+    refused_tables(&mut cases);
+    not_cases(&mut cases);
+    cases.0
+}
+
+pub const EXAMPLE_1: [(u32, u8, u8); 2] = [(0, ACT, 0), (10, RDA, 0)];
+
+fn worked(cases: &mut Cases) {
+    let five = built(&TABLE_A, &[[0, 0, 4, 2]]);
+    for length in [1, 37, 38, 39, u32::MAX] {
+        cases.pattern(&TABLE_A, &EXAMPLE_1, length);
+        cases.pattern(&TABLE_B, &EXAMPLE_1, length);
+        cases.put(JUDGE_PATTERN, &TABLE_A, length, &five);
+    }
+    for act in [43, 44] {
+        let start = [(0, ACT, 0), (10, WR, 0), (28, RDA, 0)];
+        let whole = [&start[..], &[(act, ACT, 0), (act + 10, RDA, 0)]].concat();
+        cases.schedule(&TABLE_C, &whole);
+        cases.pattern(&TABLE_C, &whole, 200);
+    }
+}
+
+fn legal(cases: &mut Cases) {
+    let lists: [&[[u8; 4]]; 8] = [
+        &[],
+        &[[0, 0, 1, 1]],
+        &[[0, 0, 1, 1], [0, 0, 1, 1]],
+        &[[1, 0, 1, 1], [0, 0, 1, 1]],
+        &[[0, 0, 1, 1], [1, 1, 1, 1]],
+        &[[0, 0, 4, 2]],
+        &[[0, 0, 5, 1]],
+        &[[1, 2, 3, 2], [0, 1, 2, 3], [1, 0, 5, 1]],
+    ];
+    for list in lists {
+        cases.put(JUDGE, &TABLE_A, 0, &built(&TABLE_A, list));
+        cases.put(JUDGE, &TABLE_B, 1, &built(&TABLE_B, list));
+    }
+    for table in ODD.iter().chain(&[LEAST, GREATEST]) {
+        let banks = table[BANKS].min(5) as u8;
+        let list = [[0, 0, banks, 1], [1, 0, 1, 3], [0, banks - 1, 1, 2]];
+        cases.put(JUDGE, table, u32::MAX, &built(table, &list));
+        cases.put(JUDGE_PATTERN, table, 4000, &built(table, &list));
+    }
+    let long = built(&LEAST, &[[1, 0, 16, 16], [0, 0, 16, 16], [0, 3, 9, 7]]);
+    cases.put(JUDGE, &LEAST, 0, &long);
+    cases.put(JUDGE_PATTERN, &LEAST, 3000, &long[long.len() - 576..]);
+}
+
+/// The records moved so that the last is at the greatest cycle there is, and one before it.
+fn at_the_top(cases: &mut Cases, table: &Table, records: &[Record]) {
+    let by = TOP - records[records.len() - 1].cycle;
+    // A record before the last may be later than it.
+    if records.iter().any(|r| r.cycle + by > TOP) {
+        return;
+    }
+    let moved = |r: &Record| Record {
+        cycle: r.cycle + by,
+        ..*r
+    };
+    let records: Vec<Record> = records.iter().map(moved).collect();
+    cases.put(JUDGE, table, 0, &bytes_of_records(&records));
+}
+
+fn top_patterns(cases: &mut Cases) {
+    for last in [u32::MAX, u32::MAX - 1] {
+        let records = [(last - 10, ACT, 0), (last, RDA, 0)];
+        cases.schedule(&TABLE_A, &records);
+        cases.schedule(&TABLE_A, &[(last - 9, ACT, 0), (last, RDA, 0)]);
+        cases.schedule(&TABLE_A, &[&records[..], &[(0, ACT, 0)]].concat());
+        cases.schedule(&TABLE_A, &[&records[..], &[(last, ACT, 1)]].concat());
+        cases.schedule(
+            &TABLE_A,
+            &[&records[..], &[(28, ACT, 0), (38, RDA, 0)]].concat(),
+        );
+        for length in [1, 10, 11, 37, 38, 39, u32::MAX - 1, u32::MAX] {
+            cases.pattern(&TABLE_A, &records, length);
+            cases.pattern(&TABLE_B, &records, length);
+        }
+    }
+    for bank in [0, 1] {
+        let records = [
+            (0, ACT, 0),
+            (10, RDA, 0),
+            (u32::MAX - 10, ACT, bank),
+            (u32::MAX, RDA, bank),
+        ];
+        for length in [1, u32::MAX - 10, u32::MAX, 37] {
+            cases.pattern(&TABLE_A, &records, length);
+        }
+    }
+}
+
+fn sizes(cases: &mut Cases) {
+    let bytes = bytes_of_some(&[&EXAMPLE_1[..], &[(38, ACT, 0)]].concat());
+    for size in [0, 1, 2, 3, 4, 5, 6, 7, 8, 9, 12, 15, 16, 17, 20, 23, 24] {
+        cases.put(JUDGE, &TABLE_A, 0, &bytes[..size]);
+        for length in [0, 38] {
+            cases.put(JUDGE_PATTERN, &TABLE_A, length, &bytes[..size]);
+        }
+    }
+    for length in [1, u32::MAX] {
+        cases.put(JUDGE_PATTERN, &GREATEST, length, &[]);
+    }
+    cases.put(JUDGE, &GREATEST, 0, &[255; 31]);
+    cases.put(JUDGE, &GREATEST, 0, &[255; 32]);
+}
+
+/// The table is refused before anything else is looked at.
+fn refused_tables(cases: &mut Cases) {
+    let tables = [
+        with(&[(LAST, 1)]),
+        with(&[(LAST, 1), (CCD, 1)]),
+        with(&[(CCD, 1)]),
+        with(&[(CCD, 3)]),
+        with(&[(BANKS, 0)]),
+        with(&[(BANKS, 17)]),
+        with(&[(EDITION, 0)]),
+        with(&[(FAW, 256)]),
+        with(&[(RTP, 0)]),
+        [0; 16],
+        [65535; 16],
+    ];
+    for table in &tables {
+        cases.schedule(table, &EXAMPLE_1);
+        cases.pattern(table, &EXAMPLE_1, 38);
+        cases.put(JUDGE, table, 0, &[0; 9]);
+        cases.put(JUDGE_PATTERN, table, 0, &[0; 9]);
+        cases.put(JUDGE_PATTERN, table, 0, &[]);
+    }
+}
+
+/// Calls that there are not, and at the end a case that is cut short.
+fn not_cases(cases: &mut Cases) {
+    for call in [0, 3, 128, 255] {
+        cases.put(call, &TABLE_A, 38, &bytes_of_some(&EXAMPLE_1));
+        cases.put(call, &[0; 16], 0, &[]);
+    }
+    let whole = cases.0.len();
+    cases.pattern(&TABLE_A, &EXAMPLE_1, 38);
+    let cut = cases.0.len() - 1;
+    assert!(whole < cut);
+    cases.0.truncate(cut);
+}
