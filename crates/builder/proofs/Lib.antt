@@ -1,0 +1,3 @@
+-- The theorems about building and the bound.
+pub mod Laws
+pub mod Unique

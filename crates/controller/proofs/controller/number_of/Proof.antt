@@ -1,0 +1,6 @@
+use borrow.Author.Needs.{needs}
+use Rattle.controller.proofs.controller.number_of.Statement.{statement}
+use Rattle.controller.proofs.controller.number_of.Tie as tie
+
+pub number-of-spec : {M : Type 1} → statement M
+number-of-spec = tie.close (tie.spec (λ c. search needs) (λ c. search needs) (λ c κs. search needs) (λ c. search needs) (λ c. rw (c .before .before .s .given .1) (c .cut .ensures)))

@@ -1,0 +1,6 @@
+use borrow.Author.Needs.{needs}
+use Rattle.controller.proofs.controller.start_of.Statement.{statement}
+use Rattle.controller.proofs.controller.start_of.Tie as tie
+
+pub start-of-spec : {M : Type 1} → statement M
+start-of-spec = tie.close (tie.spec (λ c κs. search needs) (λ c κs. search needs) (λ c. rw (c .before .fresh-of .ensures) at (c .controller-of .ensures)))

@@ -1,0 +1,4 @@
+pub mod Controller
+pub mod Refused
+pub mod Run
+pub mod Promise

@@ -1,0 +1,196 @@
+-- What goes of two heads is what the cycle rule says goes, and what is known of it.
+-- Assumes nothing.
+use Prim.Native.Nat.{ℕ, _+_, _%_, _≤_, _<_}
+use native.Mathlib.Omega.{arith}
+use mathlib.Core.Path.{_≡_, refl, sym, ap, _∙_, subst}
+use mathlib.Core.Bool.{Bool, true, false, not, _&&_}
+use mathlib.Core.Option.{Option, none, some, Option·map}
+use mathlib.Core.List.{List}
+use lib.Dec.{ltb, eqb}
+use Rattle.records.specs.Tests.{pick, allOf}
+use Rattle.records.specs.declared.table.Table.{Table}
+use Rattle.records.specs.declared.transaction.Transaction.{Transaction}
+use Rattle.records.specs.declared.command.Kind.{Kind}
+use Rattle.records.specs.declared.command.Kind.the-variants.{Act, Rd, Rda, Wr, Wra, Other}
+use Rattle.records.specs.declared.command.Command.{Command}
+use Rattle.records.specs.Transaction.{isWrite}
+use Rattle.rules.specs.declared.state.Stamp.{Stamp}
+use Rattle.rules.specs.declared.state.Bank.{Bank}
+use Rattle.rules.specs.declared.state.State.{State}
+use Rattle.rules.specs.Kinds.{isAct, isWr, isData}
+use Rattle.rules.specs.State.{bankOf, dataTests, testsBy, breaksNone}
+use Rattle.rules.specs.Queues.{Due, dueAt, actQueue, dataQueue, headAfter}
+use Rattle.rules.specs.CycleRule.{hadAct, legalAt, otherwise, goes}
+use Rattle.rules.proofs.TestLaws.{true-false, OnSome}
+use Rattle.rules.proofs.Ranges.{ranges}
+use Rattle.rules.proofs.Fit.{AllFit, Inside, place-at, act-bank, data-bank}
+use Rattle.rules.proofs.DataKinds.{is-data, no-act}
+use Rattle.rules.proofs.Queue.{Place, actCount, dataCount, actPlace, dataPlace, actDue, dataDue, act-head, data-head}
+use Rattle.rules.proofs.Heads.{goes-place}
+use Rattle.heads.specs.declared.head.Head.{Head}
+use Rattle.heads.specs.declared.queue.Queues.{Queues}
+use Rattle.heads.specs.Head.{dueOf}
+use Rattle.heads.specs.Queue.{Listed, BothStand}
+use Rattle.heads.proofs.Laws.{first, first-fits}
+use Rattle.engine.specs.declared.choose.Go.{Go}
+use Rattle.engine.specs.declared.choose.Go.the-variants.{Nothing, Goes}
+use Rattle.engine.specs.Choose.{goOf, commandOf, dataFree, actFree, chosen}
+use Rattle.engine.specs.Run.{GoSmall}
+
+-- ---- a head that is tried
+
+module _ (f : Command → Bool) (t : ℕ) (h : Head) where
+  pub tried-act : legalAt f t (dueOf h) ≡ pick (h .there && f (commandOf h t)) (some (commandOf h t)) none
+  tried-act = on (h .there)
+    where
+      on : (x : Bool) → legalAt f t (pick x (some (record { kind = h .kind; bank = h .bank; number = h .number; act = h .act })) none)
+          ≡ pick (x && f (commandOf h t)) (some (commandOf h t)) none
+      on true = refl
+      on false = refl
+
+  pub tried-data : (acts : ℕ) → legalAt f t (hadAct acts (dueOf h)) ≡ pick (h .there && (ltb (h .act) acts && f (commandOf h t))) (some (commandOf h t)) none
+  tried-data acts = on (h .there)
+    where
+      had : (y : Bool) → legalAt f t (pick y (some (record { kind = h .kind; bank = h .bank; number = h .number; act = h .act })) none)
+          ≡ pick (y && f (commandOf h t)) (some (commandOf h t)) none
+      had true = refl
+      had false = refl
+
+      on : (x : Bool) → legalAt f t (hadAct acts (pick x (some (record { kind = h .kind; bank = h .bank; number = h .number; act = h .act })) none))
+          ≡ pick (x && (ltb (h .act) acts && f (commandOf h t))) (some (commandOf h t)) none
+      on true = had (ltb (h .act) acts)
+      on false = refl
+
+-- what is chosen, by the two tests in the order of the code
+module _ (τ : Table) (a d : Head) (ka kd : Bank) (a1 a4 rd wr : Stamp) (acts t : ℕ) where
+  module _ (x : Bool) (p : x ≡ (d .there && (ltb (d .act) acts && dataFree τ kd rd wr (commandOf d t)))) where
+    pub chosen-data : (c : Command) → c ≡ commandOf d t → x ≡ true → some c ≡ chosen τ a d ka kd a1 a4 rd wr acts t
+    chosen-data c e q =
+        ap some e ∙ sym (ap (λ (o : Option Command). otherwise o (legalAt (actFree τ ka a1 a4) t (dueOf a)))
+        (tried-data (dataFree τ kd rd wr) t d acts ∙ ap (λ (y : Bool). pick y (some (commandOf d t)) none) (sym p ∙ q)))
+
+    module _ (q : x ≡ false) (z : Bool) (r : z ≡ (a .there && actFree τ ka a1 a4 (commandOf a t))) where
+      no-data : pick z (some (commandOf a t)) none ≡ chosen τ a d ka kd a1 a4 rd wr acts t
+      no-data =
+          sym (ap (λ (o : Option Command). otherwise o (legalAt (actFree τ ka a1 a4) t (dueOf a)))
+          (tried-data (dataFree τ kd rd wr) t d acts ∙ ap (λ (y : Bool). pick y (some (commandOf d t)) none) (sym p ∙ q))
+          ∙ (tried-act (actFree τ ka a1 a4) t a ∙ ap (λ (y : Bool). pick y (some (commandOf a t)) none) (sym r)))
+
+      pub chosen-act : (c : Command) → c ≡ commandOf a t → z ≡ true → some c ≡ chosen τ a d ka kd a1 a4 rd wr acts t
+      chosen-act c e v = ap some e ∙ (ap (λ (y : Bool). pick y (some (commandOf a t)) none) (sym v) ∙ no-data)
+
+      pub chosen-none : z ≡ false → none ≡ chosen τ a d ka kd a1 a4 rd wr acts t
+      chosen-none v = ap (λ (y : Bool). pick y (some (commandOf a t)) none) (sym v) ∙ no-data
+
+-- ---- by what a state tells
+
+module _ (τ : Table) (s : State) (t : ℕ) where
+  -- the rules of a data command, and of an ACT, are those of its bank and its type
+  data-rules : (k : Kind) (b : ℕ) → isData k ≡ true → testsBy τ s k t b ≡ dataTests τ s (isWr k) t b
+  data-rules Act b e = true-false false e refl
+  data-rules Rd b e = refl
+  data-rules Rda b e = refl
+  data-rules Wr b e = refl
+  data-rules Wra b e = refl
+  data-rules (Other n) b e = true-false false e refl
+
+  abbrev SameLegal : (Command → Bool) → Due → Type 0
+  SameLegal f x = f (dueAt t x) ≡ breaksNone τ s (dueAt t x)
+
+  legal-same : (f : Command → Bool) (o : Option Due) → OnSome (SameLegal f) o → legalAt f t o ≡ legalAt (breaksNone τ s) t o
+  legal-same f none e = refl
+  legal-same f (some x) e = ap (λ (y : Bool). pick y (some (dueAt t x)) none) e
+
+  had-same : (P : Due → Type 0) (acts : ℕ) (o : Option Due) → OnSome P o → OnSome P (hadAct acts o)
+  had-same P acts none u = tt
+  had-same P acts (some x) u = on (ltb (x .act) acts)
+    where
+      on : (y : Bool) → OnSome P (pick y (some x) none)
+      on true = u
+      on false = tt
+
+  -- of what a head stands for
+  of-head : (P Q : Due → Type 0) (x : Bool) (d : Due) → (P d → Q d) → OnSome P (pick x (some d) none) → OnSome Q (pick x (some d) none)
+  of-head P Q true d f u = f u
+  of-head P Q false d f u = tt
+
+  data-legal : (h : Head) → OnSome (λ x. isData (x .kind) ≡ true) (dueOf h) → OnSome (SameLegal (dataFree τ (bankOf s (h .bank)) (s .rd) (s .wr))) (dueOf h)
+  data-legal h u =
+      of-head (λ x. isData (x .kind) ≡ true) (SameLegal (dataFree τ (bankOf s (h .bank)) (s .rd) (s .wr))) (h .there)
+      (record { kind = h .kind; bank = h .bank; number = h .number; act = h .act }) (λ e. sym (ap allOf (data-rules (h .kind) (h .bank) e))) u
+
+  act-legal : (h : Head) → OnSome (λ x. x .kind ≡ Act) (dueOf h) → OnSome (SameLegal (actFree τ (bankOf s (h .bank)) (s .a1) (s .a4))) (dueOf h)
+  act-legal h u =
+      of-head (λ x. x .kind ≡ Act) (SameLegal (actFree τ (bankOf s (h .bank)) (s .a1) (s .a4))) (h .there)
+      (record { kind = h .kind; bank = h .bank; number = h .number; act = h .act }) (λ e. sym (ap (λ (k : Kind). allOf (testsBy τ s k t (h .bank))) e)) u
+
+-- the kinds of what stands in the queues
+data-kinds : (τ : Table) (l : List Transaction) (n : ℕ) → OnSome (λ x. isData (x .kind) ≡ true) (headAfter (dataQueue τ l) n)
+data-kinds τ l n = rw (data-head τ l n) (on (dataPlace l n))
+  where
+    on : (o : Option Place) → OnSome (λ x. isData (x .kind) ≡ true) (Option·map (dataDue τ) o)
+    on none = tt
+    on (some p) = is-data (isWrite (p .transaction)) (eqb (p .offset % p .transaction .bc + 1) (p .transaction .bc))
+
+act-kinds : (τ : Table) (l : List Transaction) (n : ℕ) → OnSome (λ x. x .kind ≡ Act) (headAfter (actQueue τ l) n)
+act-kinds τ l n = rw (act-head τ l n) (on (actPlace l n))
+  where
+    on : (o : Option Place) → OnSome (λ x. x .kind ≡ Act) (Option·map (actDue τ) o)
+    on none = tt
+    on (some p) = refl
+
+module _ (τ : Table) (bs : List ℕ) (n : ℕ) (s : State) where
+  -- what is chosen of the heads of the queues is what goes
+  pub goes-chosen : (q : Queues) → BothStand τ bs n (s .acts) (s .datas) q
+      → chosen τ (q .acts .head) (q .datas .head) (bankOf s (q .acts .head .bank)) (bankOf s (q .datas .head .bank)) (s .a1) (s .a4) (s .rd) (s .wr) (s .acts) (s .cycle)
+      ≡ goes τ (first bs n) s
+  goes-chosen q h =
+      let a = h .ofActs .head in
+      let d = h .ofDatas .head in
+      rw (
+        ← a,
+        ← d,
+        legal-same τ s (s .cycle) (dataFree τ (bankOf s (q .datas .head .bank)) (s .rd) (s .wr)) (hadAct (s .acts) (dueOf (q .datas .head)))
+            (had-same τ s (s .cycle) _ (s .acts) (dueOf (q .datas .head)) (data-legal τ s (s .cycle) (q .datas .head) (rw d (data-kinds τ (first bs n) (s .datas))))),
+        legal-same τ s (s .cycle) (actFree τ (bankOf s (q .acts .head .bank)) (s .a1) (s .a4)) (dueOf (q .acts .head))
+            (act-legal τ s (s .cycle) (q .acts .head) (rw a (act-kinds τ (first bs n) (s .acts)))),
+      )
+
+  -- a command that goes: its cycle, its bank, and the queue that it leaves
+  pub record Leaves (c : Command) : Type 0 where
+    pub cycle : c .cycle ≡ s .cycle
+    pub bank : c .bank < 16
+    pub queue : isData (c .kind) ≡ not (isAct (c .kind))
+
+  pub goes-leaves : Listed τ bs n → OnSome Leaves (goes τ (first bs n) s)
+  goes-leaves h =
+      goes-place (breaksNone τ s) τ (first bs n) (s .cycle) (s .acts) (s .datas) Leaves
+      (λ p e. record {
+        cycle = refl;
+        bank = omega (arith, data-bank τ p (subst (OnSome (Inside τ dataCount)) e (place-at τ dataCount (first bs n) fit 0 0 (s .datas))), sixteen);
+        queue = is-data (isWrite (p .transaction)) _ ∙ sym (ap not (no-act (isWrite (p .transaction)) _));
+      })
+      (λ p e. record {
+        cycle = refl;
+        bank = omega (arith, act-bank τ p (subst (OnSome (Inside τ actCount)) e (place-at τ actCount (first bs n) fit 0 0 (s .acts))), sixteen);
+        queue = refl;
+      })
+    where
+      fit : AllFit τ (first bs n)
+      fit = first-fits h n (omega arith)
+
+      sixteen : τ .banks ≤ 16
+      sixteen = ranges τ (h .table) .banks .most
+
+  pub leaves : Listed τ bs n → (c : Command) → goes τ (first bs n) s ≡ some c → Leaves c
+  leaves h c e = subst (OnSome Leaves) e (goes-leaves h)
+
+  pub go-small : Listed τ bs n → (g : Go) → goOf g ≡ goes τ (first bs n) s → GoSmall g
+  go-small h Nothing e = tt
+  go-small h (Goes c) e = leaves h c (sym e) .bank
+
+  -- what the code chose is what goes
+  pub went : (q : Queues) → BothStand τ bs n (s .acts) (s .datas) q → (g g' : Go)
+      → goOf g ≡ chosen τ (q .acts .head) (q .datas .head) (bankOf s (q .acts .head .bank)) (bankOf s (q .datas .head .bank)) (s .a1) (s .a4) (s .rd) (s .wr) (s .acts) (s .cycle)
+      → g ≡ g' → goes τ (first bs n) s ≡ goOf g'
+  went q h g g' e p = sym (goes-chosen q h) ∙ (sym e ∙ ap goOf p)

@@ -1,0 +1,5 @@
+pub mod Laws
+pub mod Going
+pub mod Marks
+pub mod Schedule
+pub mod Bounds

@@ -1,0 +1,93 @@
+-- What the proofs of the heads cite: what stands at a place that was found.
+-- Assumes nothing.
+use Prim.Native.Nat.{ℕ, _+_, _*_, _/_, _≤_, _<_}
+use native.Mathlib.Omega.{arith}
+use native.Mathlib.Nat.{div-lt-iff-lt-mul}
+use mathlib.Core.Path.{_≡_, refl, sym, ap, _∙_, subst}
+use mathlib.Core.Bool.{Bool, true, false}
+use mathlib.Core.Option.{some}
+use mathlib.Core.List.{List}
+use lib.ListN.{length}
+use Rattle.records.specs.Tests.{pick}
+use Rattle.records.specs.declared.table.Table.{Table}
+use Rattle.records.specs.declared.transaction.Transaction.{Transaction}
+use Rattle.records.specs.Table.{Accepted}
+use Rattle.records.specs.Transaction.{transactionAt, fits}
+use Rattle.rules.specs.Queues.{actQueue, headAfter}
+use Rattle.rules.proofs.Ranges.{ranges}
+use Rattle.rules.proofs.Fit.{Inside, is-fit, act-bank, data-bank}
+use Rattle.rules.proofs.Queue.{placeOf, act-length}
+use Rattle.rules.proofs.Queue as Q
+use Rattle.heads.specs.declared.head.Head.{Head}
+use Rattle.heads.specs.declared.queue.Place.{Place}
+use Rattle.heads.specs.Head.{noHead, headOf, dueOf}
+use Rattle.heads.specs.declared.queue.Queue.{Queue}
+use Rattle.heads.specs.Queue.{Listed, queueOf, leftAt, Placed, Found, Stands}
+use Rattle.heads.proofs.Laws.{first, few, fits-at, fit-at, acts-few, countIn, dueIn, size-is, queue-sum, sum-none, head-here, head-past}
+
+-- the bank of a data command is one of its transaction's
+pub in-bank : (τ : Table) (x : Transaction) (m : ℕ) → fits τ x ≡ true → m < x .bi * x .bc → (0 < x .bc) × (m / x .bc < x .bi)
+in-bank τ x m e h = let v = is-fit τ x e in (v .one, div-lt-iff-lt-mul {k = x .bc} {x = m} {y = x .bi} (v .one) .1 h)
+
+due-bank : (b : Bool) (τ : Table) (p : Q.Place) → Inside τ (countIn b) p → dueIn b τ p .bank < τ .banks
+due-bank true τ p k = data-bank τ p k
+due-bank false τ p k = act-bank τ p k
+
+module _ {τ : Table} {bs : List ℕ} {n : ℕ} (h : Listed τ bs n) {b : Bool} {p : Place} (f : Found τ bs n b (leftAt τ bs b p) p) where
+  -- what the functions that make a head ask for
+  pub asked : (x : Transaction) → x ≡ transactionAt bs (4 * p .number) → p .number < n → (b' : Bool) → b ≡ b'
+      → Accepted τ × (fits τ x ≡ true) × (p .offset < pick b' (x .bi * x .bc) (x .bi)) × (p .number < 256) × (p .before ≤ 16 * p .number)
+  asked x e k b' d = (
+    h .table,
+    rw e (fits-at h (p .number) k),
+    rw (e, ← d) (f .inside k),
+    omega (arith, few h),
+    omega (arith, f .placed .before, act-length τ (first bs (p .number)), acts-few h (p .number) (f .placed .within)),
+  )
+
+  -- and what they make
+  pub stands-here : (x : Transaction) → x ≡ transactionAt bs (4 * p .number) → p .number < n → (r : Head) → r ≡ headOf (dueIn b τ (placeOf x (p .number) (p .before) (p .offset)))
+      → (dueOf r ≡ headAfter (queueOf b τ (first bs n)) (leftAt τ bs b p)) × (r .bank < 16)
+  stands-here x e k r q = (
+    ap dueOf q ∙ sym (head-here b τ bs n (p .number) (p .offset) k inside ∙ same),
+    omega (arith, ap (λ (y : Head). y .bank) q, due-bank b τ (placeOf x (p .number) (p .before) (p .offset)) (record { fit = rw e (fit-at h (p .number) k); inside = rw e inside }), ranges τ (h .table) .banks .most),
+  )
+    where
+      inside : p .offset < countIn b (transactionAt bs (4 * p .number))
+      inside = subst (λ (m : ℕ). p .offset < m) (size-is b (transactionAt bs (4 * p .number))) (f .inside k)
+
+      same : some (dueIn b τ (placeOf (transactionAt bs (4 * p .number)) (p .number) (length (actQueue τ (first bs (p .number)))) (p .offset)))
+          ≡ some (dueIn b τ (placeOf x (p .number) (p .before) (p .offset)))
+      same = rw (← f .placed .before, ← e)
+
+  pub nothing-here : n ≤ p .number → (r : Head) → r ≡ noHead → (dueOf r ≡ headAfter (queueOf b τ (first bs n)) (leftAt τ bs b p)) × (r .bank < 16)
+  nothing-here k r q =
+      let e : p .number ≡ n = omega (arith, f .placed .within) in (
+        ap dueOf q ∙ sym (ap (λ (m : ℕ). headAfter (queueOf b τ (first bs n)) (length (queueOf b τ (first bs m)) + p .offset)) e ∙ head-past b τ (first bs n) (p .offset)),
+        omega (arith, ap (λ (y : Head). y .bank) q),
+      )
+
+module _ {τ : Table} {bs : List ℕ} {n : ℕ} {b : Bool} where
+  pub by-itself : {count : ℕ} {p : Place} → Found τ bs n b count p → Found τ bs n b (leftAt τ bs b p) p
+  by-itself f = record { placed = f .placed; left = refl; inside = f .inside }
+
+  pub stands : {count : ℕ} {p : Place} {r : Head} → Found τ bs n b count p
+      → (dueOf r ≡ headAfter (queueOf b τ (first bs n)) (leftAt τ bs b p)) × (r .bank < 16) → Stands τ bs n b count (record { place = p; head = r })
+  stands f d =
+      record {
+        placed = f .placed;
+        left = f .left;
+        head = d .0 ∙ ap (headAfter (queueOf b τ (first bs n))) (f .left);
+        bank = d .1;
+      }
+
+  -- as many have left, counted otherwise
+  pub recount : {m k : ℕ} {q : Queue} → m ≡ k → Stands τ bs n b m q → Stands τ bs n b k q
+  recount {q = q} e s = subst (λ (i : ℕ). Stands τ bs n b i q) e s
+
+-- at the start of a queue
+pub start-placed : (τ : Table) (bs : List ℕ) (n count : ℕ) → Placed τ bs n (record { number = 0; offset = count; before = 0 })
+start-placed τ bs n count = record { within = omega arith; before = omega (arith, act-length τ (first bs 0), sum-none Q.actCount bs) }
+
+pub start-left : (τ : Table) (bs : List ℕ) (b : Bool) (count : ℕ) → length (queueOf b τ (first bs 0)) + count ≡ count
+start-left τ bs b count = omega (arith, queue-sum b τ (first bs 0), sum-none (countIn b) bs)

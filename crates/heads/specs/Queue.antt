@@ -1,0 +1,60 @@
+-- Where a queue stands, in the code's terms and in those of the definitions.
+use Prim.Native.Nat.{ℕ, _+_, _*_, _≤_, _<_}
+use mathlib.Core.Path.{_≡_}
+use mathlib.Core.Bool.{Bool, true, false}
+use mathlib.Core.List.{List}
+use lib.ListN.{length}
+use Rattle.records.specs.Tests.{pick}
+use Rattle.records.specs.declared.table.Table.{Table}
+use Rattle.records.specs.declared.transaction.Transaction.{Transaction}
+use Rattle.records.specs.Table.{Accepted}
+use Rattle.records.specs.Transaction.{transactionAt, transactionsFrom, listFits}
+use Rattle.rules.specs.Queues.{Due, actQueue, dataQueue, headAfter}
+use Rattle.heads.specs.declared.queue.Place.{Place}
+use Rattle.heads.specs.declared.queue.Queue.{Queue}
+use Rattle.heads.specs.declared.queue.Queues.{Queues}
+use Rattle.heads.specs.Head.{dueOf}
+
+-- what is asked of the bytes of a list of n transactions: that they are there and fit the table
+pub record Listed (τ : Table) (bs : List ℕ) (n : ℕ) : Type 0 where
+  pub table : Accepted τ
+  pub bytes : 4 * n ≤ length bs
+  pub fit : listFits τ (transactionsFrom bs n 0) ≡ true
+
+-- one of the two queues: the data queue, or the ACT queue
+abbrev pub queueOf : Bool → Table → List Transaction → List Due
+queueOf true τ l = dataQueue τ l
+queueOf false τ l = actQueue τ l
+
+-- how many commands have left a queue that stands at a place
+abbrev pub leftAt : Table → List ℕ → Bool → Place → ℕ
+leftAt τ bs b p = length (queueOf b τ (transactionsFrom bs (p .number) 0)) + p .offset
+
+-- a place counts the ACTs of the transactions before its own
+pub record Placed (τ : Table) (bs : List ℕ) (n : ℕ) (p : Place) : Type 0 where
+  pub within : p .number ≤ n
+  pub before : p .before ≡ length (actQueue τ (transactionsFrom bs (p .number) 0))
+
+-- a place inside the transaction that it names, or past the last
+pub record Found (τ : Table) (bs : List ℕ) (n : ℕ) (b : Bool) (count : ℕ) (p : Place) : Type 0 where
+  pub placed : Placed τ bs n p
+  pub left : leftAt τ bs b p ≡ count
+  pub inside : p .number < n → p .offset < pick b (transactionAt bs (4 * p .number) .bi * transactionAt bs (4 * p .number) .bc) (transactionAt bs (4 * p .number) .bi)
+
+-- a queue that `count` commands have left, and its head
+pub record Stands (τ : Table) (bs : List ℕ) (n : ℕ) (b : Bool) (count : ℕ) (q : Queue) : Type 0 where
+  pub placed : Placed τ bs n (q .place)
+  pub left : leftAt τ bs b (q .place) ≡ count
+  pub head : dueOf (q .head) ≡ headAfter (queueOf b τ (transactionsFrom bs n 0)) count
+  pub bank : q .head .bank < 16
+
+-- both queues
+pub record BothStand (τ : Table) (bs : List ℕ) (n acts datas : ℕ) (q : Queues) : Type 0 where
+  pub ofActs : Stands τ bs n false acts (q .acts)
+  pub ofDatas : Stands τ bs n true datas (q .datas)
+
+abbrev pub actsLeft : Table → List ℕ → Queues → ℕ
+actsLeft τ bs q = leftAt τ bs false (q .acts .place)
+
+abbrev pub datasLeft : Table → List ℕ → Queues → ℕ
+datasLeft τ bs q = leftAt τ bs true (q .datas .place)

@@ -1,0 +1,33 @@
+// How many commands the list puts into the two queues.
+use crate::queue::size_in;
+use records::table::Table;
+use records::transaction::transaction_at;
+ghost use mathlib.Core.Path.{_≡_};
+ghost use lib.ListN.{length};
+ghost use Rattle.records.specs.Transaction.{transactionsFrom};
+ghost use Rattle.rules.specs.Queues.{actQueue, dataQueue};
+ghost use Rattle.heads.specs.Queue.{Listed};
+
+pub struct Counts {
+    pub acts: u32,
+    pub datas: u32,
+}
+
+pub fn due(t: Table, list: &[u8], n: usize) -> Counts
+    requires { ⌜ Listed t (now list) n ⌝ }
+    ensures { λ r. ⌜ (r .acts ≡ length (actQueue t (transactionsFrom (now (list .entry)) n 0))) × (r .datas ≡ length (dataQueue t (transactionsFrom (now (list .entry)) n 0))) ⌝ }
+{
+    let mut k = 0;
+    let mut acts: u32 = 0;
+    let mut datas: u32 = 0;
+    while k < n {
+        let x = transaction_at(list, 4 * k);
+        acts = acts + size_in(false, x.bi, x.bc);
+        datas = datas + size_in(true, x.bi, x.bc);
+        k = k + 1;
+    }
+    Counts {
+        acts: acts,
+        datas: datas,
+    }
+}

@@ -1,0 +1,60 @@
+// Kinds of commands.
+use records::command::Kind;
+ghost use mathlib.Core.Path.{_≡_};
+ghost use Rattle.rules.specs.Kinds.{isAct, isWr, isData};
+ghost use Rattle.rules.specs.Queues.{dataKind};
+
+pub fn is_act(k: Kind) -> bool
+    ensures { λ r. ⌜ r ≡ isAct k ⌝ }
+{
+    match k {
+        Kind::Act => true,
+        Kind::Rd => false,
+        Kind::Rda => false,
+        Kind::Wr => false,
+        Kind::Wra => false,
+        Kind::Other(_) => false,
+    }
+}
+
+pub fn is_wr(k: Kind) -> bool
+    ensures { λ r. ⌜ r ≡ isWr k ⌝ }
+{
+    match k {
+        Kind::Act => false,
+        Kind::Rd => false,
+        Kind::Rda => false,
+        Kind::Wr => true,
+        Kind::Wra => true,
+        Kind::Other(_) => false,
+    }
+}
+
+pub fn is_data(k: Kind) -> bool
+    ensures { λ r. ⌜ r ≡ isData k ⌝ }
+{
+    match k {
+        Kind::Act => false,
+        Kind::Rd => true,
+        Kind::Rda => true,
+        Kind::Wr => true,
+        Kind::Wra => true,
+        Kind::Other(_) => false,
+    }
+}
+
+// The kind of a data command: a write or not, with auto precharge or not.
+pub fn data_kind(write: bool, last: bool) -> Kind
+    ensures { λ r. ⌜ r ≡ dataKind write last ⌝ }
+{
+    if write {
+        if last {
+            return Kind::Wra;
+        }
+        return Kind::Wr;
+    }
+    if last {
+        return Kind::Rda;
+    }
+    Kind::Rd
+}

@@ -1,0 +1,7 @@
+-- The laws and theorems about lists of transactions.
+pub mod Runs
+pub mod Checks
+pub mod Packing
+pub mod Storing
+pub mod While
+pub mod Promises

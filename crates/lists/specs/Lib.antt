@@ -1,0 +1,4 @@
+pub mod Check
+pub mod Packed
+pub mod Decode
+pub mod Promise

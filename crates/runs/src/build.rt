@@ -1,0 +1,92 @@
+// The lines of a build.
+use crate::told::command_lines;
+use crate::told::count;
+use crate::told::long;
+use crate::told::number;
+use crate::told::refused;
+use crate::told::room_in;
+use crate::told::text;
+use builder::build::BuildAnswer;
+use builder::build::build_schedule;
+use lists::check::Checked;
+use lists::check::check_bytes;
+use records::table::Table;
+use records::table::TableRead;
+use records::table::read_table;
+ghost use Prim.Native.Nat.{_*_, _/_, _≤_};
+ghost use lib.ListN.{length};
+ghost use Rattle.records.specs.Table.{Accepted};
+ghost use Rattle.heads.specs.Queue.{Listed};
+ghost use Rattle.io.specs.Counts.{Counts};
+
+pub fn lines(table: &[u8], room: u16, slots: u16, list: &[u8]) {
+    text(b"build");
+    match read_table(table) {
+        TableRead::Read(t) => checked(t, room, slots, list),
+        TableRead::Refused(r) => refused(r),
+    }
+}
+
+fn checked(t: Table, room: u16, slots: u16, list: &[u8])
+    requires { ⌜ Accepted t ⌝ }
+{
+    match check_bytes(t, list) {
+        Checked::Fine => fitting(t, room, slots, list),
+        Checked::Refused(r) => refused(r),
+    }
+}
+
+// A list that fits has at most 256 transactions, so that more slots than 256 are as good as 256.
+fn fitting(t: Table, room: u16, slots: u16, list: &[u8])
+    requires { ⌜ Listed t (now list) (length (now list) / 4) ⌝ }
+{
+    let mut bytes = io::large_buffer();
+    let mut places = [0u32; 256];
+    let k = room_in(room, &bytes);
+    let m = places_in(slots, &places);
+    let commands = &mut bytes[..k];
+    let finishes = &mut places[..m];
+    let n = list.len() / 4;
+    let answer = build_schedule(t, list, n, commands, finishes);
+    match answer {
+        BuildAnswer::Built(edition, written) => built(edition, commands, written, finishes, n),
+        BuildAnswer::Refused(r) => refused(r),
+    }
+}
+
+fn built(edition: u16, commands: &[u8], written: usize, finishes: &[u32], n: usize)
+    requires { ⌜ (8 * written ≤ length (now commands)) × (n ≤ length (now finishes)) ⌝ }
+{
+    text(b" edition");
+    number(edition);
+    text(b" commands");
+    count(written);
+    text(b"\n");
+    command_lines(commands, written);
+    finish_lines(finishes, n);
+}
+
+// So many of the places, or all where there are fewer.
+fn places_in(n: u16, s: &[u32]) -> usize
+    ensures { λ r. ⌜ Counts r (now (s .entry)) ⌝ }
+{
+    let n = n as usize;
+    if n < s.len() { n } else { s.len() }
+}
+
+fn finish_lines(s: &[u32], n: usize)
+    requires { ⌜ n ≤ length (now s) ⌝ }
+{
+    let mut i = 0;
+    while i < n {
+        finish_line(i, s[i]);
+        i += 1;
+    }
+}
+
+fn finish_line(i: usize, cycle: u32) {
+    text(b"finish");
+    count(i);
+    long(cycle);
+    text(b"\n");
+}

@@ -1,0 +1,102 @@
+// The 246 bytes of a state, and its line.
+use crate::told::first;
+use crate::told::long;
+use crate::told::small;
+use crate::told::text;
+use controller::controller::Controller;
+use controller::controller::HostBank;
+use records::little::from_le32;
+use records::little::num_at;
+ghost use Prim.Native.Nat.{_+_, _≤_};
+ghost use lib.ListN.{length};
+
+// The 32-bit number at a place.
+pub fn long_at(s: &[u8], at: usize) -> u32
+    requires { ⌜ at + 4 ≤ length (now s) ⌝ }
+{
+    from_le32(s[at], s[at + 1], s[at + 2], s[at + 3])
+}
+
+pub fn controller_at(s: &[u8]) -> Controller
+    requires { ⌜ 246 ≤ length (now s) ⌝ }
+{
+    let banks = banks_at(s);
+    Controller {
+        edition: num_at(s, 0),
+        cycle: long_at(s, 2),
+        acts: long_at(s, 6),
+        datas: long_at(s, 10),
+        banks: banks,
+        last: [
+            long_at(s, 222),
+            long_at(s, 226),
+            long_at(s, 230),
+            long_at(s, 234),
+        ],
+        rd: long_at(s, 238),
+        wr: long_at(s, 242),
+    }
+}
+
+fn banks_at(s: &[u8]) -> [HostBank; 16]
+    requires { ⌜ 222 ≤ length (now s) ⌝ }
+{
+    let mut banks = [HostBank {
+        opened: 0,
+        act: 0,
+        rd: 0,
+        wr: 0,
+    }; 16];
+    let mut k: usize = 0;
+    while k < 16 {
+        banks[k] = bank_at(s, 14 + 13 * k);
+        k += 1;
+    }
+    banks
+}
+
+fn bank_at(s: &[u8], at: usize) -> HostBank
+    requires { ⌜ at + 13 ≤ length (now s) ⌝ }
+{
+    HostBank {
+        opened: s[at],
+        act: long_at(s, at + 1),
+        rd: long_at(s, at + 5),
+        wr: long_at(s, at + 9),
+    }
+}
+
+pub fn state_line(c: Controller) {
+    let banks = c.banks;
+    edition(c.edition);
+    long(c.cycle);
+    long(c.acts);
+    long(c.datas);
+    all_banks(banks);
+    long(c.last[0]);
+    long(c.last[1]);
+    long(c.last[2]);
+    long(c.last[3]);
+    long(c.rd);
+    long(c.wr);
+    text(b"\n");
+}
+
+fn edition(n: u16) {
+    first(n as u32);
+}
+
+fn all_banks(banks: [HostBank; 16]) {
+    let mut k: usize = 0;
+    while k < 16 {
+        one_bank(banks[k]);
+        k += 1;
+    }
+}
+
+fn one_bank(bank: HostBank) {
+    small(bank.opened);
+    long(bank.act);
+    long(bank.rd);
+    long(bank.wr);
+}

@@ -1,0 +1,87 @@
+// What more than one call's lines have.
+use libc::STDOUT_FILENO;
+use records::command::Command;
+use records::command::Kind;
+use records::command::command_at;
+use records::refusal::Refusal;
+ghost use Prim.Native.Nat.{_*_, _≤_};
+ghost use lib.ListN.{length};
+ghost use Rattle.io.specs.Counts.{Counts};
+
+// So many of the bytes, or all where there are fewer.
+pub fn room_in(n: u16, s: &[u8]) -> usize
+    ensures { λ r. ⌜ Counts r (now (s .entry)) ⌝ }
+{
+    let n = n as usize;
+    if n < s.len() { n } else { s.len() }
+}
+
+// The first n commands of the bytes.
+pub fn command_lines(s: &[u8], n: usize)
+    requires { ⌜ 8 * n ≤ length (now s) ⌝ }
+{
+    let mut i = 0;
+    while i < n {
+        command_line(command_at(s, 8 * i));
+        i += 1;
+    }
+}
+
+fn command_line(c: Command) {
+    let k = c.kind;
+    first(c.cycle);
+    text(b" ");
+    kind_name(k);
+    small(c.bank);
+    number(c.number);
+    text(b"\n");
+}
+
+fn kind_name(k: Kind) {
+    match k {
+        Kind::Act => text(b"ACT"),
+        Kind::Rd => text(b"RD"),
+        Kind::Rda => text(b"RDA"),
+        Kind::Wr => text(b"WR"),
+        Kind::Wra => text(b"WRA"),
+        Kind::Other(n) => small(n),
+    }
+}
+
+pub fn refused(r: Refusal) {
+    text(b" refused");
+    small(r.number);
+    text(b" at");
+    long(r.position);
+    text(b" edition");
+    number(r.edition);
+    text(b"\n");
+}
+
+// A line's first number.
+pub fn first(n: u32) {
+    io::print_decimal(STDOUT_FILENO, n as u64);
+}
+
+// A number after a space, of each width.
+pub fn small(n: u8) {
+    long(n as u32);
+}
+
+pub fn number(n: u16) {
+    long(n as u32);
+}
+
+pub fn long(n: u32) {
+    text(b" ");
+    first(n);
+}
+
+pub fn count(n: usize) {
+    text(b" ");
+    io::print_decimal(STDOUT_FILENO, n as u64);
+}
+
+pub fn text(s: &[u8]) {
+    io::write_all(STDOUT_FILENO, s);
+}
