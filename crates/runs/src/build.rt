@@ -19,7 +19,7 @@ ghost use Rattle.records.specs.Table.{Accepted};
 ghost use Rattle.heads.specs.Queue.{Listed};
 ghost use Rattle.io.specs.Counts.{Counts};
 
-pub fn lines(table: &[u8], room: u16, slots: u16, list: &[u8]) {
+pub(crate) fn lines(table: &[u8], room: u16, slots: u16, list: &[u8]) {
     text(b"build");
     match read_table(table) {
         TableRead::Read(t) => checked(t, room, slots, list),

@@ -20,7 +20,7 @@ ghost use lib.ListN.{length};
 ghost use Rattle.records.specs.Table.{Accepted};
 ghost use Rattle.heads.specs.Queue.{Listed};
 
-pub fn lines(table: &[u8], most: u32, room: u16, c: Controller, list: &[u8]) {
+pub(crate) fn lines(table: &[u8], most: u32, room: u16, c: Controller, list: &[u8]) {
     text(b"run");
     match read_table(table) {
         TableRead::Read(t) => checked(t, most, room, c, list),

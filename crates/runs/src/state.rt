@@ -11,13 +11,13 @@ ghost use Prim.Native.Nat.{_+_, _≤_};
 ghost use lib.ListN.{length};
 
 // The 32-bit number at a place.
-pub fn long_at(s: &[u8], at: usize) -> u32
+pub(crate) fn long_at(s: &[u8], at: usize) -> u32
     requires { ⌜ at + 4 ≤ length (now s) ⌝ }
 {
     from_le32(s[at], s[at + 1], s[at + 2], s[at + 3])
 }
 
-pub fn controller_at(s: &[u8]) -> Controller
+pub(crate) fn controller_at(s: &[u8]) -> Controller
     requires { ⌜ 246 ≤ length (now s) ⌝ }
 {
     let banks = banks_at(s);
@@ -66,7 +66,7 @@ fn bank_at(s: &[u8], at: usize) -> HostBank
     }
 }
 
-pub fn state_line(c: Controller) {
+pub(crate) fn state_line(c: Controller) {
     let banks = c.banks;
     edition(c.edition);
     long(c.cycle);

@@ -9,7 +9,7 @@ ghost use lib.ListN.{length};
 ghost use Rattle.io.specs.Counts.{Counts};
 
 // So many of the bytes, or all where there are fewer.
-pub fn room_in(n: u16, s: &[u8]) -> usize
+pub(crate) fn room_in(n: u16, s: &[u8]) -> usize
     ensures { λ r. ⌜ Counts r (now (s .entry)) ⌝ }
 {
     let n = n as usize;
@@ -17,7 +17,7 @@ pub fn room_in(n: u16, s: &[u8]) -> usize
 }
 
 // The first n commands of the bytes.
-pub fn command_lines(s: &[u8], n: usize)
+pub(crate) fn command_lines(s: &[u8], n: usize)
     requires { ⌜ 8 * n ≤ length (now s) ⌝ }
 {
     let mut i = 0;
@@ -48,7 +48,7 @@ fn kind_name(k: Kind) {
     }
 }
 
-pub fn refused(r: Refusal) {
+pub(crate) fn refused(r: Refusal) {
     text(b" refused");
     small(r.number);
     text(b" at");
@@ -59,29 +59,29 @@ pub fn refused(r: Refusal) {
 }
 
 // A line's first number.
-pub fn first(n: u32) {
+pub(crate) fn first(n: u32) {
     io::print_decimal(STDOUT_FILENO, n as u64);
 }
 
 // A number after a space, of each width.
-pub fn small(n: u8) {
+pub(crate) fn small(n: u8) {
     long(n as u32);
 }
 
-pub fn number(n: u16) {
+pub(crate) fn number(n: u16) {
     long(n as u32);
 }
 
-pub fn long(n: u32) {
+pub(crate) fn long(n: u32) {
     text(b" ");
     first(n);
 }
 
-pub fn count(n: usize) {
+pub(crate) fn count(n: usize) {
     text(b" ");
     io::print_decimal(STDOUT_FILENO, n as u64);
 }
 
-pub fn text(s: &[u8]) {
+pub(crate) fn text(s: &[u8]) {
     io::write_all(STDOUT_FILENO, s);
 }
