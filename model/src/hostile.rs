@@ -7,7 +7,7 @@ mod cases;
 
 pub use cases::cases;
 
-use crate::records::*;
+use crate::desk::*;
 
 const READ_TABLE: u8 = 1;
 const WRITE_TABLE: u8 = 2;
@@ -62,33 +62,19 @@ fn line(call: u8, bytes: &[u8]) -> Option<String> {
         WRITE_TABLE => {
             let (v, mut room) = values_and_room(bytes, 32)?;
             let t: Table = std::array::from_fn(|i| u16::from_le_bytes([v[2 * i], v[2 * i + 1]]));
-            let answer = write_table(&t, &mut room);
+            let answer = write_table(t, &mut room);
             Some(writer("write_table", answer, &room))
         }
         WRITE_TRANSACTION => {
             let (v, mut room) = values_and_room(bytes, 4)?;
-            let x = Transaction {
-                kind: v[0],
-                start: v[1],
-                bi: v[2],
-                bc: v[3],
-            };
-            let answer = write_transaction(&x, &mut room);
+            let answer = write_transaction(v[0], v[1], v[2], v[3], &mut room);
             Some(writer("write_transaction", answer, &room))
         }
         WRITE_COMMAND => {
             let (v, mut room) = values_and_room(bytes, 8)?;
             let cycle = u32::from_le_bytes([v[0], v[1], v[2], v[3]]);
             let transaction = u16::from_le_bytes([v[6], v[7]]);
-            let answer = write_command(
-                &Command {
-                    cycle,
-                    kind: v[4],
-                    bank: v[5],
-                    transaction,
-                },
-                &mut room,
-            );
+            let answer = write_command(cycle, v[4], v[5], transaction, &mut room);
             Some(writer("write_command", answer, &room))
         }
         _ => None,

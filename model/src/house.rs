@@ -1,6 +1,7 @@
 //! The house tables, tables in which one number outgrows the others, and what else the cases are made from.
 
-use crate::records::{Command, Table};
+use crate::desk::schedule_bytes;
+use crate::records::Table;
 
 pub const RC: usize = 7;
 pub const FAW: usize = 9;
@@ -54,9 +55,19 @@ pub fn command(cycle: u32, kind: u8, bank: u8, transaction: u16) -> [u8; 8] {
     [c0, c1, c2, c3, kind, bank, t0, t1]
 }
 
-pub fn bytes_of_all(commands: &[Command]) -> Vec<u8> {
-    let bytes = |c: &Command| command(c.cycle, c.kind, c.bank, c.transaction);
-    commands.iter().flat_map(bytes).collect()
+/// 8 bytes for each ACT and each data command.
+pub fn room_for(list: &[[u8; 4]]) -> usize {
+    let due = |x: &[u8; 4]| usize::from(x[2]) * (1 + usize::from(x[3]));
+    8 * list.iter().map(due).sum::<usize>()
+}
+
+/// The schedule of an accepted list, as bytes, and the finishing cycles.
+pub fn built(table: &Table, list: &[[u8; 4]]) -> (Vec<u8>, Vec<u32>) {
+    let mut room = vec![0; room_for(list)];
+    let mut finishes = vec![0; list.len()];
+    schedule_bytes(&bytes_of(table), &list.concat(), &mut room, &mut finishes)
+        .expect("the list is accepted");
+    (room, finishes)
 }
 
 /// A linear congruential generator, so that the cases are the same on every machine.

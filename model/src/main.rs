@@ -1,28 +1,25 @@
-//! What document 01 says, once more in plain Rust and from the paper alone, to hold the proved programs against.
-//!
 //! `model vectors ROOT` writes what the programs `hostile`, `verdicts` and `runs` are run on and what they must write.
+//! `model listing` is the listing program: standard input, standard output.
+//! `model examples ROOT` writes the example files with their texts.
+//! `model hostile-listing FOLDER` writes inputs of the listing program and what it must print for each.
 
-#[cfg(test)]
-mod examples;
-mod hostile;
-mod house;
-mod records;
-mod rules;
-mod runs;
-mod scheduler;
-mod verdicts;
-
-use std::fs;
-use std::io;
+use std::io::{self, Read, Write};
 use std::path::Path;
 use std::process::ExitCode;
+
+use model::{examples, hostile_listing, listing, vectors};
+
+const USAGE: &str = "usage: model vectors ROOT | listing | examples ROOT | hostile-listing FOLDER";
 
 fn main() -> ExitCode {
     let args: Vec<String> = std::env::args().skip(1).collect();
     let done = match args.iter().map(String::as_str).collect::<Vec<_>>()[..] {
-        ["vectors", root] => vectors(Path::new(root)),
+        ["vectors", root] => vectors::write(Path::new(root)),
+        ["listing"] => list(),
+        ["examples", root] => examples::write(Path::new(root)),
+        ["hostile-listing", folder] => hostile_listing::write(Path::new(folder)),
         _ => {
-            eprintln!("usage: model vectors ROOT");
+            eprintln!("{USAGE}");
             return ExitCode::from(2);
         }
     };
@@ -35,21 +32,8 @@ fn main() -> ExitCode {
     }
 }
 
-fn vectors(root: &Path) -> io::Result<()> {
-    let input = hostile::cases();
-    stored(root, "hostile", &input, &hostile::lines(&input))?;
-    let input = verdicts::cases();
-    stored(root, "verdicts", &input, &verdicts::lines(&input))?;
-    let input = runs::cases();
-    stored(root, "runs", &input, &runs::lines(&input))
-}
-
-fn stored(root: &Path, program: &str, input: &[u8], output: &str) -> io::Result<()> {
-    let folder = root.join("crates").join(program);
-    fs::create_dir_all(&folder)?;
-    fs::write(folder.join("stdin"), input)?;
-    fs::write(folder.join("stdout"), output)?;
-    let (bytes, lines) = (input.len(), output.lines().count());
-    println!("{program}: {bytes} bytes in, {lines} lines out");
-    Ok(())
+fn list() -> io::Result<()> {
+    let mut input = Vec::new();
+    io::stdin().read_to_end(&mut input)?;
+    io::stdout().write_all(listing::listing(&input).as_bytes())
 }

@@ -61,8 +61,8 @@ pub fn read_table(bytes: &[u8]) -> Result<Table, Refusal> {
 }
 
 /// Answers the edition of the table written.
-pub fn write_table(t: &Table, room: &mut [u8]) -> Result<u16, Refusal> {
-    check_table(room.len(), t)?;
+pub fn write_table(t: Table, room: &mut [u8]) -> Result<u16, Refusal> {
+    check_table(room.len(), &t)?;
     for (number, pair) in t.iter().zip(room.chunks_exact_mut(2)) {
         pair.copy_from_slice(&number.to_le_bytes());
     }
@@ -111,9 +111,22 @@ pub fn read_transaction(bytes: &[u8]) -> Result<Transaction, Refusal> {
     Ok(x)
 }
 
-pub fn write_transaction(x: &Transaction, room: &mut [u8]) -> Result<u16, Refusal> {
-    check_transaction(room.len(), x)?;
-    room.copy_from_slice(&[x.kind, x.start, x.bi, x.bc]);
+/// Answers edition 0, since no table is given.
+pub fn write_transaction(
+    kind: u8,
+    start: u8,
+    bi: u8,
+    bc: u8,
+    room: &mut [u8],
+) -> Result<u16, Refusal> {
+    let x = Transaction {
+        kind,
+        start,
+        bi,
+        bc,
+    };
+    check_transaction(room.len(), &x)?;
+    room.copy_from_slice(&[kind, start, bi, bc]);
     Ok(0)
 }
 
@@ -140,14 +153,20 @@ pub fn read_command(bytes: &[u8]) -> Result<Command, Refusal> {
     })
 }
 
-/// The one writer whose room may be greater than the record: what is beyond stays as it stood.
-pub fn write_command(c: &Command, room: &mut [u8]) -> Result<u16, Refusal> {
+/// The one writer whose room may be greater than the record: what is beyond stays as it stood. Answers edition 0.
+pub fn write_command(
+    cycle: u32,
+    kind: u8,
+    bank: u8,
+    transaction: u16,
+    room: &mut [u8],
+) -> Result<u16, Refusal> {
     if room.len() < 8 {
         return refused(5);
     }
-    room[..4].copy_from_slice(&c.cycle.to_le_bytes());
-    room[4] = c.kind;
-    room[5] = c.bank;
-    room[6..8].copy_from_slice(&c.transaction.to_le_bytes());
+    room[..4].copy_from_slice(&cycle.to_le_bytes());
+    room[4] = kind;
+    room[5] = bank;
+    room[6..8].copy_from_slice(&transaction.to_le_bytes());
     Ok(0)
 }

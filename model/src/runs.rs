@@ -11,8 +11,8 @@ pub use cases::cases;
 
 use std::fmt::Write;
 
-use crate::records::{read_table, Command, Refusal, EDITION};
-use crate::scheduler::*;
+use crate::desk::*;
+use crate::listing::{command_lines, schedule_lines};
 
 const BUILD: u8 = 1;
 const RUN: u8 = 2;
@@ -66,8 +66,8 @@ impl<'a> Bytes<'a> {
         self.take(n.into())
     }
 
-    fn state(&mut self) -> Option<State> {
-        let mut state = State::fresh(&[0; 16]);
+    fn state(&mut self) -> Option<Controller> {
+        let mut state = Controller::fresh(&[0; 16]);
         state.edition = self.u16()?;
         state.cycle = self.u32()?;
         state.acts = self.u32()?;
@@ -90,47 +90,41 @@ impl<'a> Bytes<'a> {
 /// The call's name, and the rest of its first line with all that follow, or its refusal. None for no call and for a case cut short.
 fn case_lines(rest: &mut Bytes) -> Option<(&'static str, Result<String, Refusal>)> {
     let call = rest.u8()?;
-    let table = read_table(rest.take(32)?);
-    let edition = table.map(|t| t[EDITION]);
+    let table = rest.take(32)?;
     match call {
         BUILD => {
             let (room, slots) = (rest.u16()?.into(), rest.u16()?.into());
             let list = rest.list()?;
-            let built = table.and_then(|t| build(&t, room, slots, list));
-            Some(("build", built.and_then(|b| Ok(build_lines(edition?, &b)))))
+            Some(("build", schedule_lines(table, list, room, slots)))
         }
         RUN => {
             let (count, room) = (rest.u32()?, rest.u16()?.into());
             let state = rest.state()?;
             let list = rest.list()?;
-            let ran = table.and_then(|t| run(&t, count, room, &state, list));
-            Some(("run", ran.and_then(|r| Ok(run_lines(edition?, &r)))))
+            Some(("run", run_lines(state, table, list, count, room)))
         }
         BOUND => {
             let (bi, bc) = (rest.u8()?, rest.u8()?);
-            let told =
-                table.and_then(|t| Ok(format!("edition {} {}\n", t[EDITION], bound(&t, bi, bc)?)));
-            Some(("bound", told))
+            let line = |(edition, cycles)| format!("edition {edition} {cycles}\n");
+            Some(("bound", bound(table, bi, bc).map(line)))
         }
         _ => None,
     }
 }
 
-fn build_lines(edition: u16, built: &Built) -> String {
-    let count = built.commands.len();
-    let mut out = format!("edition {edition} commands {count}\n");
-    out.push_str(&command_lines(&built.commands));
-    for (number, cycle) in built.finishes.iter().enumerate() {
-        out.push_str(&format!("finish {number} {cycle}\n"));
-    }
-    out
-}
-
-fn run_lines(edition: u16, run: &Run) -> String {
-    let (count, cycles) = (run.commands.len(), run.cycles);
+/// The controller's numbers stand in the last line, in the order of its bytes.
+fn run_lines(
+    mut s: Controller,
+    table: &[u8],
+    list: &[u8],
+    count: u32,
+    room: usize,
+) -> Result<String, Refusal> {
+    let mut commands = vec![0; room];
+    let told = run_bytes(&mut s, table, list, count, &mut commands)?;
+    let (edition, count, cycles) = (told.edition, told.commands, told.cycles);
     let mut out = format!("edition {edition} commands {count} cycles {cycles}\n");
-    out.push_str(&command_lines(&run.commands));
-    let s = &run.state;
+    out.push_str(&command_lines(&commands, count));
     let mut numbers = vec![s.edition.into(), s.cycle, s.acts, s.datas];
     for bank in &s.banks {
         numbers.extend([bank.opened.into(), bank.act, bank.rd, bank.wr]);
@@ -138,15 +132,7 @@ fn run_lines(edition: u16, run: &Run) -> String {
     numbers.extend(s.last);
     numbers.extend([s.rd, s.wr]);
     let words: Vec<String> = numbers.iter().map(u32::to_string).collect();
-    out + &words.join(" ") + "\n"
-}
-
-fn command_lines(commands: &[Command]) -> String {
-    let line = |c: &Command| {
-        let kind = ["ACT", "RD", "RDA", "WR", "WRA"][usize::from(c.kind)];
-        format!("{} {kind} {} {}\n", c.cycle, c.bank, c.transaction)
-    };
-    commands.iter().map(line).collect()
+    Ok(out + &words.join(" ") + "\n")
 }
 
 #[cfg(test)]

@@ -2,13 +2,13 @@
 
 mod state;
 
-pub use state::{run, Bank, Run, State, NEVER};
+pub use state::{run, Bank, State, NEVER};
 
 use crate::records::*;
 use crate::rules::{first_broken, Record, Times, ACT, RD, RDA, WR, WRA};
 
 /// "At most 256 transactions."
-const MOST_TRANSACTIONS: usize = 256;
+pub const MOST_TRANSACTIONS: usize = 256;
 
 fn refused<T>(table: &Table, number: u8, position: u32) -> Result<T, Refusal> {
     Err(Refusal {
@@ -18,23 +18,28 @@ fn refused<T>(table: &Table, number: u8, position: u32) -> Result<T, Refusal> {
     })
 }
 
-/// Numbers 3 and 4.
-pub fn read_list(table: &Table, bytes: &[u8]) -> Result<Vec<Transaction>, Refusal> {
-    if !bytes.len().is_multiple_of(4) || bytes.len() / 4 > MOST_TRANSACTIONS {
+/// Number 3 of bytes: "not a multiple of 4". What the records hold is not looked at yet.
+pub fn decode(table: &Table, bytes: &[u8]) -> Result<Vec<Transaction>, Refusal> {
+    if !bytes.len().is_multiple_of(4) {
         return refused(table, 3, 0);
     }
-    let list: Vec<Transaction> = bytes
-        .chunks_exact(4)
-        .map(|x| Transaction {
-            kind: x[0],
-            start: x[1],
-            bi: x[2],
-            bc: x[3],
-        })
-        .collect();
+    let decoded = bytes.chunks_exact(4).map(|x| Transaction {
+        kind: x[0],
+        start: x[1],
+        bi: x[2],
+        bc: x[3],
+    });
+    Ok(decoded.collect())
+}
+
+/// Numbers 3 and 4 of a decoded list: "over 256 records", "too few places to decode into", and "a transaction out of range".
+pub fn check_list(table: &Table, list: &[Transaction], places: usize) -> Result<(), Refusal> {
+    if list.len() > MOST_TRANSACTIONS || list.len() > places {
+        return refused(table, 3, 0);
+    }
     match list.iter().position(|x| !in_range(x, table[BANKS])) {
         Some(place) => refused(table, 4, place as u32),
-        None => Ok(list),
+        None => Ok(()),
     }
 }
 
@@ -93,10 +98,15 @@ pub struct Built {
     pub finishes: Vec<u32>,
 }
 
-/// Room in bytes, and the finishing slice's length.
-pub fn build(table: &Table, room: usize, slots: usize, bytes: &[u8]) -> Result<Built, Refusal> {
-    let list = read_list(table, bytes)?;
-    let queues = Queues::of(&list);
+/// Numbers 3 to 6, and then the build. Room in bytes, and the finishing slice's length.
+pub fn build(
+    table: &Table,
+    list: &[Transaction],
+    room: usize,
+    slots: usize,
+) -> Result<Built, Refusal> {
+    check_list(table, list, MOST_TRANSACTIONS)?;
+    let queues = Queues::of(list);
     let due = queues.acts.len() + queues.datas.len();
     if room < 8 * due {
         return refused(table, 5, 0);

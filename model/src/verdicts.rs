@@ -9,8 +9,7 @@ mod search;
 
 pub use cases::cases;
 
-use crate::records::{read_table, Refusal, EDITION};
-use crate::rules::*;
+use crate::desk::{judge, judge_pattern, PatternVerdict, Refusal, Verdict};
 
 const JUDGE: u8 = 1;
 const JUDGE_PATTERN: u8 = 2;
@@ -62,23 +61,23 @@ fn line(case: &Case) -> String {
 }
 
 fn schedule_line(case: &Case) -> Result<String, Refusal> {
-    let table = read_table(case.table)?;
-    let verdict = match judge(&table, case.bytes)? {
+    let (edition, verdict) = judge(case.table, case.bytes)?;
+    let verdict = match verdict {
         Verdict::Accepted => "accepted".to_string(),
         Verdict::Broken { rule, record } => format!("rule {rule} record {record}"),
     };
-    Ok(format!("edition {} {verdict}", table[EDITION]))
+    Ok(format!("edition {edition} {verdict}"))
 }
 
 fn pattern_line(case: &Case) -> Result<String, Refusal> {
-    let table = read_table(case.table)?;
-    let verdict = match judge_pattern(&table, case.bytes, case.length)? {
+    let (edition, verdict) = judge_pattern(case.table, case.bytes, case.length)?;
+    let verdict = match verdict {
         PatternVerdict::Accepted => "accepted".to_string(),
         PatternVerdict::Broken { rule, copy, record } => {
             format!("rule {rule} copy {copy} record {record}")
         }
     };
-    Ok(format!("edition {} {verdict}", table[EDITION]))
+    Ok(format!("edition {edition} {verdict}"))
 }
 
 fn told(name: &str, answer: Result<String, Refusal>) -> String {

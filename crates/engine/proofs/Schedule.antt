@@ -88,7 +88,8 @@ each-onto P (c ∷ a) b u v = each-onto P a (c ∷ b) (u .1) (u .0, v)
 pub ours : (τ : Table) (l : List Transaction) (rs : List Command) → Built τ l rs → Each (Ours l) rs
 ours τ l rs b = subst (Each (Ours l)) (sym (b .schedule)) (each-onto (Ours l) (gone (b .cycles) τ l) [] (gone-ours τ l (b .cycles)) tt)
 
-readable : (l : List Transaction) (rs : List Command) → Each (Ours l) rs → every (λ r. ltb (r .cycle) 100000000) rs ≡ true → Each Readable rs
+-- they are read back from their bytes
+pub readable : (l : List Transaction) (rs : List Command) → Each (Ours l) rs → every (λ r. ltb (r .cycle) 100000000) rs ≡ true → Each Readable rs
 readable l [] u e = tt
 readable l (r ∷ rs) u e =
     let z : r .cycle < 100000000 = ltb-true (r .cycle) 100000000 (and-fst (ltb (r .cycle) 100000000) (every (λ r. ltb (r .cycle) 100000000) rs) e) in
@@ -104,7 +105,7 @@ no-more : (l : List Transaction) (k : ℕ) → length l ≤ k → (h : List Comm
 no-more l k e [] u = refl
 no-more l k e (r ∷ h) u = rw (ne-eqb (r .number) k (λ z. omega (arith, u .0 .number))) (no-more l k e h (u .1))
 
-finishes-length : (τ : Table) (l : List Transaction) (k : ℕ) (rs : List Command) → length (finishesFrom τ l k rs) ≡ length l
+pub finishes-length : (τ : Table) (l : List Transaction) (k : ℕ) (rs : List Command) → length (finishesFrom τ l k rs) ≡ length l
 finishes-length τ [] k rs = refl
 finishes-length τ (x ∷ l) k rs = ap suc (finishes-length τ l (suc k) rs)
 

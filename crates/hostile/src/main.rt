@@ -1,29 +1,29 @@
-// Hands hostile bytes to the readers and the writers of `records`, and writes a line on what each answers.
+// Hands hostile bytes to the readers and the writers of the desk, and writes a line on what each answers.
 //
 // Standard input, of which 65,536 bytes are read at most, is a sequence of cases, `[call][n][n bytes]`. Calls 1, 3 and 5 read a table,
 // a transaction and a command from the n bytes. Calls 2, 4 and 6 write one: the values come first, in 32, 4 or 8 bytes, and the rest is
 // the buffer. The line is `case` for any other call, for a write whose bytes are too few for the values or leave more than 64 for the
 // buffer, and for a case that the input cuts short, which is the last.
+use desk::read_command;
+use desk::read_table;
+use desk::read_transaction;
+use desk::write_command;
+use desk::write_table;
+use desk::write_transaction;
 use libc::STDIN_FILENO;
 use libc::STDOUT_FILENO;
 use records::command::Command;
 use records::command::CommandRead;
 use records::command::kind_number;
-use records::command::read_command;
-use records::command::write_command;
 use records::little::from_le32;
 use records::little::num_at;
 use records::refusal::Refusal;
 use records::refusal::Written;
 use records::table::Table;
 use records::table::TableRead;
-use records::table::read_table;
-use records::table::write_table;
 use records::transaction::Transaction;
 use records::transaction::TransactionRead;
-use records::transaction::read_transaction;
 use records::transaction::transaction_at;
-use records::transaction::write_transaction;
 ghost use mathlib.Core.Path.{_≡_};
 ghost use Prim.Native.Nat.{_≤_};
 ghost use lib.ListN.{length};

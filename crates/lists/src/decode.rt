@@ -8,7 +8,7 @@ use records::transaction::transaction_at;
 ghost use mathlib.Core.Path.{_≡_};
 ghost use Prim.Native.Nat.{_*_, _≤_};
 ghost use lib.ListN.{length};
-ghost use Rattle.lists.specs.Decode.{plan, stored, decoding, Decodes};
+ghost use Rattle.lists.specs.Decode.{plan, stored};
 
 // The table's edition, and how many transactions were stored; or the refusal.
 pub enum Decoded {
@@ -49,12 +49,4 @@ pub fn store(bytes: &[u8], n: usize, list: &mut [Transaction])
         list[k] = transaction_at(bytes, 4 * k);
         k += 1;
     }
-}
-
-pub fn decode(t: Table, bytes: &[u8], list: &mut [Transaction]) -> Decoded
-    ensures { λ r. ⌜ Decodes (decoding t (now (bytes .entry)) (now (list .entry))) r (now (list .exit)) ⌝ }
-{
-    let p = planned(t, bytes, list.len());
-    store(bytes, p.n, list);
-    p.answer
 }

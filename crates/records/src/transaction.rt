@@ -13,6 +13,7 @@ ghost use Rattle.records.specs.Told.{over, Leaves};
 ghost use Rattle.records.specs.Transaction.{transaction, transactionAt, bytesOf, fitsIn, transactionRefusal, readTransaction, writeTransaction};
 
 // `kind` is the paper's type: 0 read, 1 write. (`type` is a word of the language.)
+#[repr(C)]
 pub struct Transaction {
     pub kind: u8,
     pub start: u8,

@@ -28,7 +28,7 @@ use Rattle.rules.specs.History.{later, farAct, farData, actRules, dataRu
 use Rattle.rules.specs.Verdict.{allShut, judgeFrom}
 use Rattle.rules.specs.Pattern.{moved}
 use Rattle.rules.proofs.TestLaws.{to-T, bool-eq}
-use Rattle.rules.proofs.Newest.{backIn, lastIn, any, bankIn, Rising, newest-act, newest-data, back-same, open-same, act-same, precharge-same}
+use Rattle.rules.proofs.Newest.{backIn, lastIn, any, bankIn, Rising, newest-act, newest-data, fourth-same, open-same, act-same, precharge-same}
 use Rattle.rules.proofs.Judged.{holds}
 
 -- a stamp, a bank, a record, d later
@@ -93,8 +93,8 @@ module _ (d : ℕ) (h h' : List Command) (q : Alike d h h') where
           precharge-same τ (t + d) b h' (q .rising'),
           precharge-same τ t b h (q .rising),
           rrd-alike t b,
-          back-same 3 h',
-          back-same 3 h,
+          fourth-same h',
+          fourth-same h,
           past-back (any isAct) 3 (omega arith) (τ .faw) t,
           q .bank b,
           past-later (bankIn b h .act) d (τ .ras + τ .rp) t,

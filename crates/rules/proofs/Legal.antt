@@ -24,6 +24,11 @@ use Rattle.rules.proofs.TestLaws.{is-true, and-snd, OnSome, on-pick, ev
 use Rattle.rules.proofs.Link.{Sums, later-of, sums-idle, sums-note, rules-same}
 use Rattle.rules.proofs.Judged.{fine-rules, is-fine, LegalHistory}
 
+-- "If the head of the data queue has had its ACT and breaks no rule, it goes", whatever stands in the ACT queue
+data-first : (legal : Command → Bool) (τ : Table) (l : List Transaction) (t a d : ℕ) (c : Command)
+    → legalAt legal t (hadAct a (headAfter (dataQueue τ l) d)) ≡ some c → goesBy legal τ l t a d ≡ some c
+data-first legal τ l t a d c e = ap (λ (o : Option Command). otherwise o (legalAt legal t (headAfter (actQueue τ l) a))) e
+
 -- what holds of the command that goes: it is the head of its queue and it is legal
 pub goes-all : (legal : Command → Bool) (τ : Table) (l : List Transaction) (t a d : ℕ) (P : Command → Type 0)
     → ((x : Due) → headAfter (dataQueue τ l) d ≡ some x → ltb (x .act) a ≡ true → legal (dueAt t x) ≡ true → P (dueAt t x))

@@ -19,7 +19,7 @@ use Rattle.rules.specs.declared.state.Bank.{Bank}
 use Rattle.rules.specs.Kinds.{isAct, isRd, isWr}
 use Rattle.rules.specs.Square.{fromRd, fromWr, writeTail}
 use Rattle.rules.specs.State.{past, isOpen, shut, charged, bankAfter}
-use Rattle.rules.specs.History.{later, openAfter, openIn, actIn, greater, prechargeAfter, prechargeIn, actBack, far, farAct, farData}
+use Rattle.rules.specs.History.{later, openAfter, openIn, actIn, greater, prechargeAfter, prechargeIn, actBack, fourthAct, far, farAct, farData}
 use Rattle.rules.proofs.TestLaws.{and-both, and-fst, and-snd, and-left, bool-eq}
 
 -- the cycle of the n-th record back, from 0, of the kinds and banks p
@@ -119,6 +119,10 @@ pub back-same : (n : ℕ) (h : List Command) → actBack n h ≡ backIn (any isA
 back-same n [] = refl
 back-same zero (r ∷ h) = ap (pick (isAct (r .kind)) (At (r .cycle))) (back-same zero h)
 back-same (suc n) (r ∷ h) = rw (back-same n h, back-same (suc n) h)
+
+-- rule 7: "the fourth ACT before it"
+pub fourth-same : (h : List Command) → fourthAct h ≡ backIn (any isAct) 3 h
+fourth-same h = back-same 3 h
 
 -- rules 3, 5, 8: what the bank's records say is what its summary says
 pub open-same : (b : ℕ) (h : List Command) → openIn b h ≡ isOpen (bankIn b h)

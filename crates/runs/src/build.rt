@@ -7,39 +7,14 @@ use crate::told::refused;
 use crate::told::room_in;
 use crate::told::text;
 use builder::build::BuildAnswer;
-use builder::build::build_schedule;
-use lists::check::Checked;
-use lists::check::check_bytes;
-use records::table::Table;
-use records::table::TableRead;
-use records::table::read_table;
-ghost use Prim.Native.Nat.{_*_, _/_, _≤_};
+use desk::schedule_bytes;
+ghost use Prim.Native.Nat.{_*_, _≤_};
 ghost use lib.ListN.{length};
-ghost use Rattle.records.specs.Table.{Accepted};
-ghost use Rattle.heads.specs.Queue.{Listed};
 ghost use Rattle.io.specs.Counts.{Counts};
 
+// A list that fits has at most 256 transactions, so that more slots than 256 are as good as 256.
 pub(crate) fn lines(table: &[u8], room: u16, slots: u16, list: &[u8]) {
     text(b"build");
-    match read_table(table) {
-        TableRead::Read(t) => checked(t, room, slots, list),
-        TableRead::Refused(r) => refused(r),
-    }
-}
-
-fn checked(t: Table, room: u16, slots: u16, list: &[u8])
-    requires { ⌜ Accepted t ⌝ }
-{
-    match check_bytes(t, list) {
-        Checked::Fine => fitting(t, room, slots, list),
-        Checked::Refused(r) => refused(r),
-    }
-}
-
-// A list that fits has at most 256 transactions, so that more slots than 256 are as good as 256.
-fn fitting(t: Table, room: u16, slots: u16, list: &[u8])
-    requires { ⌜ Listed t (now list) (length (now list) / 4) ⌝ }
-{
     let mut bytes = io::large_buffer();
     let mut places = [0u32; 256];
     let k = room_in(room, &bytes);
@@ -47,7 +22,7 @@ fn fitting(t: Table, room: u16, slots: u16, list: &[u8])
     let commands = &mut bytes[..k];
     let finishes = &mut places[..m];
     let n = list.len() / 4;
-    let answer = build_schedule(t, list, n, commands, finishes);
+    let answer = schedule_bytes(table, list, commands, finishes);
     match answer {
         BuildAnswer::Built(edition, written) => built(edition, commands, written, finishes, n),
         BuildAnswer::Refused(r) => refused(r),

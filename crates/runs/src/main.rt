@@ -10,11 +10,9 @@ mod state;
 mod told;
 
 use builder::bound::BoundAnswer;
-use builder::bound::tell_bound;
+use desk::bound;
 use libc::STDIN_FILENO;
 use records::little::num_at;
-use records::table::TableRead;
-use records::table::read_table;
 use state::controller_at;
 use state::long_at;
 use told::long;
@@ -111,10 +109,7 @@ fn bound_case(s: &[u8]) -> usize
 
 fn bound_line(table: &[u8], bi: u8, bc: u8) {
     text(b"bound");
-    match read_table(table) {
-        TableRead::Read(t) => bound_told(tell_bound(t, bi, bc)),
-        TableRead::Refused(r) => refused(r),
-    }
+    bound_told(bound(table, bi, bc));
 }
 
 fn bound_told(answer: BoundAnswer) {

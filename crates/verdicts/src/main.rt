@@ -1,19 +1,17 @@
-// Hands hostile schedules and patterns to the judges of `judge`, and writes a line on what each answers.
+// Hands hostile schedules and patterns to the judges of the desk, and writes a line on what each answers.
 //
 // Standard input, of which 65,536 bytes are read at most, is a sequence of cases, `[call][table: 32 bytes][length: u32][n: u16][n bytes]`.
 // Call 1 judges the n bytes as a schedule and has no use for the length, call 2 judges them as a pattern of that length. The line is
 // `case` for any other call, and for a case that the input cuts short, which is the last.
+use desk::judge;
+use desk::judge_pattern;
 use judge::answer::Judged;
 use judge::answer::PatternJudged;
-use judge::pattern::judge_pattern;
-use judge::schedule::judge_schedule;
 use libc::STDIN_FILENO;
 use libc::STDOUT_FILENO;
 use records::little::from_le32;
 use records::little::num_at;
 use records::refusal::Refusal;
-use records::table::TableRead;
-use records::table::read_table;
 use rules::verdict::PatternVerdict;
 use rules::verdict::Rule;
 use rules::verdict::Verdict;
@@ -74,19 +72,13 @@ fn no_case() {
 
 fn schedule_line(table: &[u8], s: &[u8]) {
     text(b"judge");
-    match read_table(table) {
-        TableRead::Read(t) => judged(judge_schedule(t, s)),
-        TableRead::Refused(r) => refused(r),
-    }
+    judged(judge(table, s));
     text(b"\n");
 }
 
 fn pattern_line(table: &[u8], s: &[u8], length: u32) {
     text(b"pattern");
-    match read_table(table) {
-        TableRead::Read(t) => pattern_judged(judge_pattern(t, s, length)),
-        TableRead::Refused(r) => refused(r),
-    }
+    pattern_judged(judge_pattern(table, s, length));
     text(b"\n");
 }
 

@@ -2,6 +2,7 @@
 
 use super::*;
 use crate::house::*;
+use crate::records::{B, BANKS, CCD, EDITION, LAST};
 
 struct Cases(Vec<u8>);
 

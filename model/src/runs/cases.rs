@@ -3,7 +3,7 @@
 use super::states::*;
 use super::*;
 use crate::house::*;
-use crate::records::{Table, BANKS, CCD, LAST};
+use crate::records::{BANKS, CCD, EDITION, LAST};
 
 pub struct Cases(Vec<u8>);
 
@@ -31,7 +31,7 @@ impl Cases {
         self.build(table, room_for(list), list.len(), &list.concat());
     }
 
-    pub fn run(&mut self, table: &Table, count: u32, room: usize, state: &State, list: &[u8]) {
+    pub fn run(&mut self, table: &Table, count: u32, room: usize, state: &Controller, list: &[u8]) {
         self.head(RUN, table);
         self.0.extend(count.to_le_bytes());
         self.0.extend((room as u16).to_le_bytes());
@@ -43,12 +43,6 @@ impl Cases {
         self.head(BOUND, table);
         self.0.extend([bi, bc]);
     }
-}
-
-/// 8 bytes for each ACT and each data command.
-pub fn room_for(list: &[[u8; 4]]) -> usize {
-    let due = |x: &[u8; 4]| usize::from(x[2]) * (1 + usize::from(x[3]));
-    8 * list.iter().map(due).sum::<usize>()
 }
 
 pub fn cases() -> Vec<u8> {
@@ -65,7 +59,7 @@ pub fn cases() -> Vec<u8> {
     bounds(&mut cases);
     refused_tables(&mut cases);
     // At the end a case that is cut short.
-    cases.run(&TABLE_A, 1, 8, &State::fresh(&TABLE_A), &[0, 0, 1, 1]);
+    cases.run(&TABLE_A, 1, 8, &Controller::fresh(&TABLE_A), &[0, 0, 1, 1]);
     cases.0.pop();
     cases.0
 }
@@ -187,13 +181,13 @@ fn cuts(cases: &mut Cases) {
         (small, [[1, 0, 2, 2], [0, 1, 2, 1]]),
     ] {
         let (room, bytes) = (room_for(&list), list.concat());
-        let fresh = State::fresh(&table);
-        let whole = run(&table, u32::MAX, room, &fresh, &bytes).expect("the list is accepted");
+        let fresh = Controller::fresh(&table);
+        let (whole, _, _) = ran(&fresh, &table, &list, u32::MAX);
         for count in 1..=whole.cycles {
-            let first = run(&table, count, room, &fresh, &bytes).expect("the list is accepted");
+            let (first, _, state) = ran(&fresh, &table, &list, count);
             cases.run(&table, count, room, &fresh, &bytes);
-            let left = room - 8 * first.commands.len();
-            cases.run(&table, u32::MAX - count, left, &first.state, &bytes);
+            let left = room - 8 * first.commands as usize;
+            cases.run(&table, u32::MAX - count, left, &state, &bytes);
         }
     }
 }
@@ -226,6 +220,6 @@ fn refused_tables(cases: &mut Cases) {
         cases.bound(&table, 1, 1);
     }
     for table in [with(&[(LAST, 1)]), with(&[(FAW, 0)])] {
-        cases.run(&table, 1, 0, &State::fresh(&table), &[0, 0, 1, 1]);
+        cases.run(&table, 1, 0, &Controller::fresh(&table), &[0, 0, 1, 1]);
     }
 }

@@ -1,11 +1,12 @@
 //! Runs from states that no run has left.
 
-use super::cases::{any_list, room_for, Cases};
+use super::cases::{any_list, Cases};
 use super::*;
 use crate::house::*;
-use crate::records::{Table, BANKS};
+use crate::listing::commands;
+use crate::records::BANKS;
 
-pub fn bytes_of_state(s: &State) -> Vec<u8> {
+pub fn bytes_of_state(s: &Controller) -> Vec<u8> {
     let four = |n: u32| n.to_le_bytes();
     let mut bytes = s.edition.to_le_bytes().to_vec();
     bytes.extend([s.cycle, s.acts, s.datas].into_iter().flat_map(four));
@@ -23,16 +24,28 @@ const ACTS: u32 = 4;
 const DATAS: u32 = 6;
 
 /// The state in which this list is left by the run of 15 cycles: two ACTs and two data commands have gone.
-fn midway() -> State {
-    let (fresh, list) = (State::fresh(&TABLE_A), LIST.concat());
-    let half = run(&TABLE_A, 15, room_for(&LIST), &fresh, &list);
-    half.expect("a fresh state").state
+fn midway() -> Controller {
+    ran(&Controller::fresh(&TABLE_A), &TABLE_A, &LIST, 15).2
+}
+
+/// From a state and with a list that are not refused: what is told, the commands, and the state that is left.
+pub fn ran(
+    from: &Controller,
+    table: &Table,
+    list: &[[u8; 4]],
+    count: u32,
+) -> (Ran, Vec<Command>, Controller) {
+    let mut state = from.clone();
+    let mut room = vec![0; room_for(list)];
+    let (table, list) = (bytes_of(table), list.concat());
+    let told = run_bytes(&mut state, &table, &list, count, &mut room).expect("it's accepted");
+    (told, commands(&room, told.commands), state)
 }
 
 pub fn hand_made(cases: &mut Cases) {
     let list = LIST.concat();
     let room = room_for(&LIST);
-    let mut put = |count: u32, change: &dyn Fn(&mut State)| {
+    let mut put = |count: u32, change: &dyn Fn(&mut Controller)| {
         let mut state = midway();
         change(&mut state);
         cases.run(&TABLE_A, count, room, &state, &list);
@@ -65,7 +78,7 @@ pub fn hand_made(cases: &mut Cases) {
     put(5, &|s| s.cycle = 99_999_999);
     put(u32::MAX, &|s| s.cycle = 99_999_960);
     put(u32::MAX, &|s| {
-        *s = State {
+        *s = Controller {
             cycle: 99_999_000,
             ..never_anywhere(s, 0)
         }
@@ -98,8 +111,8 @@ pub fn hand_made(cases: &mut Cases) {
 }
 
 /// The state with nothing stored and every bank as given.
-fn never_anywhere(s: &State, opened: u8) -> State {
-    let mut empty = State::fresh(&TABLE_A);
+fn never_anywhere(s: &Controller, opened: u8) -> Controller {
+    let mut empty = Controller::fresh(&TABLE_A);
     (empty.cycle, empty.acts, empty.datas) = (s.cycle, s.acts, s.datas);
     empty.banks.iter_mut().for_each(|bank| bank.opened = opened);
     empty
@@ -109,7 +122,7 @@ fn never_anywhere(s: &State, opened: u8) -> State {
 fn past_the_banks(cases: &mut Cases) {
     let list = [[1, 0, 1, 2], [0, 0, 1, 1]];
     for (table, of_table) in [(TABLE_A, 8), (ODD[0], 1)] {
-        let mut state = State::fresh(&table);
+        let mut state = Controller::fresh(&table);
         for (n, bank) in (0..).zip(&mut state.banks[of_table..]) {
             *bank = Bank {
                 opened: 200 + n,
@@ -141,7 +154,7 @@ fn run_rooms(cases: &mut Cases) {
     }
     cases.run(&TABLE_A, 9, 0, &other, &list[..11]);
     cases.run(&TABLE_A, 9, 0, &other, &[&list[..], &[0, 8, 1, 1]].concat());
-    cases.run(&TABLE_A, 9, 0, &State::fresh(&TABLE_A), &[]);
+    cases.run(&TABLE_A, 9, 0, &Controller::fresh(&TABLE_A), &[]);
     cases.run(&TABLE_A, 9, 0, &midway(), &[]);
 }
 
@@ -150,14 +163,13 @@ pub fn any_states(cases: &mut Cases, numbers: &mut Numbers) {
     for round in 0..18 {
         let table: &Table = &ODD[(round + 1) % ODD.len()];
         let list = any_list(table, 2 + round % 3, numbers);
-        let mut state = State::fresh(table);
+        let mut state = Controller::fresh(table);
         state.cycle = numbers.of(&[70, 300, 99_999_700]);
-        let ran = |count| run(table, count, 65_535, &state, &list.concat()).expect("it's fresh");
-        let whole = ran(u32::MAX).commands;
+        let (_, whole, _) = ran(&state, table, &list, u32::MAX);
         let next = whole[numbers.below(whole.len())].cycle;
-        let mut state = State {
+        let mut state = Controller {
             cycle: state.cycle,
-            ..ran(next - state.cycle).state
+            ..ran(&state, table, &list, next - state.cycle).2
         };
         let mut stored = || match numbers.byte() {
             n if n < 90 => NEVER,

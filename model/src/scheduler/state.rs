@@ -1,7 +1,7 @@
 //! "Running a few cycles": the cycle rule by what a state tells.
 
-use super::{read_list, refused, Queues, Waiting};
-use crate::records::{Command, Refusal, Table, BANKS, EDITION};
+use super::{check_list, refused, Queues, Waiting, MOST_TRANSACTIONS};
+use crate::records::{Command, Refusal, Table, Transaction, BANKS, EDITION};
 use crate::rules::{Times, ACT, RD, RDA, WR};
 
 /// A stored cycle of this value stands for "never".
@@ -146,14 +146,14 @@ pub struct Run {
 
 /// Numbers 3, 4, 5 and 9, and then the run. Room in bytes.
 pub fn run(
+    state: &State,
     table: &Table,
+    list: &[Transaction],
     count: u32,
     room: usize,
-    state: &State,
-    bytes: &[u8],
 ) -> Result<Run, Refusal> {
-    let list = read_list(table, bytes)?;
-    let queues = Queues::of(&list);
+    check_list(table, list, MOST_TRANSACTIONS)?;
+    let queues = Queues::of(list);
     let acts_left = queues.acts.len().saturating_sub(state.acts as usize);
     let datas_left = queues.datas.len().saturating_sub(state.datas as usize);
     if room < 8 * (acts_left + datas_left).min(count as usize) {

@@ -4,8 +4,8 @@ use super::broken::*;
 use super::search::*;
 use super::*;
 use crate::house::*;
-use crate::records::{Table, BANKS, CCD, LAST};
-use crate::scheduler::build;
+use crate::records::{Table, BANKS, CCD, EDITION, LAST};
+use crate::rules::*;
 
 const TOP: u64 = u32::MAX as u64;
 
@@ -38,11 +38,6 @@ fn bytes_of_some(records: &[(u32, u8, u8)]) -> Vec<u8> {
         .zip((0..=65535).rev())
         .flat_map(bytes)
         .collect()
-}
-
-fn built(table: &Table, list: &[[u8; 4]]) -> Vec<u8> {
-    let built = build(table, 1 << 20, 256, &list.concat()).expect("the list is accepted");
-    bytes_of_all(&built.commands)
 }
 
 pub fn cases() -> Vec<u8> {
@@ -81,7 +76,7 @@ pub fn cases() -> Vec<u8> {
 pub const EXAMPLE_1: [(u32, u8, u8); 2] = [(0, ACT, 0), (10, RDA, 0)];
 
 fn worked(cases: &mut Cases) {
-    let five = built(&TABLE_A, &[[0, 0, 4, 2]]);
+    let five = built(&TABLE_A, &[[0, 0, 4, 2]]).0;
     for length in [1, 37, 38, 39, u32::MAX] {
         cases.pattern(&TABLE_A, &EXAMPLE_1, length);
         cases.pattern(&TABLE_B, &EXAMPLE_1, length);
@@ -107,16 +102,16 @@ fn legal(cases: &mut Cases) {
         &[[1, 2, 3, 2], [0, 1, 2, 3], [1, 0, 5, 1]],
     ];
     for list in lists {
-        cases.put(JUDGE, &TABLE_A, 0, &built(&TABLE_A, list));
-        cases.put(JUDGE, &TABLE_B, 1, &built(&TABLE_B, list));
+        cases.put(JUDGE, &TABLE_A, 0, &built(&TABLE_A, list).0);
+        cases.put(JUDGE, &TABLE_B, 1, &built(&TABLE_B, list).0);
     }
     for table in ODD.iter().chain(&[LEAST, GREATEST]) {
         let banks = table[BANKS].min(5) as u8;
         let list = [[0, 0, banks, 1], [1, 0, 1, 3], [0, banks - 1, 1, 2]];
-        cases.put(JUDGE, table, u32::MAX, &built(table, &list));
-        cases.put(JUDGE_PATTERN, table, 4000, &built(table, &list));
+        cases.put(JUDGE, table, u32::MAX, &built(table, &list).0);
+        cases.put(JUDGE_PATTERN, table, 4000, &built(table, &list).0);
     }
-    let long = built(&LEAST, &[[1, 0, 16, 16], [0, 0, 16, 16], [0, 3, 9, 7]]);
+    let (long, _) = built(&LEAST, &[[1, 0, 16, 16], [0, 0, 16, 16], [0, 3, 9, 7]]);
     cases.put(JUDGE, &LEAST, 0, &long);
     cases.put(JUDGE_PATTERN, &LEAST, 3000, &long[long.len() - 576..]);
 }

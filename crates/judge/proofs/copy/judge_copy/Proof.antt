@@ -2,6 +2,11 @@ use borrow.Author.Needs.{needs}
 use native.Mathlib.Omega.{arith}
 use Prim.Native.Nat.{ℕ, _+_, _*_, _-_}
 use mathlib.Core.Path.{_≡_, refl, sym, ap, _∙_}
+use mathlib.Core.Bool.{Bool}
+use Rattle.records.specs.Tests.{pick}
+use Rattle.rules.specs.declared.verdict.Verdict.{Verdict}
+use Rattle.rules.specs.declared.verdict.Verdict.the-variants.{Accepted, Refused}
+use Rattle.rules.specs.declared.verdict.Rule.the-variants.{End}
 use Rattle.judge.specs.Seen.{recordCount, whole}
 use Rattle.judge.proofs.Seen.{room}
 use Rattle.judge.proofs.Turn.{Turn, turn-start, turn-stops, turn-bank, turn-next, turn-judging, turn-end}
@@ -36,11 +41,16 @@ loop-again c =
     let l = c .before .before .before .before .before .before .before .before .loop in
     (rw (c .note-kind .ensures) (turn-next (a .pre .0) (l .inv .0) (c .before .before .before .before .before .before .before .loop-test .taken) (record { bytes = c .before .before .before .before .before .before .command-at .ensures; cycle = ap (λ (m : ℕ). c .before .before .before .before .before .before .command-at .result .cycle + m) (c .before .before .before .before .before .before .before .before .before .shift-of .ensures .0); square = a .pre .1; back = c .before .before .before .before .keeps-distance .ensures }) (sym (c .before .before .before .found-by .ensures) ∙ c .before .enum-told .given .1)), l .inv .1)
 
+-- rule 10, by whether all banks are shut
+abbrev ended : ℕ → Bool → Verdict
+ended n shut = pick shut Accepted (Refused End n)
+
 returns-2 : tie.Need-returns-2 Inv-loop μ-loop
 returns-2 c =
     let a = c .before .before .before .before .before .before in
     let l = c .before .before .before .loop in
-    (rw (c .before .all-shut .ensures) at (c .end-of .ensures) ∙ turn-end (a .pre .0) (l .inv .0) (c .before .before .loop-test .left), λ e. turn-judging (a .pre .0) (l .inv .0) (c .before .before .loop-test .left))
+    let told : c .end-of .result ≡ ended (recordCount (a .args .s .now)) (c .before .all-shut .result) = c .end-of .ensures in
+    (told ∙ (ap (ended (recordCount (a .args .s .now))) (c .before .all-shut .ensures) ∙ turn-end (a .pre .0) (l .inv .0) (c .before .before .loop-test .left)), λ e. turn-judging (a .pre .0) (l .inv .0) (c .before .before .loop-test .left))
 
 pub judge-copy-spec : {M : Type 1} → statement M
 judge-copy-spec = tie.close (tie.spec Inv-loop μ-loop (λ c κs. search needs) (λ c. (turn-start (c .before .before .pre .4), refl)) (λ c. search needs) (λ c κs. omega arith) (λ c. search needs) (λ c. search needs) keeps-distance-requires (λ c. search needs) (λ c. search needs) (λ c κs. c .before .before .before .before .before .before .before .pre .0) (λ c. search needs) returns (λ c. search needs) note-kind-requires (λ c. search needs) loop-again (λ c κs. c .before .before .before .before .pre .0) (λ c. search needs) (λ c κs. search needs) returns-2)

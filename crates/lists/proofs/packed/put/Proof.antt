@@ -12,7 +12,11 @@ use Rattle.lists.proofs.packed.put.Tie as tie
 
 returns : tie.Need-returns
 unfolding putOf
-returns c = let full : length (c .before .args .p .bytes) ≡ 1024 = (rw length-map at (c .before .good .0 .1 .1 .1 .0 .1 .0 .1)) in rw (lt-ltb _ _ (c .if1 .taken)) (ap (λ (s : List ℕ). record { n = c .before .args .p .n + 1; bytes = s }) (put-four (c .before .args .p .bytes) (4 * c .before .args .p .n) _ _ _ _ (omega (arith, c .if1 .taken))))
+returns c =
+    let a = c .before .args in
+    let full : length (a .p .bytes) ≡ 1024 = rw length-map at (c .before .good .0 .1 .1 .1 .0 .1 .0 .1) in
+    rw (lt-ltb _ _ (c .if1 .taken)) (ap (λ (s : List ℕ). record { n = a .p .n + 1; bytes = s })
+    (put-four (a .p .bytes) (4 * a .p .n) (a .kind) (a .start) (a .bi) (a .bc) (omega (arith, c .if1 .taken))))
 
 returns-2 : tie.Need-returns-2
 unfolding putOf

@@ -1,11 +1,13 @@
 use borrow.Author.Needs.{needs}
-use mathlib.Core.Path.{sym, _∙_}
-use Rattle.runs.proofs.Laws.{read-accepted}
+use denote.Ref.{now}
+use Rattle.records.specs.declared.table.Table.{Table}
+use Rattle.lists.specs.Check.{checkBytes}
+use Rattle.desk.proofs.Room.{ran-room}
 use Rattle.runs.proofs.run.lines.Statement.{statement}
 use Rattle.runs.proofs.run.lines.Tie as tie
 
-checked-requires : tie.Need-checked-requires
-checked-requires c κs = read-accepted _ _ (sym (c .before .before .before .read-table .ensures) ∙ c .before .t .given .1)
+ran-requires : tie.Need-ran-requires
+ran-requires c κs = ran-room _ (λ (τ : Table). checkBytes τ _) _ _ _ _ _ _ _ (c .before .before .before .before .before .before .before .run-bytes .ensures) (c .before .before .answer .given .1)
 
 pub lines-spec : {M : Type 1} → statement M
-lines-spec = tie.close (tie.spec (λ c. search needs) (λ c κs. search needs) (λ c κs. search needs) (λ c. search needs) checked-requires (λ c. search needs) (λ c κs. search needs) (λ c. search needs) (λ c. search needs))
+lines-spec = tie.close (tie.spec (λ c. search needs) (λ c κs. search needs) (λ c κs. search needs) (λ c. search needs) (λ c κs. search needs) (λ c. search needs) (λ c. search needs) (λ c κs. search needs) (λ c. search needs) ran-requires (λ c. search needs) (λ c κs. search needs) (λ c. search needs) (λ c. search needs))

@@ -1,0 +1,243 @@
+-- Demand 1: a refused call leaves everything as it stood, and every answer names the table's edition.
+-- Assumes nothing.
+use Prim.Native.Nat.{ℕ, _+_, _/_, _%_}
+use mathlib.Core.Bool.{Bool, true, false, not, _&&_}
+use mathlib.Core.Path.{_≡_, refl, sym, ap, _∙_}
+use mathlib.Core.Logic.{_⊎_, inl, inr, ⊎-elim}
+use mathlib.Core.List.{List, [], _∷_}
+use native.Mathlib.Omega.{arith}
+use lib.Dec.{eqb, leb}
+use lib.ListN.{length}
+use Rattle.records.specs.declared.table.Table.{Table}
+use Rattle.records.specs.declared.table.TableRead.{TableRead}
+use Rattle.records.specs.declared.table.TableRead.the-variants.{Read, Refused}
+use Rattle.records.specs.declared.transaction.Transaction.{Transaction}
+use Rattle.records.specs.declared.refusal.Refusal.{Refusal}
+use Rattle.records.specs.Tests.{pick}
+use Rattle.records.specs.Told.{refusal, firstFailed}
+use Rattle.records.specs.Table.{tableAt, inRange, tableRefusal, readTable, Accepted}
+use Rattle.records.specs.Transaction.{transactionsIn, fitsIn}
+use Rattle.records.specs.Command.{commandsIn}
+use Rattle.records.proofs.Laws.{read-was, table-size}
+use Rattle.rules.specs.Verdict.{judge}
+use Rattle.rules.specs.Bound.{bound}
+use Rattle.rules.specs.Run.{run}
+use Rattle.judge.specs.declared.answer.Judged.the-variants.{Verdict, Refused as NotJudged}
+use Rattle.judge.specs.declared.answer.PatternJudged.{PatternJudged}
+use Rattle.judge.specs.declared.answer.PatternJudged.the-variants.{Verdict as PatternVerdict, Refused as PatternNotJudged}
+use Rattle.judge.specs.Answer.{scheduleRefusal, judged}
+use Rattle.builder.specs.declared.bound.BoundAnswer.the-variants.{Bound, Refused as NoBound}
+use Rattle.builder.specs.declared.build.BuildAnswer.{BuildAnswer}
+use Rattle.builder.specs.declared.build.BuildAnswer.the-variants.{Built, Refused as NotBuilt}
+use Rattle.builder.specs.Bound.{boundRefusal, boundTold}
+use Rattle.lists.specs.declared.check.Checked.{Checked}
+use Rattle.lists.specs.declared.check.Checked.the-variants.{Fine, Refused as NotFine}
+use Rattle.lists.specs.declared.decode.Decoded.the-variants.{Refused as NotDone}
+use Rattle.lists.specs.Check.{rangeFrom, checkSized, checkList, checkBytes, checkInto}
+use Rattle.lists.specs.Decode.{decodedBy, decoding}
+use Rattle.lists.proofs.Promises.{decode-kept}
+use Rattle.controller.specs.declared.controller.Controller.{Controller}
+use Rattle.controller.specs.declared.run.RunAnswer.the-variants.{Refused as NotRun}
+use Rattle.controller.specs.Controller.{tells}
+use Rattle.controller.specs.Refused.{runRefusal}
+use Rattle.controller.specs.Run.{RunLeft, ranLeft, refusedLeft, runController}
+use Rattle.controller.proofs.Halves.{refused}
+use Rattle.desk.specs.Admit.{admitted}
+use Rattle.desk.specs.Judging.{judging, PatternTold}
+use Rattle.desk.specs.Bounds.{bounding}
+use Rattle.desk.specs.Transactions.{reading}
+use Rattle.desk.specs.Schedules.{BuildsChecked, Schedules}
+use Rattle.desk.specs.Running.{starting, runsChecked, running}
+use Rattle.desk.specs.Named.{editionOf, judgedNames, patternNames, boundNames, readNames, buildNames, startNames, runNames}
+use Rattle.desk.specs.Demands.{Demand1}
+use Rattle.desk.proofs.Laws.{read-accepted}
+
+-- ---- the table
+
+-- a table is refused by the first of numbers 1 and 2 that fails
+refused-by : (s : List ℕ) (x : Refusal) → admitted s ≡ Refused x → (x ≡ refusal 1 0 0) ⊎ (x ≡ refusal 2 0 0)
+unfolding readTable
+refused-by s x r = on (not (eqb (length s) 32 && eqb (tableAt s .last) 0)) (not (inRange (tableAt s))) r
+  where
+    by : Bool → Bool → ℕ
+    by one two = firstFailed ((1, one) ∷ (2, two) ∷ [])
+
+    on : (one two : Bool) → pick (eqb (by one two) 0) (Read (tableAt s)) (Refused (refusal (by one two) 0 0)) ≡ Refused x
+        → (x ≡ refusal 1 0 0) ⊎ (x ≡ refusal 2 0 0)
+    on true two e = inl (cc)
+    on false true e = inr (cc)
+    on false false e = let z : _≡_ {A = ℕ} 0 1 = cc in absurd (omega arith)
+
+-- "Refusals 1 and 2 name edition 0"
+names-none : (s : List ℕ) (x : Refusal) → admitted s ≡ Refused x → x .edition ≡ 0
+names-none s x r = ⊎-elim (λ e. ap (λ (y : Refusal). y .edition) e) (λ e. ap (λ (y : Refusal). y .edition) e) (refused-by s x r)
+
+admits : (s : List ℕ) (τ : Table) → admitted s ≡ Read τ → (length s ≡ 32) × (τ ≡ tableAt s) × Accepted τ
+unfolding readTable
+admits s τ r =
+    let w = read-was tableRefusal tableAt Read (λ n. Refused (refusal n 0 0)) s τ (λ n k. let y : _≡_ {A = ℕ} 0 1 = cc in omega arith) r in
+    let e : tableAt s ≡ τ = let k = w .1 in cc in
+    (table-size (length s) (tableAt s) (w .0), sym e, read-accepted s τ r)
+
+-- ---- the check of a list names the table's edition
+
+module _ (τ : Table) (x : Refusal) where
+  range-names : (l : List Transaction) (k : ℕ) → rangeFrom (τ .banks) (τ .edition) l k ≡ NotFine x → x .edition ≡ τ .edition
+  unfolding rangeFrom
+  range-names [] k e = let z : _≡_ {A = ℕ} 0 1 = cc in absurd (omega arith)
+  range-names (t ∷ l) k e = on (fitsIn (τ .banks) t) e (range-names l (k + 1))
+    where
+      on : (b : Bool) → pick b (rangeFrom (τ .banks) (τ .edition) l (k + 1)) (NotFine (refusal 4 k (τ .edition))) ≡ NotFine x
+          → (rangeFrom (τ .banks) (τ .edition) l (k + 1) ≡ NotFine x → x .edition ≡ τ .edition) → x .edition ≡ τ .edition
+      on true e ih = ih e
+      on false e ih = let w : refusal 4 k (τ .edition) ≡ x = cc in ap (λ (y : Refusal). y .edition) (sym w)
+
+  sized-names : (b : Bool) (l : List Transaction) → checkSized τ b l ≡ NotFine x → x .edition ≡ τ .edition
+  sized-names true l e = range-names l 0 e
+  sized-names false l e = let w : refusal 3 0 (τ .edition) ≡ x = cc in ap (λ (y : Refusal). y .edition) (sym w)
+
+  list-names : (l : List Transaction) → checkList τ l ≡ NotFine x → x .edition ≡ τ .edition
+  unfolding checkList
+  list-names l e = sized-names (leb (length l) 256) l e
+
+  bytes-names : (s : List ℕ) → checkBytes τ s ≡ NotFine x → x .edition ≡ τ .edition
+  unfolding checkBytes
+  bytes-names s e = sized-names (eqb (length s % 4) 0 && leb (length s / 4) 256) (transactionsIn s) e
+
+  into-names : (s : List ℕ) (places : ℕ) → checkInto τ s places ≡ NotFine x → x .edition ≡ τ .edition
+  unfolding checkInto
+  into-names s places e = sized-names (eqb (length s % 4) 0 && (leb (length s / 4) 256 && leb (length s / 4) places)) (transactionsIn s) e
+
+-- ---- what a refused call leaves
+
+unread : (a : TableRead) (s : List ℕ) (l : List Transaction) (x : Refusal) → reading a s l .answer ≡ NotDone x → reading a s l .list ≡ l
+unfolding reading
+unread (Read τ) s l x e = decode-kept τ s l .refused x e
+unread (Refused y) s l x e = refl
+
+module _ (l : List Transaction) (b₀ b f₀ f : List ℕ) (x : Refusal) where
+  unbuilt-checked : (c : Checked) (τ : Table) → BuildsChecked c τ l b₀ b f₀ f (NotBuilt x) → (b ≡ b₀) × (f ≡ f₀)
+  unfolding BuildsChecked
+  unbuilt-checked Fine τ h = (h .2, h .3)
+  unbuilt-checked (NotFine y) τ h = (h .1, h .2)
+
+  unbuilt : (check : Table → Checked) (a : TableRead) → Schedules check a l b₀ b f₀ f (NotBuilt x) → (b ≡ b₀) × (f ≡ f₀)
+  unfolding Schedules
+  unbuilt check (Read τ) h = unbuilt-checked (check τ) τ h
+  unbuilt check (Refused y) h = (h .1, h .2)
+
+module _ (c : Controller) (l : List Transaction) (n : ℕ) (b : List ℕ) (x : Refusal) where
+  -- the controller and the buffer are as they stood
+  abbrev Stood : RunLeft → Type 0
+  Stood w = (w .told .controller ≡ c) × (w .buffer ≡ b)
+
+  unrun-checked : (d : Checked) (τ : Table) → runsChecked d c τ l n b .told .answer ≡ NotRun x → Stood (runsChecked d c τ l n b)
+  unfolding runsChecked
+  unrun-checked Fine τ e = let w = refused τ l c n b x e in (ap (λ (v : RunLeft). v .told .controller) w, ap (λ (v : RunLeft). v .buffer) w)
+  unrun-checked (NotFine y) τ e = (refl, refl)
+
+  unrun : (check : Table → Checked) (a : TableRead) → running check a c l n b .told .answer ≡ NotRun x → Stood (running check a c l n b)
+  unfolding running
+  unrun check (Read τ) e = unrun-checked (check τ) τ e
+  unrun check (Refused y) e = (refl, refl)
+
+-- ---- what each answer names, by what `admit` answered
+
+-- where `admit` refused, it named edition 0
+abbrev NamesNone : TableRead → Type 0
+NamesNone a = (x : Refusal) → a ≡ Refused x → x .edition ≡ 0
+
+-- an answer and a refusal that name the same
+either : {A : Type 0} (names : A → ℕ) (b : Bool) (x y : A) (e : ℕ) → names x ≡ e → names y ≡ e → names (pick b x y) ≡ e
+either names true x y e p q = p
+either names false x y e p q = q
+
+judge-names : (a : TableRead) → NamesNone a → (s : List ℕ) → judgedNames (judging a s) ≡ editionOf a
+unfolding judging judged
+judge-names (Read τ) h s =
+    let z = scheduleRefusal (length s) in
+    either judgedNames (eqb z 0) (Verdict (τ .edition) (judge τ (commandsIn s))) (NotJudged (refusal z 0 (τ .edition))) (τ .edition) refl refl
+judge-names (Refused x) h s = h x refl
+
+pattern-names : (a : TableRead) → NamesNone a → (s : List ℕ) (L : ℕ) (r : PatternJudged) → PatternTold a s L r → patternNames r ≡ editionOf a
+unfolding PatternTold
+pattern-names (Read τ) h s L (PatternVerdict e v) p = p .1
+pattern-names (Read τ) h s L (PatternNotJudged x) p = ap (λ (y : Refusal). y .edition) (p .1)
+pattern-names (Refused x) h s L r p = ap patternNames p ∙ h x refl
+
+bound-names : (a : TableRead) → NamesNone a → (bi bc : ℕ) → boundNames (bounding a bi bc) ≡ editionOf a
+unfolding bounding boundTold
+bound-names (Read τ) h bi bc =
+    let z = boundRefusal (τ .banks) bi bc in
+    either boundNames (eqb z 0) (Bound (τ .edition) (bound τ bi bc)) (NoBound (refusal z 0 (τ .edition))) (τ .edition) refl refl
+bound-names (Refused x) h bi bc = h x refl
+
+read-names : (a : TableRead) → NamesNone a → (s : List ℕ) (l : List Transaction) → readNames (reading a s l .answer) ≡ editionOf a
+unfolding reading decoding
+read-names (Read τ) h s l = on (checkInto τ s (length l)) (λ x. into-names τ x s (length l))
+  where
+    on : (c : Checked) → ((x : Refusal) → c ≡ NotFine x → x .edition ≡ τ .edition) → readNames (decodedBy c τ s l .answer) ≡ τ .edition
+    on Fine n = refl
+    on (NotFine x) n = n x refl
+read-names (Refused x) h s l = h x refl
+
+-- the check of the list names the table's edition where it refuses
+abbrev NamesIts : (Table → Checked) → Type 0
+NamesIts check = (τ : Table) (x : Refusal) → check τ ≡ NotFine x → x .edition ≡ τ .edition
+
+module _ (l : List Transaction) (b₀ b f₀ f : List ℕ) where
+  builds-names : (τ : Table) (c : Checked) → ((x : Refusal) → c ≡ NotFine x → x .edition ≡ τ .edition)
+      → (r : BuildAnswer) → BuildsChecked c τ l b₀ b f₀ f r → buildNames r ≡ τ .edition
+  unfolding BuildsChecked
+  builds-names τ Fine n (Built e k) p = p .1
+  builds-names τ Fine n (NotBuilt x) p = ap (λ (y : Refusal). y .edition) (p .1)
+  builds-names τ (NotFine x) n r p = ap buildNames (p .0) ∙ n x refl
+
+  schedule-names : (check : Table → Checked) → NamesIts check → (a : TableRead) → NamesNone a
+      → (r : BuildAnswer) → Schedules check a l b₀ b f₀ f r → buildNames r ≡ editionOf a
+  unfolding Schedules
+  schedule-names check n (Read τ) h r p = builds-names τ (check τ) (n τ) r p
+  schedule-names check n (Refused x) h r p = ap buildNames (p .0) ∙ h x refl
+
+start-names : (a : TableRead) → NamesNone a → startNames (starting a .answer) ≡ editionOf a
+unfolding starting
+start-names (Read τ) h = refl
+start-names (Refused x) h = h x refl
+
+module _ (c : Controller) (l : List Transaction) (n : ℕ) (b : List ℕ) where
+  -- what a run's answer names
+  abbrev leftNames : RunLeft → ℕ
+  leftNames w = runNames (w .told .answer)
+
+  runs-names : (τ : Table) (d : Checked) → ((x : Refusal) → d ≡ NotFine x → x .edition ≡ τ .edition) → leftNames (runsChecked d c τ l n b) ≡ τ .edition
+  unfolding runsChecked runController
+  runs-names τ Fine k =
+      let z = runRefusal τ l (tells c) n (length b) in
+      either leftNames (eqb z 0) (ranLeft (τ .edition) (run n τ l (tells c) []) b) (refusedLeft (τ .edition) z c b) (τ .edition) refl refl
+  runs-names τ (NotFine x) k = k x refl
+
+  run-names : (check : Table → Checked) → NamesIts check → (a : TableRead) → NamesNone a → leftNames (running check a c l n b) ≡ editionOf a
+  unfolding running
+  run-names check k (Read τ) h = runs-names τ (check τ) (k τ)
+  run-names check k (Refused x) h = h x refl
+
+-- ---- the demand
+
+pub demand-1 : (table : List ℕ) → Demand1 table
+demand-1 table =
+    record {
+      refused = refused-by table;
+      admits = admits table;
+      unread = unread (admitted table);
+      unbuilt = λ check l b₀ b f₀ f x. unbuilt l b₀ b f₀ f x check (admitted table);
+      unrun = λ check c l n b x. unrun c l n b x check (admitted table);
+      judge = judge-names (admitted table) (names-none table);
+      pattern = pattern-names (admitted table) (names-none table);
+      bound = bound-names (admitted table) (names-none table);
+      read = read-names (admitted table) (names-none table);
+      schedule = λ l b₀ b f₀ f. schedule-names l b₀ b f₀ f (λ τ. checkList τ l) (λ τ x. list-names τ x l) (admitted table) (names-none table);
+      scheduleBytes = λ s b₀ b f₀ f. schedule-names (transactionsIn s) b₀ b f₀ f (λ τ. checkBytes τ s) (λ τ x. bytes-names τ x s) (admitted table) (names-none table);
+      start = start-names (admitted table) (names-none table);
+      run = λ c l n b. run-names c l n b (λ τ. checkList τ l) (λ τ x. list-names τ x l) (admitted table) (names-none table);
+      runBytes = λ c s n b. run-names c (transactionsIn s) n b (λ τ. checkBytes τ s) (λ τ x. bytes-names τ x s) (admitted table) (names-none table);
+    }

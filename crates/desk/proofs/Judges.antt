@@ -1,0 +1,103 @@
+-- Demand 2: what is built is the schedule of the cycle rule, and the judges accept exactly the legal and name the first that is broken.
+-- Assumes nothing.
+use Prim.Native.Nat.{ℕ, _*_}
+use mathlib.Core.Bool.{true}
+use mathlib.Core.Path.{_≡_, sym, ap, _∙_, subst}
+use mathlib.Core.Logic.{_↔_}
+use mathlib.Core.List.{List, []}
+use native.Mathlib.Omega.{arith}
+use lib.Dec.{ltb}
+use lib.ListN.{length, take, drop}
+use lib.Seq.{take-at}
+use Rattle.records.specs.declared.table.Table.{Table}
+use Rattle.records.specs.declared.table.TableRead.{TableRead}
+use Rattle.records.specs.declared.table.TableRead.the-variants.{Read}
+use Rattle.records.specs.declared.transaction.Transaction.{Transaction}
+use Rattle.records.specs.declared.command.Command.{Command}
+use Rattle.records.specs.Tests.{pick}
+use Rattle.records.specs.Told.{refusal, over}
+use Rattle.records.specs.Command.{commandsIn, bytesOfAll}
+use Rattle.records.proofs.Laws.{answered}
+use Rattle.rules.specs.declared.verdict.Rule.{Rule}
+use Rattle.rules.specs.declared.verdict.Verdict.the-variants.{Accepted as Passed, Refused as Broken}
+use Rattle.rules.specs.declared.verdict.PatternVerdict.the-variants.{Accepted as AllPassed, Refused as BrokenAt}
+use Rattle.rules.specs.Verdict.{allShut, judge}
+use Rattle.rules.specs.Pattern.{onto, copies, EveryNumberLegal}
+use Rattle.rules.specs.Demands.{FineTo, FirstBroken}
+use Rattle.rules.proofs.Demands.{demand-2 as of-rules}
+use Rattle.judge.specs.declared.answer.Judged.{Judged}
+use Rattle.judge.specs.declared.answer.Judged.the-variants.{Verdict, Refused as NotJudged}
+use Rattle.judge.specs.declared.answer.PatternJudged.{PatternJudged}
+use Rattle.judge.specs.declared.answer.PatternJudged.the-variants.{Verdict as PatternVerdict}
+use Rattle.judge.specs.Answer.{scheduleRefusal, patternRefusal, judged}
+use Rattle.judge.proofs.Accepts.{judge-accepts, pattern-accepts}
+use Rattle.engine.proofs.Going.{length-bytes}
+use Rattle.builder.specs.declared.build.BuildAnswer.the-variants.{Built}
+use Rattle.builder.specs.Build.{Stands}
+use Rattle.lists.specs.declared.check.Checked.{Checked}
+use Rattle.lists.specs.declared.check.Checked.the-variants.{Fine, Refused as NotFine}
+use Rattle.desk.specs.Admit.{admitted}
+use Rattle.desk.specs.Judging.{judging, PatternTold}
+use Rattle.desk.specs.Schedules.{BuildsChecked, Schedules}
+use Rattle.desk.specs.Demands.{Demand2}
+
+-- ---- of a schedule that is answered
+
+module _ (τ : Table) (l : List Transaction) (b₀ b f₀ f : List ℕ) (e n : ℕ) where
+  checked-stands : (c : Checked) → BuildsChecked c τ l b₀ b f₀ f (Built e n) → Stands τ l b₀ b f₀ f n
+  unfolding BuildsChecked
+  checked-stands Fine h = h .2
+  checked-stands (NotFine x) h = let y : _≡_ {A = ℕ} 0 1 = let k = h .0 in cc in absurd (omega arith)
+
+  stands : (check : Table → Checked) → Schedules check (Read τ) l b₀ b f₀ f (Built e n) → Stands τ l b₀ b f₀ f n
+  unfolding Schedules
+  stands check h = checked-stands (check τ) h
+
+-- the bytes of a schedule stand at the start of the buffer
+pub bytes-stand : (rs : List Command) (b₀ b : List ℕ) → b ≡ over (bytesOfAll rs) b₀ → take (8 * length rs) b ≡ bytesOfAll rs
+bytes-stand rs b₀ b e = ap (take (8 * length rs)) e ∙ take-at (bytesOfAll rs) (drop (length (bytesOfAll rs)) b₀) (8 * length rs) (length-bytes rs)
+
+-- ---- of a table that is read
+
+module _ (τ : Table) (s : List ℕ) where
+  judging-accepts : scheduleRefusal (length s) ≡ 0
+      → (judging (Read τ) s ≡ Verdict (τ .edition) Passed)
+      ↔ (FineTo τ [] (commandsIn s) (length (commandsIn s)) × (allShut (τ .banks) (onto (commandsIn s) []) ≡ true))
+  unfolding judging
+  judging-accepts z =
+      let of = of-rules .accepts τ (commandsIn s) in
+      (λ e. of .0 (judge-accepts τ s .0 e .1), λ h. judge-accepts τ s .1 (z, of .1 h))
+
+  judging-names : (e : ℕ) (x : Rule) (i : ℕ) → judging (Read τ) s ≡ Verdict e (Broken x i) → FirstBroken τ [] (commandsIn s) x i
+  unfolding judging judged
+  judging-names e x i h =
+      let z = scheduleRefusal (length s) in
+      let a = answered (λ (j : Judged). j) z (Verdict (τ .edition) (judge τ (commandsIn s))) (NotJudged (refusal z 0 (τ .edition))) (Verdict e (Broken x i)) h
+      (λ k. let y : _≡_ {A = ℕ} 0 1 = cc in absurd (omega arith)) in
+      of-rules .names τ (commandsIn s) x i (let k = a .1 in cc)
+
+  pattern-told : (L : ℕ) (r : PatternJudged) → patternRefusal (length s) L ≡ 0 → PatternTold (Read τ) s L r
+      → (r ≡ PatternVerdict (τ .edition) AllPassed) ↔ EveryNumberLegal τ L (commandsIn s)
+  unfolding PatternTold
+  pattern-told L r z p = let a = pattern-accepts τ s L r p in (λ e. a .0 e .1, λ h. a .1 (z, h))
+
+  pattern-lowest : (L e : ℕ) (x : Rule) (c i : ℕ) → PatternTold (Read τ) s L (PatternVerdict e (BrokenAt x c i))
+      → (n : ℕ) → copies τ L (commandsIn s) n ≡ pick (ltb n c) AllPassed (BrokenAt x c i)
+  unfolding PatternTold
+  pattern-lowest L e x c i p = p .2
+
+-- ---- the demand
+
+pub demand-2 : (table : List ℕ) (τ : Table) → admitted table ≡ Read τ → Demand2 table τ
+demand-2 table τ read =
+    record {
+      built = λ check l b₀ b f₀ f e n h.
+          let k = stands τ l b₀ b f₀ f e n check (subst (λ (a : TableRead). Schedules check a l b₀ b f₀ f (Built e n)) read h) in
+          (k .schedule, k .built, k .count, ap (λ (m : ℕ). take (8 * m) b) (k .count) ∙ bytes-stand (k .schedule) b₀ b (k .buffer));
+      accepts = λ s z.
+          subst (λ (a : TableRead). (judging a s ≡ Verdict (τ .edition) Passed)
+          ↔ (FineTo τ [] (commandsIn s) (length (commandsIn s)) × (allShut (τ .banks) (onto (commandsIn s) []) ≡ true))) (sym read) (judging-accepts τ s z);
+      names = λ s e x i h. judging-names τ s e x i (subst (λ (a : TableRead). judging a s ≡ Verdict e (Broken x i)) read h);
+      pattern = λ s L r z p. pattern-told τ s L r z (subst (λ (a : TableRead). PatternTold a s L r) read p);
+      lowest = λ s L e x c i p. pattern-lowest τ s L e x c i (subst (λ (a : TableRead). PatternTold a s L (PatternVerdict e (BrokenAt x c i))) read p);
+    }

@@ -1,0 +1,107 @@
+-- What the calls below ask for, of a table that is admitted and a list that is checked; and each definition, by what the checks find.
+-- Assumes nothing.
+use Prim.Native.Nat.{ℕ, _*_, _/_, _%_, _≤_, _<_}
+use mathlib.Core.Bool.{not, _&&_}
+use mathlib.Core.Path.{_≡_, refl, sym, ap, _∙_, subst}
+use mathlib.Core.List.{List, [], _∷_}
+use native.Mathlib.Omega.{arith}
+use lib.Dec.{eqb}
+use lib.ListN.{length, take, length-take}
+use borrow.Author.Tests.{not-false}
+use Rattle.records.specs.declared.table.Table.{Table}
+use Rattle.records.specs.declared.table.TableRead.{TableRead}
+use Rattle.records.specs.declared.table.TableRead.the-variants.{Read, Refused}
+use Rattle.records.specs.declared.transaction.Transaction.{Transaction}
+use Rattle.records.specs.declared.refusal.Refusal.{Refusal}
+use Rattle.records.specs.Told.{refusal}
+use Rattle.records.specs.Table.{tableAt, inRange, tableRefusal, readTable, Accepted}
+use Rattle.records.specs.Transaction.{transactionsIn}
+use Rattle.records.proofs.Laws.{and-right, passes, read-was}
+use Rattle.rules.proofs.Ranges.{ranges}
+use Rattle.heads.specs.Queue.{Listed}
+use Rattle.lists.specs.declared.check.Checked.{Checked}
+use Rattle.lists.specs.declared.check.Checked.the-variants.{Fine, Refused as NotFine}
+use Rattle.lists.specs.declared.packed.Packed.{Packed}
+use Rattle.lists.specs.Check.{checkBytes, checkList}
+use Rattle.lists.specs.Packed.{held, lent}
+use Rattle.lists.proofs.Checks.{into-256, into-list, fine-fits, bytes-list, over-list}
+use Rattle.lists.proofs.Packing.{length-held, lent-held, lent-check}
+use Rattle.builder.specs.declared.build.BuildAnswer.{BuildAnswer}
+use Rattle.builder.specs.declared.build.BuildAnswer.the-variants.{Refused as NotBuilt}
+use Rattle.builder.specs.Build.{LeavesBuild}
+use Rattle.controller.specs.declared.controller.Controller.{Controller}
+use Rattle.controller.specs.declared.run.RunTold.{RunTold}
+use Rattle.controller.specs.declared.run.RunAnswer.the-variants.{Refused as NotRun}
+use Rattle.controller.specs.Run.{RunLeft, runController, LeavesRun}
+use Rattle.desk.specs.Admit.{admitted, tooMany}
+use Rattle.desk.specs.Schedules.{BuildsChecked, Schedules}
+use Rattle.desk.specs.Running.{runsChecked, running}
+
+-- ---- the table
+
+pub read-accepted : (s : List ℕ) (τ : Table) → admitted s ≡ Read τ → Accepted τ
+unfolding readTable
+read-accepted s τ r =
+    let w = read-was tableRefusal tableAt Read (λ n. Refused (refusal n 0 0)) s τ (λ n k. let y : _≡_ {A = ℕ} 0 1 = cc in omega arith) r in
+    let e : tableAt s ≡ τ = let k = w .1 in cc in
+    subst (λ (t : Table). Accepted t) e (taken (length s) (tableAt s) (w .0))
+  where
+    taken : (size : ℕ) (t : Table) → tableRefusal size t ≡ 0 → Accepted t
+    taken size t z =
+        let p = passes 1 (not (eqb size 32 && eqb (t .last) 0)) ((2, not (inRange t)) ∷ []) (λ k. omega arith) z in
+        let q = passes 2 (not (inRange t)) [] (λ k. omega arith) (p .1) in
+        rw (and-right (eqb size 32) (eqb (t .last) 0) (not-false _ (p .0)), not-false (inRange t) (q .0)) refl
+
+-- a is what `admit` answered
+pub told-accepted : (s : List ℕ) (a : TableRead) (τ : Table) → a ≡ admitted s → a ≡ Read τ → Accepted τ
+told-accepted s a τ e t = read-accepted s τ (sym e ∙ t)
+
+pub told-banks : (s : List ℕ) (a : TableRead) (τ : Table) → a ≡ admitted s → a ≡ Read τ → τ .banks ≤ 16
+told-banks s a τ e t = ranges τ (told-accepted s a τ e t) .banks .most
+
+-- what holds of one answer of `admit` holds of the table's bytes
+pub by-admitted : (P : TableRead → Type 0) (s : List ℕ) (a b : TableRead) → a ≡ admitted s → a ≡ b → P b → P (admitted s)
+by-admitted P s a b e t p = subst P (sym t ∙ e) p
+
+-- ---- the list
+
+pub fine-listed : (τ : Table) (s : List ℕ) (d : Checked) → Accepted τ → d ≡ checkBytes τ s → d ≡ Fine → Listed τ s (length s / 4)
+fine-listed τ s d a e f =
+    record { table = a; bytes = omega arith; fit = fine-fits τ (transactionsIn s) (into-list τ s 256 (into-256 τ s ∙ sym e ∙ f)) }
+
+pub by-checked : (P : Checked → Type 0) (τ : Table) (s : List ℕ) (d b : Checked) → d ≡ checkBytes τ s → d ≡ b → P b → P (checkBytes τ s)
+by-checked P τ s d b e t p = subst P (sym t ∙ e) p
+
+-- ---- two checks that find the same, of the same list
+
+pub schedules-same : (f g : Table → Checked) (a : TableRead) (l m : List Transaction) (b₀ b f₀ f₁ : List ℕ) (r : BuildAnswer) → ((τ : Table) → f τ ≡ g τ) → l ≡ m
+    → Schedules f a l b₀ b f₀ f₁ r → Schedules g a m b₀ b f₀ f₁ r
+unfolding Schedules
+schedules-same f g (Read τ) l m b₀ b f₀ f₁ r e s h =
+    subst (λ (k : List Transaction). BuildsChecked (g τ) τ k b₀ b f₀ f₁ r) s (subst (λ (d : Checked). BuildsChecked d τ l b₀ b f₀ f₁ r) (e τ) h)
+schedules-same f g (Refused x) l m b₀ b f₀ f₁ r e s h = h
+
+pub running-same : (f g : Table → Checked) (a : TableRead) (c : Controller) (l m : List Transaction) (count : ℕ) (b : List ℕ) → ((τ : Table) → f τ ≡ g τ) → l ≡ m
+    → running f a c l count b ≡ running g a c m count b
+unfolding running
+running-same f g (Read τ) c l m count b e s =
+    ap (λ (d : Checked). runsChecked d c τ l count b) (e τ) ∙ ap (λ (k : List Transaction). runsChecked (g τ) c τ k count b) s
+running-same f g (Refused x) c l m count b e s = refl
+
+-- ---- more than 256
+
+-- the check refuses every table's list by number 3
+abbrev pub Over : (Table → Checked) → Type 0
+Over check = (τ : Table) → NotFine (refusal 3 0 (τ .edition)) ≡ check τ
+
+pub schedules-over : (check : Table → Checked) (a : TableRead) (l : List Transaction) (b f : List ℕ) (x : Refusal) → Over check → x ≡ tooMany a → Schedules check a l b b f f (NotBuilt x)
+unfolding Schedules BuildsChecked
+schedules-over check (Read τ) l b f x o e = subst (λ (d : Checked). BuildsChecked d τ l b b f f (NotBuilt x)) (o τ) (ap NotBuilt e, refl, refl)
+schedules-over check (Refused y) l b f x o e = (ap NotBuilt e, refl, refl)
+
+pub running-over : (check : Table → Checked) (a : TableRead) (c : Controller) (l : List Transaction) (count : ℕ) (b : List ℕ) (x : Refusal) → Over check → x ≡ tooMany a
+    → LeavesRun (running check a c l count b) (record { controller = c; answer = NotRun x }) b
+unfolding running runsChecked
+running-over check (Read τ) c l count b x o e =
+    subst (λ (d : Checked). LeavesRun (runsChecked d c τ l count b) (record { controller = c; answer = NotRun x }) b) (o τ) (ap (λ (y : Refusal). record { controller = c; answer = NotRun y }) e, refl)
+running-over check (Refused y) c l count b x o e = (ap (λ (y : Refusal). record { controller = c; answer = NotRun y }) e, refl)

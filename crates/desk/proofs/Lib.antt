@@ -1,0 +1,9 @@
+-- The laws and theorems about the public calls.
+pub mod Laws
+pub mod Told
+pub mod Lent
+pub mod Unique
+pub mod Edition
+pub mod Judges
+pub mod Serves
+pub mod Room

@@ -1,0 +1,200 @@
+-- Demand 3: for every accepted table and list that fits, with room for the result, the schedule is built, it stands in the buffer, it passes the
+-- judge as it stands there, it serves every transaction within its bound, and transactions added at the end move nothing.
+-- Assumes nothing.
+use Prim.Native.Nat.{ℕ, zero, suc, _+_, _*_, _/_, _%_, _≤_, _<_}
+use mathlib.Core.Bool.{true}
+use mathlib.Core.Path.{_≡_, refl, sym, ap, _∙_, subst}
+use mathlib.Core.Option.{some}
+use mathlib.Core.List.{List, [], _∷_, append-nil}
+use native.Mathlib.Omega.{arith}
+use native.Mathlib.Nat.{zero-add}
+use lib.Dec.{leb}
+use lib.ListN.{length, getElem?, getD, take, drop, take-append-drop, List·getD-append}
+use lib.Seq.{drop-at}
+use borrow.Author.Tests.{leb-true, le-leb, le-ltb, eq-eqb}
+use Rattle.records.specs.declared.table.Table.{Table}
+use Rattle.records.specs.declared.table.TableRead.{TableRead}
+use Rattle.records.specs.declared.table.TableRead.the-variants.{Read}
+use Rattle.records.specs.declared.transaction.Transaction.{Transaction}
+use Rattle.records.specs.declared.command.Command.{Command}
+use Rattle.records.specs.Tests.{every}
+use Rattle.records.specs.Told.{over}
+use Rattle.records.specs.Table.{Accepted}
+use Rattle.records.specs.Transaction.{transactionsIn, fits, listFits}
+use Rattle.records.specs.Command.{commandsFrom, commandsIn, bytesOfAll}
+use Rattle.records.proofs.Laws.{and-left, and-right}
+use Rattle.rules.specs.declared.verdict.Verdict.the-variants.{Accepted as Passed}
+use Rattle.rules.specs.Queues.{actQueue, dataQueue}
+use Rattle.rules.specs.Verdict.{Legal}
+use Rattle.rules.specs.Finish.{finish}
+use Rattle.rules.specs.Bound.{bound}
+use Rattle.rules.specs.Promise.{cycleOf, Kept}
+use Rattle.rules.proofs.TestLaws.{OnSome, every-at}
+use Rattle.rules.proofs.Fit.{is-fit}
+use Rattle.rules.proofs.Promises.{kept}
+use Rattle.heads.proofs.Laws.{acts-due, datas-due}
+use Rattle.judge.specs.declared.answer.Judged.the-variants.{Verdict}
+use Rattle.judge.specs.Answer.{scheduleRefusal}
+use Rattle.judge.proofs.Accepts.{judge-accepts}
+use Rattle.engine.specs.Build.{finishesFrom}
+use Rattle.engine.proofs.Going.{length-bytes}
+use Rattle.engine.proofs.Marks.{Each, Readable, read-back}
+use Rattle.engine.proofs.Schedule.{ours, readable, finishes-length}
+use Rattle.builder.specs.declared.bound.BoundAnswer.the-variants.{Bound}
+use Rattle.builder.specs.declared.build.BuildAnswer.{BuildAnswer}
+use Rattle.builder.specs.declared.build.BuildAnswer.the-variants.{Built, Refused as NotBuilt}
+use Rattle.builder.specs.Bound.{boundTold}
+use Rattle.builder.specs.Build.{buildRefusal, LeavesBuild}
+use Rattle.lists.specs.declared.check.Checked.{Checked}
+use Rattle.lists.specs.Check.{checkList, checkBytes}
+use Rattle.lists.specs.Packed.{lent, packed}
+use Rattle.lists.proofs.Checks.{bytes-list, fits-fine}
+use Rattle.lists.proofs.Packing.{lent-check, packed-full}
+use Rattle.lists.proofs.Promises.{gather-kept}
+use Rattle.desk.specs.Admit.{admitted}
+use Rattle.desk.specs.Judging.{judging}
+use Rattle.desk.specs.Bounds.{bounding}
+use Rattle.desk.specs.Schedules.{BuildsChecked, Schedules}
+use Rattle.desk.specs.Demands.{Demand3, Room}
+use Rattle.desk.proofs.Laws.{read-accepted, fine-listed, schedules-same}
+use Rattle.desk.proofs.Judges.{bytes-stand}
+
+-- ---- the built schedule's bytes pass the judge
+
+-- no list that fits puts more commands into the queues than the judge takes
+few-due : (τ : Table) → Accepted τ → (l : List Transaction) → listFits τ l ≡ true → length (actQueue τ l) + length (dataQueue τ l) ≤ 69632
+few-due τ acc l fit =
+    let few : length l ≤ 256 = leb-true (length l) 256 (and-left (leb (length l) 256) (every (fits τ) l) fit) in
+    let g = gather-kept l .few few in
+    let fine = lent-check (packed l) (omega (arith, few, g .0)) (packed-full l) τ ∙ (gather-kept l .checked τ ∙ fits-fine τ l fit) in
+    let k = fine-listed τ (lent (packed l)) (checkBytes τ (lent (packed l))) acc refl fine in
+    subst (λ (m : List Transaction). length (actQueue τ m) + length (dataQueue τ m) ≤ 69632) (g .2) (omega (arith, acts-due k, datas-due k))
+
+-- number 7 does not refuse so many records
+few-judged : (size n : ℕ) → size ≡ 8 * n → n ≤ 69632 → scheduleRefusal size ≡ 0
+few-judged size n e h = rw (eq-eqb (size % 8) 0 (omega arith), le-ltb 69632 (size / 8) (omega arith))
+
+-- what was written is read
+read-whole : (rs : List Command) → Each Readable rs → commandsIn (bytesOfAll rs) ≡ rs
+read-whole rs r =
+    let count : length (bytesOfAll rs) / 8 ≡ length rs = omega (arith, length-bytes rs) in
+    ap (λ (n : ℕ). commandsFrom (bytesOfAll rs) n 0) count
+    ∙ (ap (λ (s : List ℕ). commandsFrom s (length rs) 0) (sym (append-nil (bytesOfAll rs))) ∙ read-back [] rs [] r)
+
+module _ (τ : Table) (acc : Accepted τ) (l : List Transaction) (fit : listFits τ l ≡ true) (rs : List Command) (q : Kept τ l rs) where
+  bytes-pass : judging (Read τ) (bytesOfAll rs) ≡ Verdict (τ .edition) Passed
+  unfolding judging
+  bytes-pass = judge-accepts τ (bytesOfAll rs) .1 (taken, subst (Legal τ) (sym same) (q .passes))
+    where
+      taken : scheduleRefusal (length (bytesOfAll rs)) ≡ 0
+      taken = few-judged (length (bytesOfAll rs)) (length rs) (length-bytes rs) (omega (arith, q .count, few-due τ acc l fit))
+
+      same : commandsIn (bytesOfAll rs) ≡ rs
+      same = read-whole rs (readable l rs (ours τ l rs (q .built)) (q .early))
+
+-- ---- the finishing cycles
+
+finish-at : (τ : Table) (l : List Transaction) (k : ℕ) (rs : List Command) (j : ℕ) (x : Transaction) → getElem? l j ≡ some x
+    → (getD (finishesFrom τ l k rs) j 0 ≡ cycleOf (finish τ x (k + j) rs)) × (j < length l)
+finish-at τ [] k rs j x e = let z : _≡_ {A = ℕ} 0 1 = cc in absurd (omega arith)
+finish-at τ (y ∷ l) k rs zero x e =
+    let same : y ≡ x = cc in
+    let z : k ≡ k + 0 = omega arith in
+    (ap (λ (y : Transaction). cycleOf (finish τ y k rs)) same ∙ ap (λ (i : ℕ). cycleOf (finish τ x i rs)) z, omega arith)
+finish-at τ (y ∷ l) k rs (suc j) x e =
+    let w = finish-at τ l (suc k) rs j x e in
+    let z : suc k + j ≡ k + suc j = omega arith in
+    (w .0 ∙ ap (λ (i : ℕ). cycleOf (finish τ x i rs)) z, omega (arith, w .1))
+
+module _ (τ : Table) (l : List Transaction) (rs : List Command) (f₀ f : List ℕ) (e : f ≡ over (finishesFrom τ l 0 rs) f₀) where
+  finish-stands : (k : ℕ) (x : Transaction) → getElem? l k ≡ some x → getD f k 0 ≡ cycleOf (finish τ x k rs)
+  finish-stands k x h =
+      let w = finish-at τ l 0 rs k x h in
+      let new = finishesFrom τ l 0 rs in
+      ap (λ (s : List ℕ). getD s k 0) e
+      ∙ (List·getD-append new (drop (length new) f₀) 0 k (omega (arith, w .1, finishes-length τ l 0 rs))
+      ∙ (w .0 ∙ ap (λ (i : ℕ). cycleOf (finish τ x i rs)) (zero-add k)))
+
+  finish-later : drop (length l) f ≡ drop (length l) f₀
+  finish-later =
+      let new = finishesFrom τ l 0 rs in
+      ap (drop (length l)) e
+      ∙ (drop-at new (drop (length new) f₀) (length l) (finishes-length τ l 0 rs) ∙ ap (λ (n : ℕ). drop n f₀) (finishes-length τ l 0 rs))
+
+-- ---- the bound of a transaction that fits
+
+bound-told : (τ : Table) (x : Transaction) → fits τ x ≡ true → bounding (Read τ) (x .bi) (x .bc) ≡ Bound (τ .edition) (bound τ (x .bi) (x .bc))
+unfolding bounding boundTold
+bound-told τ x e =
+    let k = is-fit τ x e in
+    rw (
+      le-leb 1 (x .bi) (k .oneI),
+      le-leb (x .bi) 16 (k .maxI),
+      le-leb 1 (x .bc) (k .one),
+      le-leb (x .bc) 16 (k .maxC),
+      le-leb (x .bi) (τ .banks) (omega (arith, k .room)),
+    )
+
+-- ---- the demand
+
+-- neither 5 nor 6 refuses
+room-enough : (τ : Table) (l : List Transaction) (b₀ f₀ : List ℕ) → Room τ l b₀ f₀ → buildRefusal τ l (length b₀) (length f₀) ≡ 0
+room-enough τ l b₀ f₀ h =
+    rw (le-ltb (length b₀) (8 * (length (actQueue τ l) + length (dataQueue τ l))) (h .commands), le-ltb (length f₀) (length l) (h .finishes))
+
+module _ (table : List ℕ) (τ : Table) (read : admitted table ≡ Read τ) (l : List Transaction) (fit : listFits τ l ≡ true)
+    (b₀ b f₀ f : List ℕ) (room : Room τ l b₀ f₀) where
+  acc : Accepted τ
+  acc = read-accepted table τ read
+
+  -- what holds of the table read holds of its bytes
+  of-bytes : (P : TableRead → Type 0) → P (Read τ) → P (admitted table)
+  of-bytes P p = subst P (sym read) p
+
+  serves : (r : BuildAnswer) → LeavesBuild τ l b₀ b f₀ f r → Demand3 table τ l b₀ b f₀ f r
+  serves (NotBuilt x) h = absurd (h .0 (room-enough τ l b₀ f₀ room))
+  serves (Built e n) h =
+      let k = h .2 in
+      let rs = k .schedule in
+      let q = kept τ acc l fit rs (k .built) in
+      let at = bytes-stand rs b₀ b (k .buffer) in
+      record {
+        schedule = rs;
+        built = k .built;
+        answer = ap (λ (z : ℕ). Built z n) (h .1) ∙ ap (Built (τ .edition)) (k .count);
+        bytes = at;
+        beyond = ap (drop (8 * length rs)) (k .buffer)
+            ∙ (drop-at (bytesOfAll rs) (drop (length (bytesOfAll rs)) b₀) (8 * length rs) (length-bytes rs) ∙ ap (λ (m : ℕ). drop m b₀) (length-bytes rs));
+        passes = ap (judging (admitted table)) at
+            ∙ of-bytes (λ (a : TableRead). judging a (bytesOfAll rs) ≡ Verdict (τ .edition) Passed) (bytes-pass τ acc l fit rs q);
+        finishes = finish-stands τ l rs f₀ f (k .finishes);
+        later = finish-later τ l rs f₀ f (k .finishes);
+        served = q .finishes;
+        first = q .firstIn;
+        next = q .nextIn;
+        told = λ j x at.
+            of-bytes (λ (a : TableRead). bounding a (x .bi) (x .bc) ≡ Bound (τ .edition) (bound τ (x .bi) (x .bc)))
+            (bound-told τ x (subst (OnSome (λ y. fits τ y ≡ true)) at (every-at (fits τ) l j (and-right (leb (length l) 256) (every (fits τ) l) fit))));
+        unmoved = λ j. q .unmoved (take j l) (drop j l) (sym (take-append-drop j l));
+      }
+
+-- a list that fits is checked, and built
+fits-builds : (τ : Table) (l : List Transaction) → listFits τ l ≡ true → (b₀ b f₀ f : List ℕ) (r : BuildAnswer)
+    → Schedules (λ τ. checkList τ l) (Read τ) l b₀ b f₀ f r → LeavesBuild τ l b₀ b f₀ f r
+unfolding Schedules BuildsChecked
+fits-builds τ l fit b₀ b f₀ f r h = subst (λ (c : Checked). BuildsChecked c τ l b₀ b f₀ f r) (fits-fine τ l fit) h
+
+pub demand-3 : (table : List ℕ) (τ : Table) → admitted table ≡ Read τ → (l : List Transaction) → listFits τ l ≡ true → (b₀ b f₀ f : List ℕ) → Room τ l b₀ f₀
+    → (r : BuildAnswer) → Schedules (λ τ. checkList τ l) (admitted table) l b₀ b f₀ f r → Demand3 table τ l b₀ b f₀ f r
+demand-3 table τ read l fit b₀ b f₀ f room r h =
+    serves table τ read l fit b₀ b f₀ f room r
+    (fits-builds τ l fit b₀ b f₀ f r (subst (λ (a : TableRead). Schedules (λ τ. checkList τ l) a l b₀ b f₀ f r) read h))
+
+-- the same of a list's bytes
+pub demand-3-bytes : (table : List ℕ) (τ : Table) → admitted table ≡ Read τ → (s : List ℕ) → length s % 4 ≡ 0 → listFits τ (transactionsIn s) ≡ true
+    → (b₀ b f₀ f : List ℕ) → Room τ (transactionsIn s) b₀ f₀
+    → (r : BuildAnswer) → Schedules (λ τ. checkBytes τ s) (admitted table) (transactionsIn s) b₀ b f₀ f r → Demand3 table τ (transactionsIn s) b₀ b f₀ f r
+demand-3-bytes table τ read s whole fit b₀ b f₀ f room r h =
+    demand-3 table τ read (transactionsIn s) fit b₀ b f₀ f room r
+    (schedules-same (λ τ. checkBytes τ s) (λ τ. checkList τ (transactionsIn s)) (admitted table) (transactionsIn s) (transactionsIn s) b₀ b f₀ f r
+    (λ τ. bytes-list τ s whole) refl h)

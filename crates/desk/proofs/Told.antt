@@ -1,0 +1,151 @@
+-- Each call's definition, by what `admit` answered: a, of the table's bytes s.
+-- Assumes nothing.
+use Prim.Native.Nat.{ℕ, _≤_}
+use mathlib.Core.Path.{_≡_, refl, subst}
+use mathlib.Core.List.{List}
+use lib.ListN.{length, replicate}
+use Rattle.records.specs.declared.table.Table.{Table}
+use Rattle.records.specs.declared.table.TableRead.{TableRead}
+use Rattle.records.specs.declared.table.TableRead.the-variants.{Read, Refused}
+use Rattle.records.specs.declared.transaction.Transaction.{Transaction}
+use Rattle.records.specs.declared.refusal.Refusal.{Refusal}
+use Rattle.records.specs.Told.{refusal}
+use Rattle.records.specs.Table.{tableOf}
+use Rattle.records.specs.Transaction.{transactionsIn}
+use Rattle.judge.specs.declared.answer.Judged.{Judged}
+use Rattle.judge.specs.declared.answer.Judged.the-variants.{Refused as NotJudged}
+use Rattle.judge.specs.declared.answer.PatternJudged.{PatternJudged}
+use Rattle.judge.specs.declared.answer.PatternJudged.the-variants.{Refused as PatternNotJudged}
+use Rattle.judge.specs.Answer.{judged, PatternAnswers}
+use Rattle.builder.specs.declared.bound.BoundAnswer.{BoundAnswer}
+use Rattle.builder.specs.declared.bound.BoundAnswer.the-variants.{Refused as NoBound}
+use Rattle.builder.specs.declared.build.BuildAnswer.{BuildAnswer}
+use Rattle.builder.specs.declared.build.BuildAnswer.the-variants.{Refused as NotBuilt}
+use Rattle.builder.specs.Bound.{boundTold}
+use Rattle.builder.specs.Build.{LeavesBuild}
+use Rattle.lists.specs.declared.check.Checked.{Checked}
+use Rattle.lists.specs.declared.check.Checked.the-variants.{Fine, Refused as NotFine}
+use Rattle.lists.specs.declared.packed.Packed.{Packed}
+use Rattle.lists.specs.Check.{checkList, checkBytes}
+use Rattle.lists.specs.Packed.{held, lent}
+use Rattle.lists.proofs.Packing.{lent-held, lent-check}
+use Rattle.lists.specs.declared.decode.Decoded.the-variants.{Refused as NotDone}
+use Rattle.lists.specs.declared.decode.Plan.{Plan}
+use Rattle.lists.specs.Decode.{plan}
+use Rattle.controller.specs.declared.controller.Controller.{Controller}
+use Rattle.controller.specs.declared.run.RunTold.{RunTold}
+use Rattle.controller.specs.declared.run.RunAnswer.the-variants.{Refused as NotRun}
+use Rattle.controller.specs.Controller.{freshController}
+use Rattle.controller.specs.Run.{RunLeft, runController, LeavesRun}
+use Rattle.desk.specs.declared.running.StartTold.{StartTold}
+use Rattle.desk.specs.declared.running.StartAnswer.the-variants.{Started, Refused as NotStarted}
+use Rattle.desk.specs.Admit.{admitted, tooMany}
+use Rattle.desk.specs.Judging.{judging, PatternTold}
+use Rattle.desk.specs.Bounds.{bounding}
+use Rattle.desk.specs.Transactions.{readingPlan}
+use Rattle.desk.specs.Schedules.{BuildsChecked, Schedules}
+use Rattle.desk.specs.Running.{starting, runsChecked, running}
+use Rattle.desk.proofs.Laws.{by-admitted, by-checked, schedules-same, running-same}
+
+module _ (s : List ℕ) (a : TableRead) (e : a ≡ admitted s) where
+  module _ (τ : Table) (t : a ≡ Read τ) where
+    pub judge-read : (b : List ℕ) (r : Judged) → r ≡ judged τ b → r ≡ judging (admitted s) b
+    unfolding judging
+    judge-read b r h = by-admitted (λ (z : TableRead). r ≡ judging z b) s a (Read τ) e t h
+
+    pub pattern-read : (b : List ℕ) (L : ℕ) (r : PatternJudged) → PatternAnswers τ b L r → PatternTold (admitted s) b L r
+    unfolding PatternTold
+    pattern-read b L r h = by-admitted (λ (z : TableRead). PatternTold z b L r) s a (Read τ) e t h
+
+    pub bound-read : (bi bc : ℕ) (r : BoundAnswer) → r ≡ boundTold τ bi bc → r ≡ bounding (admitted s) bi bc
+    unfolding bounding
+    bound-read bi bc r h = by-admitted (λ (z : TableRead). r ≡ bounding z bi bc) s a (Read τ) e t h
+
+    pub plan-read : (b : List ℕ) (places : ℕ) (r : Plan) → r ≡ plan τ b places → r ≡ readingPlan (admitted s) b places
+    unfolding readingPlan
+    plan-read b places r h = by-admitted (λ (z : TableRead). r ≡ readingPlan z b places) s a (Read τ) e t h
+
+    pub many-read : (x : Refusal) → x ≡ refusal 3 0 (τ .edition) → x ≡ tooMany (admitted s)
+    many-read x h = by-admitted (λ (z : TableRead). x ≡ tooMany z) s a (Read τ) e t h
+
+    pub start-read : (c : Controller) → c ≡ freshController τ → record { controller = c; answer = Started (τ .edition) } ≡ starting (admitted s)
+    unfolding starting
+    start-read c h = by-admitted (λ (z : TableRead). record { controller = c; answer = Started (τ .edition) } ≡ starting z) s a (Read τ) e t (rw h refl)
+
+    pub schedule-read : (check : Table → Checked) (l : List Transaction) (b₀ b f₀ f : List ℕ) (r : BuildAnswer) → BuildsChecked (check τ) τ l b₀ b f₀ f r
+        → Schedules check (admitted s) l b₀ b f₀ f r
+    unfolding Schedules
+    schedule-read check l b₀ b f₀ f r h = by-admitted (λ (z : TableRead). Schedules check z l b₀ b f₀ f r) s a (Read τ) e t h
+
+    pub run-read : (check : Table → Checked) (c : Controller) (l : List Transaction) (count : ℕ) (b₀ b : List ℕ) (r : RunTold)
+        → LeavesRun (runsChecked (check τ) c τ l count b₀) r b → LeavesRun (running check (admitted s) c l count b₀) r b
+    unfolding running
+    run-read check c l count b₀ b r h = by-admitted (λ (z : TableRead). LeavesRun (running check z c l count b₀) r b) s a (Read τ) e t h
+
+  module _ (x : Refusal) (t : a ≡ Refused x) where
+    pub judge-refused : (b : List ℕ) → NotJudged x ≡ judging (admitted s) b
+    unfolding judging
+    judge-refused b = by-admitted (λ (z : TableRead). NotJudged x ≡ judging z b) s a (Refused x) e t refl
+
+    pub pattern-refused : (b : List ℕ) (L : ℕ) → PatternTold (admitted s) b L (PatternNotJudged x)
+    unfolding PatternTold
+    pattern-refused b L = by-admitted (λ (z : TableRead). PatternTold z b L (PatternNotJudged x)) s a (Refused x) e t refl
+
+    pub bound-refused : (bi bc : ℕ) → NoBound x ≡ bounding (admitted s) bi bc
+    unfolding bounding
+    bound-refused bi bc = by-admitted (λ (z : TableRead). NoBound x ≡ bounding z bi bc) s a (Refused x) e t refl
+
+    pub plan-refused : (b : List ℕ) (places : ℕ) → record { n = 0; answer = NotDone x } ≡ readingPlan (admitted s) b places
+    unfolding readingPlan
+    plan-refused b places = by-admitted (λ (z : TableRead). record { n = 0; answer = NotDone x } ≡ readingPlan z b places) s a (Refused x) e t refl
+
+    pub many-refused : x ≡ tooMany (admitted s)
+    many-refused = by-admitted (λ (z : TableRead). x ≡ tooMany z) s a (Refused x) e t refl
+
+    pub start-refused : (c : Controller) (n : Table) → n ≡ tableOf (replicate 16 0) → c ≡ freshController n → record { controller = c; answer = NotStarted x } ≡ starting (admitted s)
+    unfolding starting
+    start-refused c n k h = by-admitted (λ (z : TableRead). record { controller = c; answer = NotStarted x } ≡ starting z) s a (Refused x) e t (rw (h, k) refl)
+
+    pub schedule-refused : (check : Table → Checked) (l : List Transaction) (b f : List ℕ) → Schedules check (admitted s) l b b f f (NotBuilt x)
+    unfolding Schedules
+    schedule-refused check l b f = by-admitted (λ (z : TableRead). Schedules check z l b b f f (NotBuilt x)) s a (Refused x) e t (refl, refl, refl)
+
+    pub run-refused : (check : Table → Checked) (c : Controller) (l : List Transaction) (count : ℕ) (b : List ℕ)
+        → LeavesRun (running check (admitted s) c l count b) (record { controller = c; answer = NotRun x }) b
+    unfolding running
+    run-refused check c l count b =
+        by-admitted (λ (z : TableRead). LeavesRun (running check z c l count b) (record { controller = c; answer = NotRun x }) b) s a (Refused x) e t (refl, refl)
+
+-- by what `check_bytes` answered: d, of the list's bytes s
+module _ (τ : Table) (s : List ℕ) (d : Checked) (e : d ≡ checkBytes τ s) where
+  pub build-fine : d ≡ Fine → (l : List Transaction) (b₀ b f₀ f : List ℕ) (r : BuildAnswer) → LeavesBuild τ l b₀ b f₀ f r → BuildsChecked (checkBytes τ s) τ l b₀ b f₀ f r
+  unfolding BuildsChecked
+  build-fine t l b₀ b f₀ f r h = by-checked (λ (z : Checked). BuildsChecked z τ l b₀ b f₀ f r) τ s d Fine e t h
+
+  pub build-refused : (x : Refusal) → d ≡ NotFine x → (l : List Transaction) (b f : List ℕ) → BuildsChecked (checkBytes τ s) τ l b b f f (NotBuilt x)
+  unfolding BuildsChecked
+  build-refused x t l b f = by-checked (λ (z : Checked). BuildsChecked z τ l b b f f (NotBuilt x)) τ s d (NotFine x) e t (refl, refl, refl)
+
+  pub ran-fine : d ≡ Fine → (c : Controller) (l : List Transaction) (count : ℕ) (b₀ b : List ℕ) (r : RunTold)
+      → LeavesRun (runController c τ l count b₀) r b → LeavesRun (runsChecked (checkBytes τ s) c τ l count b₀) r b
+  unfolding runsChecked
+  ran-fine t c l count b₀ b r h = by-checked (λ (z : Checked). LeavesRun (runsChecked z c τ l count b₀) r b) τ s d Fine e t h
+
+  pub ran-refused : (x : Refusal) → d ≡ NotFine x → (c : Controller) (l : List Transaction) (count : ℕ) (b : List ℕ)
+      → LeavesRun (runsChecked (checkBytes τ s) c τ l count b) (record { controller = c; answer = NotRun x }) b
+  unfolding runsChecked
+  ran-refused x t c l count b =
+      by-checked (λ (z : Checked). LeavesRun (runsChecked z c τ l count b) (record { controller = c; answer = NotRun x }) b) τ s d (NotFine x) e t (refl, refl)
+
+-- by the list that a packed list p of at most 256 holds, whose bytes are lent on
+module _ (p : Packed) (few : p .n ≤ 256) (full : length (p .bytes) ≡ 1024) where
+  pub schedule-held : (a : TableRead) (b₀ b f₀ f : List ℕ) (r : BuildAnswer) → Schedules (λ τ. checkBytes τ (lent p)) a (transactionsIn (lent p)) b₀ b f₀ f r
+      → Schedules (λ τ. checkList τ (held p)) a (held p) b₀ b f₀ f r
+  schedule-held a b₀ b f₀ f r h =
+      schedules-same (λ τ. checkBytes τ (lent p)) (λ τ. checkList τ (held p)) a (transactionsIn (lent p)) (held p) b₀ b f₀ f r (lent-check p few full) (lent-held p few full) h
+
+  pub run-held : (a : TableRead) (c : Controller) (count : ℕ) (b₀ b : List ℕ) (r : RunTold) → LeavesRun (running (λ τ. checkBytes τ (lent p)) a c (transactionsIn (lent p)) count b₀) r b
+      → LeavesRun (running (λ τ. checkList τ (held p)) a c (held p) count b₀) r b
+  run-held a c count b₀ b r h =
+      subst (λ (w : RunLeft). LeavesRun w r b)
+      (running-same (λ τ. checkBytes τ (lent p)) (λ τ. checkList τ (held p)) a c (transactionsIn (lent p)) (held p) count b₀ (lent-check p few full) (lent-held p few full)) h

@@ -1,0 +1,85 @@
+-- Each public call's promise leaves one possible result and one possible content of each buffer it was lent, refused or not.
+-- Assumes nothing.
+use Prim.Native.Nat.{ℕ}
+use mathlib.Core.Bool.{true}
+use mathlib.Core.Path.{_≡_, refl, _∙_}
+use mathlib.Core.List.{List}
+use Rattle.records.specs.declared.table.Table.{Table}
+use Rattle.records.specs.declared.table.TableRead.{TableRead}
+use Rattle.records.specs.declared.table.TableRead.the-variants.{Read, Refused}
+use Rattle.records.specs.declared.transaction.Transaction.{Transaction}
+use Rattle.records.specs.declared.refusal.Refusal.{Refusal}
+use Rattle.records.specs.Table.{Accepted}
+use Rattle.records.specs.Transaction.{transactionsIn, listFits}
+use Rattle.records.proofs.Unique.{one-answer}
+use Rattle.judge.specs.declared.answer.PatternJudged.{PatternJudged}
+use Rattle.judge.specs.declared.answer.PatternJudged.the-variants.{Refused as PatternNotJudged}
+use Rattle.judge.proofs.Unique.{judge-pattern-only}
+use Rattle.builder.specs.declared.build.BuildAnswer.{BuildAnswer}
+use Rattle.builder.specs.declared.build.BuildAnswer.the-variants.{Refused as NotBuilt}
+use Rattle.builder.proofs.Unique.{build-only}
+use Rattle.lists.specs.declared.check.Checked.{Checked}
+use Rattle.lists.specs.declared.check.Checked.the-variants.{Fine, Refused as NotFine}
+use Rattle.lists.specs.Check.{checkList, checkBytes}
+use Rattle.lists.proofs.Checks.{into-256, into-list, fine-fits}
+use Rattle.desk.specs.Admit.{admitted}
+use Rattle.desk.specs.Judging.{judging, PatternTold}
+use Rattle.desk.specs.Bounds.{bounding}
+use Rattle.desk.specs.Transactions.{reading}
+use Rattle.desk.specs.Schedules.{NothingBuilt, BuildsChecked, Schedules}
+use Rattle.desk.specs.Running.{starting, running}
+use Rattle.desk.specs.Only.{Only}
+use Rattle.desk.proofs.Laws.{read-accepted}
+
+-- ---- by what `admit` answered
+
+pattern-only : (a : TableRead) (s : List ℕ) (L : ℕ) (x y : PatternJudged) → PatternTold a s L x → PatternTold a s L y → x ≡ y
+unfolding PatternTold
+pattern-only (Read τ) s L x y p q = judge-pattern-only τ s L x y p q
+pattern-only (Refused r) s L x y p q = one-answer (PatternNotJudged r) x y p q
+
+module _ (l : List Transaction) (b₀ f₀ : List ℕ) (x y : BuildAnswer) (b d f g : List ℕ) where
+  -- a refusal by the table or by the check of the list
+  nothing-only : (r : Refusal) → NothingBuilt r b₀ b f₀ f x → NothingBuilt r b₀ d f₀ g y → (x ≡ y) × (b ≡ d) × (f ≡ g)
+  nothing-only r p q = (one-answer (NotBuilt r) x y (p .0) (q .0), one-answer b₀ b d (p .1) (q .1), one-answer f₀ f g (p .2) (q .2))
+
+  builds-only : (τ : Table) → Accepted τ → (c : Checked) → (c ≡ Fine → listFits τ l ≡ true)
+      → BuildsChecked c τ l b₀ b f₀ f x → BuildsChecked c τ l b₀ d f₀ g y → (x ≡ y) × (b ≡ d) × (f ≡ g)
+  unfolding BuildsChecked
+  builds-only τ acc Fine fit p q = build-only τ acc l (fit refl) b₀ f₀ x y b d f g p q
+  builds-only τ acc (NotFine r) fit p q = nothing-only r p q
+
+  -- a list of which the check finds nothing to refuse only where it fits
+  schedules-only : (check : Table → Checked) → ((τ : Table) → check τ ≡ Fine → listFits τ l ≡ true)
+      → (a : TableRead) → ((τ : Table) → a ≡ Read τ → Accepted τ)
+      → Schedules check a l b₀ b f₀ f x → Schedules check a l b₀ d f₀ g y → (x ≡ y) × (b ≡ d) × (f ≡ g)
+  unfolding Schedules
+  schedules-only check fit (Read τ) acc p q = builds-only τ (acc τ refl) (check τ) (fit τ) p q
+  schedules-only check fit (Refused r) acc p q = nothing-only r p q
+
+-- ---- all of them
+
+pub only : (table : List ℕ) → Only table
+only table =
+    record {
+      judge = λ s. one-answer (judging (admitted table) s);
+      judgePattern = pattern-only (admitted table);
+      bound = λ bi bc. one-answer (bounding (admitted table) bi bc);
+      readTransactions = λ s l x y b d p q.
+          let w = reading (admitted table) s l in
+          (one-answer (w .answer) x y (p .0) (q .0), one-answer (w .list) b d (p .1) (q .1));
+      schedule = λ l b₀ f₀ x y b d f g.
+          schedules-only l b₀ f₀ x y b d f g (λ τ. checkList τ l) (λ τ. fine-fits τ l) (admitted table) (read-accepted table);
+      scheduleBytes = λ s b₀ f₀ x y b d f g.
+          schedules-only (transactionsIn s) b₀ f₀ x y b d f g (λ τ. checkBytes τ s) (bytes-fit s) (admitted table) (read-accepted table);
+      start = one-answer (starting (admitted table));
+      run = λ c₀ l n b₀ x y c e b d p q.
+          let w = running (λ τ. checkList τ l) (admitted table) c₀ l n b₀ in
+          (one-answer (w .told .answer) x y (p .0) (q .0), one-answer (w .told .controller) c e (p .1) (q .1), one-answer (w .buffer) b d (p .2) (q .2));
+      runBytes = λ c₀ s n b₀ x y b d p q.
+          let w = running (λ τ. checkBytes τ s) (admitted table) c₀ (transactionsIn s) n b₀ in
+          (one-answer (w .told) x y (p .0) (q .0), one-answer (w .buffer) b d (p .1) (q .1));
+    }
+  where
+    bytes-fit : (s : List ℕ) (τ : Table) → checkBytes τ s ≡ Fine → listFits τ (transactionsIn s) ≡ true
+    bytes-fit s τ e = fine-fits τ (transactionsIn s) (into-list τ s 256 (into-256 τ s ∙ e))

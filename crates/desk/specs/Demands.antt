@@ -1,0 +1,124 @@
+-- The customer's three demands, of the public calls: on a table's bytes, the bytes or records of a list, a schedule's bytes, a controller. What
+-- the calls promise is in the files beside this one; here is what follows from it. Read this file first.
+use Prim.Native.Nat.{ℕ, suc, _+_, _*_, _≤_, _<_}
+use mathlib.Core.Bool.{true}
+use mathlib.Core.Path.{_≡_}
+use mathlib.Core.Logic.{_↔_, _⊎_}
+use mathlib.Core.Option.{some}
+use mathlib.Core.List.{List, []}
+use lib.Dec.{ltb}
+use lib.ListN.{length, getElem?, getD, take, drop}
+use Rattle.records.specs.declared.table.Table.{Table}
+use Rattle.records.specs.declared.table.TableRead.the-variants.{Read, Refused}
+use Rattle.records.specs.declared.transaction.Transaction.{Transaction}
+use Rattle.records.specs.declared.command.Command.{Command}
+use Rattle.records.specs.declared.refusal.Refusal.{Refusal}
+use Rattle.records.specs.Tests.{pick}
+use Rattle.records.specs.Told.{refusal}
+use Rattle.records.specs.Table.{tableAt, Accepted}
+use Rattle.records.specs.Transaction.{transactionsIn}
+use Rattle.records.specs.Command.{commandsIn, bytesOfAll}
+use Rattle.rules.specs.declared.state.Stamp.the-variants.{At}
+use Rattle.rules.specs.declared.verdict.Rule.{Rule}
+use Rattle.rules.specs.declared.verdict.Verdict.the-variants.{Accepted as Passed, Refused as Broken}
+use Rattle.rules.specs.declared.verdict.PatternVerdict.the-variants.{Accepted as AllPassed, Refused as BrokenAt}
+use Rattle.rules.specs.Verdict.{allShut}
+use Rattle.rules.specs.Pattern.{onto, copies, EveryNumberLegal}
+use Rattle.rules.specs.Queues.{actQueue, dataQueue}
+use Rattle.rules.specs.CycleRule.{Built as IsBuilt}
+use Rattle.rules.specs.Finish.{lastData, finish}
+use Rattle.rules.specs.Bound.{bound}
+use Rattle.rules.specs.Promise.{ofFirst, cycleOf, lastDataCycle}
+use Rattle.rules.specs.Demands.{FineTo, FirstBroken}
+use Rattle.judge.specs.declared.answer.Judged.the-variants.{Verdict}
+use Rattle.judge.specs.declared.answer.PatternJudged.{PatternJudged}
+use Rattle.judge.specs.declared.answer.PatternJudged.the-variants.{Verdict as PatternVerdict}
+use Rattle.judge.specs.Answer.{scheduleRefusal, patternRefusal}
+use Rattle.builder.specs.declared.bound.BoundAnswer.the-variants.{Bound}
+use Rattle.builder.specs.declared.build.BuildAnswer.{BuildAnswer}
+use Rattle.builder.specs.declared.build.BuildAnswer.the-variants.{Built, Refused as NotBuilt}
+use Rattle.lists.specs.declared.decode.Decoded.the-variants.{Refused as NotDone}
+use Rattle.lists.specs.declared.check.Checked.{Checked}
+use Rattle.lists.specs.Check.{checkList, checkBytes}
+use Rattle.controller.specs.declared.controller.Controller.{Controller}
+use Rattle.controller.specs.declared.run.RunAnswer.the-variants.{Refused as NotRun}
+use Rattle.desk.specs.Admit.{admitted}
+use Rattle.desk.specs.Judging.{judging, PatternTold}
+use Rattle.desk.specs.Bounds.{bounding}
+use Rattle.desk.specs.Transactions.{reading}
+use Rattle.desk.specs.Schedules.{Schedules}
+use Rattle.desk.specs.Running.{starting, running}
+use Rattle.desk.specs.Named.{editionOf, judgedNames, patternNames, boundNames, readNames, buildNames, startNames, runNames}
+
+-- Demand 1: "Any bytes at all can be handed in" (no call requires anything), "A refused call writes no byte", "Every answer worked out from a
+-- table names that table's edition".
+pub record Demand1 (table : List ℕ) : Type 0 where
+  -- a table is refused by number 1 or 2, or it is the 32 bytes' own and accepted
+  pub refused : (x : Refusal) → admitted table ≡ Refused x → (x ≡ refusal 1 0 0) ⊎ (x ≡ refusal 2 0 0)
+  pub admits : (τ : Table) → admitted table ≡ Read τ → (length table ≡ 32) × (τ ≡ tableAt table) × Accepted τ
+  -- no byte, no place of a run of records, and nothing of a controller changes; by either check of a list, of its records or of its bytes
+  pub unread : (s : List ℕ) (l : List Transaction) (x : Refusal) → reading (admitted table) s l .answer ≡ NotDone x → reading (admitted table) s l .list ≡ l
+  pub unbuilt : (check : Table → Checked) (l : List Transaction) (b₀ b f₀ f : List ℕ) (x : Refusal) → Schedules check (admitted table) l b₀ b f₀ f (NotBuilt x)
+      → (b ≡ b₀) × (f ≡ f₀)
+  pub unrun : (check : Table → Checked) (c : Controller) (l : List Transaction) (n : ℕ) (b : List ℕ) (x : Refusal)
+      → running check (admitted table) c l n b .told .answer ≡ NotRun x
+      → (running check (admitted table) c l n b .told .controller ≡ c) × (running check (admitted table) c l n b .buffer ≡ b)
+  -- the edition, in every answer and every refusal
+  pub judge : (s : List ℕ) → judgedNames (judging (admitted table) s) ≡ editionOf (admitted table)
+  pub pattern : (s : List ℕ) (L : ℕ) (r : PatternJudged) → PatternTold (admitted table) s L r → patternNames r ≡ editionOf (admitted table)
+  pub bound : (bi bc : ℕ) → boundNames (bounding (admitted table) bi bc) ≡ editionOf (admitted table)
+  pub read : (s : List ℕ) (l : List Transaction) → readNames (reading (admitted table) s l .answer) ≡ editionOf (admitted table)
+  pub schedule : (l : List Transaction) (b₀ b f₀ f : List ℕ) (r : BuildAnswer) → Schedules (λ τ. checkList τ l) (admitted table) l b₀ b f₀ f r
+      → buildNames r ≡ editionOf (admitted table)
+  pub scheduleBytes : (s b₀ b f₀ f : List ℕ) (r : BuildAnswer) → Schedules (λ τ. checkBytes τ s) (admitted table) (transactionsIn s) b₀ b f₀ f r
+      → buildNames r ≡ editionOf (admitted table)
+  pub start : startNames (starting (admitted table) .answer) ≡ editionOf (admitted table)
+  pub run : (c : Controller) (l : List Transaction) (n : ℕ) (b : List ℕ)
+      → runNames (running (λ τ. checkList τ l) (admitted table) c l n b .told .answer) ≡ editionOf (admitted table)
+  pub runBytes : (c : Controller) (s : List ℕ) (n : ℕ) (b : List ℕ)
+      → runNames (running (λ τ. checkBytes τ s) (admitted table) c (transactionsIn s) n b .told .answer) ≡ editionOf (admitted table)
+
+-- Demand 2, of a table that is admitted.
+pub record Demand2 (table : List ℕ) (τ : Table) : Type 0 where
+  -- "The schedule built is exactly the one the cycle rule of document 01 gives", by either check of a list
+  pub built : (check : Table → Checked) (l : List Transaction) (b₀ b f₀ f : List ℕ) (e n : ℕ) → Schedules check (admitted table) l b₀ b f₀ f (Built e n)
+      → (rs : List Command) × IsBuilt τ l rs × (n ≡ length rs) × (take (8 * n) b ≡ bytesOfAll rs)
+  -- "The judge accepts a schedule exactly when every timing rule there holds, and otherwise names the first broken record and rule."
+  pub accepts : (s : List ℕ) → scheduleRefusal (length s) ≡ 0
+      → (judging (admitted table) s ≡ Verdict (τ .edition) Passed)
+      ↔ (FineTo τ [] (commandsIn s) (length (commandsIn s)) × (allShut (τ .banks) (onto (commandsIn s) []) ≡ true))
+  pub names : (s : List ℕ) (e : ℕ) (x : Rule) (i : ℕ) → judging (admitted table) s ≡ Verdict e (Broken x i) → FirstBroken τ [] (commandsIn s) x i
+  -- "It accepts a repeated pattern exactly when every number of copies, set end to end, is a legal schedule."
+  pub pattern : (s : List ℕ) (L : ℕ) (r : PatternJudged) → patternRefusal (length s) L ≡ 0 → PatternTold (admitted table) s L r
+      → (r ≡ PatternVerdict (τ .edition) AllPassed) ↔ EveryNumberLegal τ L (commandsIn s)
+  -- and a refusal names the lowest copy: fewer copies are accepted, and from that copy on all are refused alike
+  pub lowest : (s : List ℕ) (L e : ℕ) (x : Rule) (c i : ℕ) → PatternTold (admitted table) s L (PatternVerdict e (BrokenAt x c i))
+      → (n : ℕ) → copies τ L (commandsIn s) n ≡ pick (ltb n c) AllPassed (BrokenAt x c i)
+
+-- Demand 3: "For every accepted table and transaction list with room for the result". b and f are what the two buffers hold after the call.
+pub record Demand3 (table : List ℕ) (τ : Table) (l : List Transaction) (b₀ b f₀ f : List ℕ) (r : BuildAnswer) : Type 0 where
+  pub schedule : List Command
+  pub built : IsBuilt τ l schedule
+  -- it is answered, it stands in the buffer, and all beyond it is as it stood
+  pub answer : r ≡ Built (τ .edition) (length schedule)
+  pub bytes : take (8 * length schedule) b ≡ bytesOfAll schedule
+  pub beyond : drop (8 * length schedule) b ≡ drop (8 * length schedule) b₀
+  -- "the built schedule passes the judge": the call `judge`, on those bytes
+  pub passes : judging (admitted table) (take (8 * length schedule) b) ≡ Verdict (τ .edition) Passed
+  -- the finishing cycles stand in the slice, and all beyond them is as it stood
+  pub finishes : (k : ℕ) (x : Transaction) → getElem? l k ≡ some x → getD f k 0 ≡ cycleOf (finish τ x k schedule)
+  pub later : drop (length l) f ≡ drop (length l) f₀
+  -- each transaction has a last read or write command
+  pub served : (k : ℕ) → k < length l → lastData k schedule ≡ At (lastDataCycle k schedule)
+  -- "each transaction's last read or write command comes no later than its predecessor's last plus the bound .. (for the first, counted from
+  -- cycle 0)", which is what the call `bound` tells
+  pub first : (x : Transaction) → getElem? l 0 ≡ some x → lastDataCycle 0 schedule ≤ bound τ (x .bi) (x .bc)
+  pub next : (k : ℕ) (x : Transaction) → getElem? l (suc k) ≡ some x → lastDataCycle (suc k) schedule ≤ lastDataCycle k schedule + bound τ (x .bi) (x .bc)
+  pub told : (k : ℕ) (x : Transaction) → getElem? l k ≡ some x → bounding (admitted table) (x .bi) (x .bc) ≡ Bound (τ .edition) (bound τ (x .bi) (x .bc))
+  -- "Transactions added at the end move no command of the earlier ones by a cycle": the schedule of the first j alone
+  pub unmoved : (j : ℕ) → IsBuilt τ (take j l) (ofFirst (length (take j l)) schedule)
+
+-- room for the result
+pub record Room (τ : Table) (l : List Transaction) (b₀ f₀ : List ℕ) : Type 0 where
+  pub commands : 8 * (length (actQueue τ l) + length (dataQueue τ l)) ≤ length b₀
+  pub finishes : length l ≤ length f₀

@@ -1,0 +1,9 @@
+pub mod Admit
+pub mod Judging
+pub mod Bounds
+pub mod Transactions
+pub mod Schedules
+pub mod Running
+pub mod Named
+pub mod Only
+pub mod Demands

@@ -1,0 +1,45 @@
+-- "For all inputs, a public call's promise leaves one possible result and one possible content of each buffer it was lent, refused or not."
+use Prim.Native.Nat.{ℕ}
+use mathlib.Core.Path.{_≡_}
+use mathlib.Core.List.{List}
+use Rattle.records.specs.declared.transaction.Transaction.{Transaction}
+use Rattle.records.specs.Transaction.{transactionsIn}
+use Rattle.judge.specs.declared.answer.Judged.{Judged}
+use Rattle.judge.specs.declared.answer.PatternJudged.{PatternJudged}
+use Rattle.builder.specs.declared.bound.BoundAnswer.{BoundAnswer}
+use Rattle.builder.specs.declared.build.BuildAnswer.{BuildAnswer}
+use Rattle.lists.specs.declared.decode.Decoded.{Decoded}
+use Rattle.lists.specs.Check.{checkList, checkBytes}
+use Rattle.lists.specs.Decode.{Decodes}
+use Rattle.controller.specs.declared.controller.Controller.{Controller}
+use Rattle.controller.specs.declared.run.RunAnswer.{RunAnswer}
+use Rattle.controller.specs.declared.run.RunTold.{RunTold}
+use Rattle.controller.specs.Run.{LeavesRun}
+use Rattle.desk.specs.declared.running.StartTold.{StartTold}
+use Rattle.desk.specs.Admit.{admitted}
+use Rattle.desk.specs.Judging.{judging, PatternTold}
+use Rattle.desk.specs.Bounds.{bounding}
+use Rattle.desk.specs.Transactions.{reading}
+use Rattle.desk.specs.Schedules.{Schedules}
+use Rattle.desk.specs.Running.{starting, running, Runs}
+
+-- x and y are two results that keep the promise; each other letter that comes twice is a buffer or a controller as either leaves it
+pub record Only (table : List ℕ) : Type 0 where
+  pub judge : (s : List ℕ) (x y : Judged) → x ≡ judging (admitted table) s → y ≡ judging (admitted table) s → x ≡ y
+  pub judgePattern : (s : List ℕ) (L : ℕ) (x y : PatternJudged) → PatternTold (admitted table) s L x → PatternTold (admitted table) s L y → x ≡ y
+  pub bound : (bi bc : ℕ) (x y : BoundAnswer) → x ≡ bounding (admitted table) bi bc → y ≡ bounding (admitted table) bi bc → x ≡ y
+  pub readTransactions : (s : List ℕ) (l : List Transaction) (x y : Decoded) (b d : List Transaction)
+      → Decodes (reading (admitted table) s l) x b → Decodes (reading (admitted table) s l) y d → (x ≡ y) × (b ≡ d)
+  pub schedule : (l : List Transaction) (b₀ f₀ : List ℕ) (x y : BuildAnswer) (b d f g : List ℕ)
+      → Schedules (λ τ. checkList τ l) (admitted table) l b₀ b f₀ f x → Schedules (λ τ. checkList τ l) (admitted table) l b₀ d f₀ g y
+      → (x ≡ y) × (b ≡ d) × (f ≡ g)
+  pub scheduleBytes : (s b₀ f₀ : List ℕ) (x y : BuildAnswer) (b d f g : List ℕ)
+      → Schedules (λ τ. checkBytes τ s) (admitted table) (transactionsIn s) b₀ b f₀ f x
+      → Schedules (λ τ. checkBytes τ s) (admitted table) (transactionsIn s) b₀ d f₀ g y → (x ≡ y) × (b ≡ d) × (f ≡ g)
+  pub start : (x y : StartTold) → x ≡ starting (admitted table) → y ≡ starting (admitted table) → x ≡ y
+  pub run : (c₀ : Controller) (l : List Transaction) (n : ℕ) (b₀ : List ℕ) (x y : RunAnswer) (c e : Controller) (b d : List ℕ)
+      → Runs (running (λ τ. checkList τ l) (admitted table) c₀ l n b₀) x c b → Runs (running (λ τ. checkList τ l) (admitted table) c₀ l n b₀) y e d
+      → (x ≡ y) × (c ≡ e) × (b ≡ d)
+  pub runBytes : (c₀ : Controller) (s : List ℕ) (n : ℕ) (b₀ : List ℕ) (x y : RunTold) (b d : List ℕ)
+      → LeavesRun (running (λ τ. checkBytes τ s) (admitted table) c₀ (transactionsIn s) n b₀) x b
+      → LeavesRun (running (λ τ. checkBytes τ s) (admitted table) c₀ (transactionsIn s) n b₀) y d → (x ≡ y) × (b ≡ d)

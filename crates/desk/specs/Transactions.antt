@@ -1,0 +1,19 @@
+-- "Decoded transactions are kept as a lent run of records."
+use Prim.Native.Nat.{ℕ}
+use mathlib.Core.List.{List}
+use Rattle.records.specs.declared.table.TableRead.{TableRead}
+use Rattle.records.specs.declared.table.TableRead.the-variants.{Read, Refused}
+use Rattle.records.specs.declared.transaction.Transaction.{Transaction}
+use Rattle.lists.specs.declared.decode.Decoded.the-variants.{Refused as NotDone}
+use Rattle.lists.specs.declared.decode.Plan.{Plan}
+use Rattle.lists.specs.Decode.{Decoding, decoding, plan}
+
+-- numbers 1 and 2; then 3, 4 and the transactions of the bytes s from the start of the run that held l
+unfoldable pub reading : TableRead → List ℕ → List Transaction → Decoding
+reading (Read τ) s l = decoding τ s l
+reading (Refused x) s l = record { answer = NotDone x; list = l }
+
+-- the answer for so many places, and how many are stored
+unfoldable pub readingPlan : TableRead → List ℕ → ℕ → Plan
+readingPlan (Read τ) s places = plan τ s places
+readingPlan (Refused x) s places = record { n = 0; answer = NotDone x }

@@ -1,0 +1,29 @@
+// Is the schedule legal and, if not, which record breaks which rule first? And is a pattern, however often it is repeated?
+use crate::admit::admit;
+use judge::answer::Judged;
+use judge::answer::PatternJudged;
+use judge::schedule::judge_schedule;
+use records::table::TableRead;
+ghost use mathlib.Core.Path.{_≡_};
+ghost use Rattle.desk.specs.Admit.{admitted};
+ghost use Rattle.desk.specs.Judging.{judging, PatternTold};
+
+// Numbers 1, 2, 7; then the verdict with the table's edition.
+pub fn judge(table: &[u8], schedule: &[u8]) -> Judged
+    ensures { λ r. ⌜ r ≡ judging (admitted (now (table .entry))) (now (schedule .entry)) ⌝ }
+{
+    match admit(table) {
+        TableRead::Read(t) => judge_schedule(t, schedule),
+        TableRead::Refused(r) => Judged::Refused(r),
+    }
+}
+
+// Numbers 1, 2, 7, 8; then a verdict on every number of copies, with the table's edition.
+pub fn judge_pattern(table: &[u8], pattern: &[u8], length: u32) -> PatternJudged
+    ensures { λ r. ⌜ PatternTold (admitted (now (table .entry))) (now (pattern .entry)) length r ⌝ }
+{
+    match admit(table) {
+        TableRead::Read(t) => judge::pattern::judge_pattern(t, pattern, length),
+        TableRead::Refused(r) => PatternJudged::Refused(r),
+    }
+}

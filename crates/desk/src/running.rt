@@ -1,0 +1,129 @@
+// A controller that is run a few cycles at a time.
+use crate::admit::admit;
+use crate::schedules::too_many;
+use controller::controller::Controller;
+use controller::controller::start_of;
+use controller::run::RunAnswer;
+use controller::run::RunTold;
+use controller::run::run_controller;
+use lists::check::Checked;
+use lists::check::check_bytes;
+use lists::packed::Packed;
+use lists::packed::gather;
+use records::refusal::Refusal;
+use records::table::Table;
+use records::table::TableRead;
+use records::table::table_of;
+use records::transaction::Transaction;
+ghost use mathlib.Core.Path.{_≡_};
+ghost use Rattle.records.specs.Table.{Accepted};
+ghost use Rattle.records.specs.Transaction.{transactionsIn};
+ghost use Rattle.lists.specs.Check.{checkList, checkBytes};
+ghost use Rattle.lists.specs.Packed.{held};
+ghost use Rattle.controller.specs.Run.{LeavesRun};
+ghost use Rattle.desk.specs.Admit.{admitted};
+ghost use Rattle.desk.specs.Running.{starting, running, runsChecked, Runs};
+
+// The table's edition, or the refusal.
+pub enum StartAnswer {
+    Started(u16),
+    Refused(Refusal),
+}
+
+// A refused start hands out a controller of edition 0, which no table has: number 9 refuses every run of it.
+pub struct StartTold {
+    pub controller: Controller,
+    pub answer: StartAnswer,
+}
+
+// Numbers 1 and 2; then a fresh controller.
+pub fn start(table: &[u8]) -> StartTold
+    ensures { λ r. ⌜ r ≡ starting (admitted (now (table .entry))) ⌝ }
+{
+    match admit(table) {
+        TableRead::Read(t) => {
+            let controller = start_of(t);
+            StartTold {
+                controller: controller,
+                answer: StartAnswer::Started(t.edition),
+            }
+        }
+        TableRead::Refused(r) => {
+            let controller = start_of(table_of([0; 16]));
+            StartTold {
+                controller: controller,
+                answer: StartAnswer::Refused(r),
+            }
+        }
+    }
+}
+
+// Numbers 3 to 5 and 9, by an accepted table; then the run.
+fn run_by(c: Controller, t: Table, list: &[u8], count: u32, room: &mut [u8]) -> RunTold
+    requires { ⌜ Accepted t ⌝ }
+    ensures { λ r. ⌜ LeavesRun (runsChecked (checkBytes t (now (list .entry))) c t (transactionsIn (now (list .entry))) count (now (room .entry))) r (now (room .exit)) ⌝ }
+{
+    match check_bytes(t, list) {
+        Checked::Fine => run_controller(c, t, list, count, room),
+        Checked::Refused(r) => RunTold {
+            controller: c,
+            answer: RunAnswer::Refused(r),
+        },
+    }
+}
+
+// Numbers 1 to 5 and 9; then the run of a controller handed in and back, over the list's bytes.
+pub fn run_bytes(c: Controller, table: &[u8], list: &[u8], count: u32, room: &mut [u8]) -> RunTold
+    ensures { λ r. ⌜ LeavesRun (running (λ τ. checkBytes τ (now (list .entry))) (admitted (now (table .entry))) c (transactionsIn (now (list .entry))) count (now (room .entry))) r (now (room .exit)) ⌝ }
+{
+    match admit(table) {
+        TableRead::Read(t) => run_by(c, t, list, count, room),
+        TableRead::Refused(r) => RunTold {
+            controller: c,
+            answer: RunAnswer::Refused(r),
+        },
+    }
+}
+
+// The same of a list by value.
+pub fn run_held(c: Controller, table: &[u8], p: Packed, count: u32, room: &mut [u8]) -> RunTold
+    ensures { λ r. ⌜ LeavesRun (running (λ τ. checkList τ (held p)) (admitted (now (table .entry))) c (held p) count (now (room .entry))) r (now (room .exit)) ⌝ }
+{
+    let n = p.n;
+    if n <= 256 {
+        let bytes = p.bytes;
+        let end = 4 * n;
+        return run_bytes(c, table, &bytes[..end], count, room);
+    }
+    let refusal = too_many(table);
+    RunTold {
+        controller: c,
+        answer: RunAnswer::Refused(refusal),
+    }
+}
+
+// The host's form: the controller is run where it lies, over a lent run of records.
+pub fn run(
+    c: &mut Controller,
+    table: &[u8],
+    list: &[Transaction],
+    count: u32,
+    room: &mut [u8],
+) -> RunAnswer
+    ensures { λ r. ⌜ Runs (running (λ τ. checkList τ (now (list .entry))) (admitted (now (table .entry))) (now (c .entry)) (now (list .entry)) count (now (room .entry))) r (now (c .exit)) (now (room .exit)) ⌝ }
+{
+    let p = gather(list);
+    let o = run_held(*c, table, p, count, room);
+    *c = o.controller;
+    o.answer
+}
+
+// One cycle.
+pub fn step(c: &mut Controller, table: &[u8], list: &[Transaction], room: &mut [u8]) -> RunAnswer
+    ensures { λ r. ⌜ Runs (running (λ τ. checkList τ (now (list .entry))) (admitted (now (table .entry))) (now (c .entry)) (now (list .entry)) 1 (now (room .entry))) r (now (c .exit)) (now (room .exit)) ⌝ }
+{
+    let p = gather(list);
+    let o = run_held(*c, table, p, 1, room);
+    *c = o.controller;
+    o.answer
+}

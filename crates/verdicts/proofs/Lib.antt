@@ -1,2 +1,0 @@
--- What the program's proofs cite.
-pub mod Laws

@@ -1,0 +1,175 @@
+//! The public calls, one function each.
+//!
+//! A call that works from a table takes its bytes. "Checks go in the order of these numbers", each call making only those on things
+//! it's given, and "no buffer or state changes" when it refuses: nothing is written until the last check has passed.
+
+#[cfg(test)]
+mod laws;
+#[cfg(test)]
+mod refusals;
+#[cfg(test)]
+mod worked;
+
+pub use crate::records::{read_command, read_table, read_transaction};
+pub use crate::records::{write_command, write_table, write_transaction};
+pub use crate::records::{Command, Refusal, Table, Transaction};
+pub use crate::rules::{PatternVerdict, Verdict};
+pub use crate::scheduler::{Bank, State as Controller, NEVER};
+
+use crate::records::EDITION;
+use crate::{rules, scheduler};
+
+/// What `read_transactions` answers: how many were decoded.
+#[derive(Debug, Clone, Copy, PartialEq, Eq)]
+pub struct Decoded {
+    pub edition: u16,
+    pub transactions: u32,
+}
+
+/// Numbers 1, 2, 3 and 4. "Too few places to decode into" is 3.
+pub fn read_transactions(
+    table: &[u8],
+    bytes: &[u8],
+    places: &mut [Transaction],
+) -> Result<Decoded, Refusal> {
+    let table = read_table(table)?;
+    let list = scheduler::decode(&table, bytes)?;
+    scheduler::check_list(&table, &list, places.len())?;
+    places[..list.len()].copy_from_slice(&list);
+    Ok(Decoded {
+        edition: table[EDITION],
+        transactions: list.len() as u32,
+    })
+}
+
+/// What `schedule` answers: how many commands were written.
+#[derive(Debug, Clone, Copy, PartialEq, Eq)]
+pub struct Scheduled {
+    pub edition: u16,
+    pub commands: u32,
+}
+
+/// Numbers 1 to 6. "Success writes each result from its buffer's start and leaves all beyond as it stood."
+pub fn schedule(
+    table: &[u8],
+    list: &[Transaction],
+    room: &mut [u8],
+    finishes: &mut [u32],
+) -> Result<Scheduled, Refusal> {
+    let table = read_table(table)?;
+    let built = scheduler::build(&table, list, room.len(), finishes.len())?;
+    write_commands(&built.commands, room);
+    finishes[..list.len()].copy_from_slice(&built.finishes);
+    Ok(Scheduled {
+        edition: table[EDITION],
+        commands: built.commands.len() as u32,
+    })
+}
+
+/// The same from the transactions' bytes.
+pub fn schedule_bytes(
+    table: &[u8],
+    bytes: &[u8],
+    room: &mut [u8],
+    finishes: &mut [u32],
+) -> Result<Scheduled, Refusal> {
+    let list = scheduler::decode(&read_table(table)?, bytes)?;
+    schedule(table, &list, room, finishes)
+}
+
+fn write_commands(commands: &[Command], room: &mut [u8]) {
+    for (c, place) in commands.iter().zip(room.chunks_exact_mut(8)) {
+        write_command(c.cycle, c.kind, c.bank, c.transaction, place).expect("a place has 8 bytes");
+    }
+}
+
+/// Numbers 1, 2 and 7. Answers the edition and the verdict.
+pub fn judge(table: &[u8], bytes: &[u8]) -> Result<(u16, Verdict), Refusal> {
+    let table = read_table(table)?;
+    Ok((table[EDITION], rules::judge(&table, bytes)?))
+}
+
+/// Numbers 1, 2, 7 and 8. Answers the edition and the verdict, which names the copy.
+pub fn judge_pattern(
+    table: &[u8],
+    bytes: &[u8],
+    length: u32,
+) -> Result<(u16, PatternVerdict), Refusal> {
+    let table = read_table(table)?;
+    let verdict = rules::judge_pattern(&table, bytes, length)?;
+    Ok((table[EDITION], verdict))
+}
+
+/// Numbers 1, 2 and 4: "the bound gives 4, position 0, for BI or BC outside 1 to 16 or BI above banks". Answers the edition and the
+/// bound.
+pub fn bound(table: &[u8], bi: u8, bc: u8) -> Result<(u16, u64), Refusal> {
+    let table = read_table(table)?;
+    Ok((table[EDITION], scheduler::bound(&table, bi, bc)?))
+}
+
+/// Numbers 1 and 2. Answers the edition, and hands over a fresh controller: of edition 0 when it refuses.
+pub fn start(table: &[u8]) -> (Result<u16, Refusal>, Controller) {
+    match read_table(table) {
+        Ok(table) => (Ok(table[EDITION]), Controller::fresh(&table)),
+        Err(refusal) => (Err(refusal), Controller::fresh(&[0; 16])),
+    }
+}
+
+/// What `run` answers: how many commands were written, and "the number of steps the cycle rule took".
+#[derive(Debug, Clone, Copy, PartialEq, Eq)]
+pub struct Ran {
+    pub edition: u16,
+    pub commands: u32,
+    pub cycles: u32,
+}
+
+/// Numbers 1, 2, 3, 4, 5 and 9. "The host lends its running controller and has it stepped where it lies."
+pub fn run(
+    controller: &mut Controller,
+    table: &[u8],
+    list: &[Transaction],
+    count: u32,
+    room: &mut [u8],
+) -> Result<Ran, Refusal> {
+    let table = read_table(table)?;
+    let run = scheduler::run(controller, &table, list, count, room.len())?;
+    write_commands(&run.commands, room);
+    *controller = run.state;
+    Ok(Ran {
+        edition: table[EDITION],
+        commands: run.commands.len() as u32,
+        cycles: run.cycles,
+    })
+}
+
+/// The same from the transactions' bytes.
+pub fn run_bytes(
+    controller: &mut Controller,
+    table: &[u8],
+    bytes: &[u8],
+    count: u32,
+    room: &mut [u8],
+) -> Result<Ran, Refusal> {
+    let list = scheduler::decode(&read_table(table)?, bytes)?;
+    run(controller, table, &list, count, room)
+}
+
+/// One cycle.
+pub fn step(
+    controller: &mut Controller,
+    table: &[u8],
+    list: &[Transaction],
+    room: &mut [u8],
+) -> Result<Ran, Refusal> {
+    run(controller, table, list, 1, room)
+}
+
+/// The same from the transactions' bytes.
+pub fn step_bytes(
+    controller: &mut Controller,
+    table: &[u8],
+    bytes: &[u8],
+    room: &mut [u8],
+) -> Result<Ran, Refusal> {
+    run_bytes(controller, table, bytes, 1, room)
+}

@@ -1,0 +1,154 @@
+//! What document 01 says of every list: its schedule passes the judge, meets the bound, and is what runs give in pieces.
+
+use crate::desk::*;
+use crate::house::*;
+use crate::records::BANKS;
+
+/// Lists of every shape, each under every table.
+fn lists_and_tables() -> Vec<(Table, Vec<[u8; 4]>)> {
+    let mut numbers = Numbers(3);
+    let mut all = Vec::new();
+    let tables = [TABLE_A, TABLE_B, TABLE_C, LEAST, GREATEST];
+    for table in tables.iter().chain(&ODD) {
+        for size in [0, 1, 2, 3, 5] {
+            let list = (0..size).map(|_| {
+                let bi = 1 + numbers.below(table[BANKS].min(4).into()) as u8;
+                let start = numbers.below(usize::from(table[BANKS]) + 1 - usize::from(bi)) as u8;
+                [numbers.byte() % 2, start, bi, 1 + numbers.byte() % 3]
+            });
+            all.push((*table, list.collect()));
+        }
+    }
+    all
+}
+
+fn decoded(table: &[u8], list: &[[u8; 4]]) -> Vec<Transaction> {
+    let mut places = vec![transaction(0, 0, 0, 0); list.len()];
+    read_transactions(table, &list.concat(), &mut places).expect("the list is accepted");
+    places
+}
+
+pub fn transaction(kind: u8, start: u8, bi: u8, bc: u8) -> Transaction {
+    Transaction {
+        kind,
+        start,
+        bi,
+        bc,
+    }
+}
+
+/// A run into room for all: what is told and the commands' bytes.
+fn ran(c: &mut Controller, table: &[u8], list: &[Transaction], count: u32) -> (Ran, Vec<u8>) {
+    let mut room = vec![0; 1 << 16];
+    let told = run(c, table, list, count, &mut room).expect("nothing is refused");
+    room.truncate(8 * told.commands as usize);
+    (told, room)
+}
+
+#[test]
+fn built_schedules_pass_and_meet_the_bound() {
+    for (table, list) in lists_and_tables() {
+        let (room, finishes) = built(&table, &list);
+        let table = bytes_of(&table);
+        let (_, verdict) = judge(&table, &room).expect("whole records");
+        assert_eq!(verdict, Verdict::Accepted);
+        let mut before = 0;
+        for (x, finish) in list.iter().zip(finishes) {
+            let (_, cycles) = bound(&table, x[2], x[3]).expect("it's in the list");
+            assert!(u64::from(finish) <= before + cycles);
+            before = finish.into();
+        }
+    }
+}
+
+#[test]
+fn decoded_or_as_bytes() {
+    for (table, list) in lists_and_tables() {
+        let (room, finishes) = built(&table, &list);
+        let table = bytes_of(&table);
+        let list = decoded(&table, &list);
+        let mut own_room = vec![0; room.len()];
+        let mut own_finishes = vec![0; finishes.len()];
+        let told = schedule(&table, &list, &mut own_room, &mut own_finishes);
+        let count = told.map(|told| 8 * told.commands as usize);
+        assert_eq!((count, own_room), (Ok(room.len()), room));
+        assert_eq!(own_finishes, finishes);
+    }
+}
+
+/// "A fresh run to the end reports the last command's cycle plus one (0 for an empty list)."
+#[test]
+fn a_run_to_the_end_is_the_build() {
+    for (table, list) in lists_and_tables() {
+        let (room, finishes) = built(&table, &list);
+        let table = bytes_of(&table);
+        let (_, mut c) = start(&table);
+        let (told, bytes) = ran(&mut c, &table, &decoded(&table, &list), u32::MAX);
+        assert_eq!(bytes, room);
+        assert_eq!(told.cycles, finishes.last().map_or(0, |last| last + 1));
+        assert_eq!(c.cycle, told.cycles);
+    }
+}
+
+/// By history and by what a state tells, over the longest list there is.
+#[test]
+fn so_is_a_run_of_256_transactions() {
+    let examples = crate::examples::all();
+    let longest = examples.iter().find(|example| example.name == "all-256");
+    let input = longest.expect("it's an example").bytes();
+    let (table, bytes) = input.split_at(32);
+    let (mut schedule, mut commands) = (vec![0; 1 << 16], vec![0; 1 << 16]);
+    let mut finishes = [0; 256];
+    schedule_bytes(table, bytes, &mut schedule, &mut finishes).expect("nothing is refused");
+    let (_, mut c) = start(table);
+    let told = run_bytes(&mut c, table, bytes, u32::MAX, &mut commands);
+    assert_eq!(told.map(|told| told.cycles), Ok(finishes[255] + 1));
+    assert!(commands == schedule);
+}
+
+/// "n cycles and then m give the commands and state of n + m at once."
+#[test]
+fn a_run_cut_in_two_gives_the_whole() {
+    for (table, list) in lists_and_tables() {
+        let table = bytes_of(&table);
+        let list = decoded(&table, &list);
+        let (_, mut at_once) = start(&table);
+        let (whole, all) = ran(&mut at_once, &table, &list, u32::MAX);
+        for count in 0..=whole.cycles {
+            let (_, mut c) = start(&table);
+            let (first, start) = ran(&mut c, &table, &list, count);
+            let (then, end) = ran(&mut c, &table, &list, u32::MAX - count);
+            assert_eq!([start, end].concat(), all);
+            assert_eq!(first.cycles, count);
+            assert_eq!(first.cycles + then.cycles, whole.cycles);
+            assert_eq!(c, at_once);
+        }
+    }
+}
+
+/// One cycle at a time, and no more than one command in each.
+#[test]
+fn steps_give_the_whole() {
+    for (table, list) in lists_and_tables() {
+        let table = bytes_of(&table);
+        let bytes = list.concat();
+        let list = decoded(&table, &list);
+        let (_, mut at_once) = start(&table);
+        let (whole, all) = ran(&mut at_once, &table, &list, u32::MAX);
+        let (_, mut c) = start(&table);
+        let (_, mut by_bytes) = start(&table);
+        let mut gone = Vec::new();
+        for _ in 0..whole.cycles {
+            let mut room = [0; 8];
+            let told = step(&mut c, &table, &list, &mut room).expect("nothing is refused");
+            assert_eq!((told.cycles, told.commands < 2), (1, true));
+            gone.extend_from_slice(&room[..8 * told.commands as usize]);
+            let same = step_bytes(&mut by_bytes, &table, &bytes, &mut [0; 8]);
+            assert_eq!((same, &by_bytes), (Ok(told), &c));
+        }
+        assert_eq!((gone, &c), (all, &at_once));
+        let told = step(&mut c, &table, &list, &mut []).expect("it's served");
+        assert_eq!((told.cycles, told.commands), (0, 0));
+        assert_eq!(c, at_once);
+    }
+}

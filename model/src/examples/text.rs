@@ -1,0 +1,93 @@
+//! The text beside an example file, field by field in words.
+
+use std::fmt::Write;
+
+use super::Example;
+use crate::listing::listing;
+
+/// Of a listing with more lines than this, only so many from each end stand in the text.
+const MOST_LINES: usize = 40;
+const FROM_EACH_END: usize = 12;
+
+/// Each number of the table and what document 01 has it for.
+const FIELDS: [(&str, &str); 16] = [
+    ("edition", "the table's own number, 1 to 65535"),
+    ("banks", "1 to 16"),
+    ("B", "the cycles one burst takes"),
+    ("CCD", "RD to RD and WR to WR"),
+    ("RCD", "ACT to a data command of its bank"),
+    ("RP", "precharge start to the bank's next ACT"),
+    ("RAS", "ACT to its bank's precharge start"),
+    ("RC", "ACT to the next ACT of its bank"),
+    ("RRD", "ACT to any later ACT"),
+    ("FAW", "ACT to the fourth ACT after it"),
+    (
+        "RL",
+        "in RD to WR: the greater of CCD and RL + CCD + 2 - WL",
+    ),
+    ("WL", "in RD to WR, WR to RD, and WR to precharge start"),
+    ("RTP", "RD to its bank's precharge start"),
+    ("WR", "in WR to its bank's precharge start: WL + B + WR"),
+    ("WTR", "in WR to RD: the greater of CCD and WL + B + WTR"),
+    ("last", "always 0"),
+];
+
+impl Example {
+    pub fn text(&self) -> String {
+        let (name, title, size) = (self.name, self.title, self.bytes().len());
+        let printed = listing(&self.bytes());
+        [
+            format!("{name}.bin, {size} bytes: {title}.\n"),
+            self.table_text(),
+            self.list_text(),
+            format!("The listing prints:\n\n{}", printed_text(&printed)),
+        ]
+        .join("\n")
+    }
+
+    fn table_text(&self) -> String {
+        let title = self.table_title;
+        let mut out =
+            format!("Bytes 0 to 31, the table ({title}): 16-bit numbers, low byte first.\n\n");
+        for ((field, words), number) in FIELDS.iter().zip(self.table) {
+            writeln!(out, "    {field:<8}{number:<6}{words}").expect("a string takes it");
+        }
+        out
+    }
+
+    /// Neighbours that are alike stand in one line.
+    fn list_text(&self) -> String {
+        let count = self.list.len();
+        let end = self.bytes().len() - 1;
+        let mut out = format!("Bytes 32 to {end}, the transactions, 4 bytes each: {count}.\n\n");
+        let mut first = 0;
+        for alike in self.list.chunk_by(|x, y| x == y) {
+            let last = first + alike.len() - 1;
+            let which = if first == last {
+                format!("transaction {first}")
+            } else {
+                format!("transactions {first} to {last}, each")
+            };
+            let [kind, start, bi, bc] = alike[0];
+            let word = if kind == 0 { "read" } else { "write" };
+            writeln!(
+                out,
+                "    {which}: type {kind} ({word}), start bank {start}, BI {bi}, BC {bc}"
+            )
+            .expect("a string takes it");
+            first += alike.len();
+        }
+        out
+    }
+}
+
+fn printed_text(printed: &str) -> String {
+    let lines: Vec<String> = printed.lines().map(|l| format!("    {l}\n")).collect();
+    if lines.len() <= MOST_LINES {
+        return lines.concat();
+    }
+    let (start, rest) = lines.split_at(FROM_EACH_END);
+    let (between, end) = rest.split_at(rest.len() - FROM_EACH_END);
+    let left_out = format!("    (and {} lines between)\n", between.len());
+    start.concat() + &left_out + &end.concat()
+}

@@ -1,0 +1,17 @@
+//! What document 01 says, once more in plain Rust and from the paper alone, to hold the proved programs against.
+//!
+//! The public calls are in `desk`, and the house tables in `house`. What the calls rest on is in `records`, `rules` and `scheduler`;
+//! the other modules make the stored cases of the programs, the example files, and what must be printed for each.
+
+pub mod desk;
+pub mod examples;
+mod hostile;
+pub mod hostile_listing;
+pub mod house;
+pub mod listing;
+mod records;
+mod rules;
+mod runs;
+mod scheduler;
+pub mod vectors;
+mod verdicts;

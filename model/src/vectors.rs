@@ -1,0 +1,55 @@
+//! What the programs `hostile`, `verdicts` and `runs` are run on, and what they must write.
+
+use std::fs;
+use std::io;
+use std::path::Path;
+
+use crate::{hostile, runs, verdicts};
+
+/// A program's name, its input and its output.
+type Stored = (&'static str, Vec<u8>, String);
+
+pub fn all() -> Vec<Stored> {
+    type Cases = fn() -> Vec<u8>;
+    type Lines = fn(&[u8]) -> String;
+    let programs: [(&str, Cases, Lines); 3] = [
+        ("hostile", hostile::cases, hostile::lines),
+        ("verdicts", verdicts::cases, verdicts::lines),
+        ("runs", runs::cases, runs::lines),
+    ];
+    programs
+        .map(|(program, cases, lines)| {
+            let input = cases();
+            let output = lines(&input);
+            (program, input, output)
+        })
+        .into()
+}
+
+/// Writes them into the programs' folders under the repository's root.
+pub fn write(root: &Path) -> io::Result<()> {
+    for (program, input, output) in all() {
+        let folder = root.join("crates").join(program);
+        fs::create_dir_all(&folder)?;
+        fs::write(folder.join("stdin"), &input)?;
+        fs::write(folder.join("stdout"), &output)?;
+        let (bytes, lines) = (input.len(), output.lines().count());
+        println!("{program}: {bytes} bytes in, {lines} lines out");
+    }
+    Ok(())
+}
+
+#[cfg(test)]
+mod tests {
+    use super::*;
+
+    #[test]
+    fn the_stored_files_stay_as_they_are() {
+        let crates = Path::new(env!("CARGO_MANIFEST_DIR")).join("../crates");
+        for (program, input, output) in all() {
+            let stored = |file| fs::read(crates.join(program).join(file)).expect("it's stored");
+            assert!(stored("stdin") == input, "{program}: stdin");
+            assert!(stored("stdout") == output.as_bytes(), "{program}: stdout");
+        }
+    }
+}
