@@ -1,5 +1,5 @@
 // The bound for (BI, BC), or number 4.
-use engine::bound::bound_of;
+use bounds::bound::bound_of;
 use records::refusal::Refusal;
 use records::refusal::first_failed;
 use records::refusal::refuse;

@@ -24,9 +24,9 @@ use Rattle.rules.proofs.Promises.{kept as promised}
 use Rattle.controller.specs.declared.run.RunReport.{RunReport}
 use Rattle.controller.specs.declared.run.RunAnswer.the-variants.{Ran}
 use Rattle.controller.specs.Controller.{tells, kept, freshController, Ranged}
-use Rattle.controller.specs.Refused.{sound}
+use Rattle.refusals.specs.Refused.{sound}
 use Rattle.controller.specs.Run.{RunLeft, runController}
-use Rattle.controller.proofs.SoundKept.{fresh-sound}
+use Rattle.refusals.proofs.SoundKept.{fresh-sound}
 use Rattle.controller.proofs.Halves.{ran}
 
 pub fresh-ranged : (τ : Table) → Ranged (freshController τ)

@@ -19,8 +19,8 @@ use Rattle.rules.proofs.TestLaws.{and-fst, and-snd, OnSome, every-at}
 use Rattle.controller.specs.declared.controller.HostBank.{HostBank}
 use Rattle.controller.specs.declared.controller.Controller.{Controller}
 use Rattle.controller.specs.Controller.{stampOf, numberOf, bankTells, bankKept, tells, kept, in32, Ranged}
-use Rattle.controller.specs.Refused.{before, bankStamps, lastStamps, bankBefore}
-use Rattle.controller.proofs.StoredKept.{Stored}
+use Rattle.refusals.specs.Refused.{before, bankStamps, lastStamps, bankBefore}
+use Rattle.refusals.proofs.StoredKept.{Stored}
 
 -- ---- from the controller: every number is as it was
 

@@ -1,9 +1,5 @@
 -- The theorems about the controller.
-pub mod Laws
-pub mod StoredKept
-pub mod Backed
 pub mod Inverse
-pub mod SoundKept
 pub mod Written
 pub mod NotRefused
 pub mod Halves

@@ -22,9 +22,9 @@ use Rattle.engine.specs.Run.{commandsLeft, Ready, Runs}
 use Rattle.controller.specs.declared.controller.Controller.{Controller}
 use Rattle.controller.specs.declared.run.RunAnswer.the-variants.{Ran, Refused}
 use Rattle.controller.specs.Controller.{tells, kept}
-use Rattle.controller.specs.Refused.{roomShort, sound, runRefusal}
+use Rattle.refusals.specs.Refused.{roomShort, sound, runRefusal}
 use Rattle.controller.specs.Run.{runController, LeavesRun}
-use Rattle.controller.proofs.SoundKept.{sound-tested}
+use Rattle.refusals.proofs.SoundKept.{sound-tested}
 
 -- there is room, and number 9 does not apply
 pub not-refused : (τ : Table) (l : List Transaction) (s : State) (count room : ℕ) → runRefusal τ l s count room ≡ 0

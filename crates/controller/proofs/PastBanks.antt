@@ -20,12 +20,12 @@ use Rattle.controller.specs.declared.controller.Controller.{Controller}
 use Rattle.controller.specs.declared.run.RunReport.{RunReport}
 use Rattle.controller.specs.declared.run.RunAnswer.the-variants.{Ran}
 use Rattle.controller.specs.Controller.{bankTells, bankKept, tells, kept, Ranged}
-use Rattle.controller.specs.Refused.{sound, runRefusal}
+use Rattle.refusals.specs.Refused.{sound, runRefusal}
 use Rattle.controller.specs.Run.{RunLeft, ranLeft, refusedLeft, runController}
 use Rattle.controller.specs.Promise.{Keeps, SameRuns}
 use Rattle.controller.proofs.NotRefused.{not-refused}
 use Rattle.controller.proofs.Inverse.{banks-back, tells-kept, told-held}
-use Rattle.controller.proofs.SoundKept.{run-sound}
+use Rattle.refusals.proofs.SoundKept.{run-sound}
 use Rattle.controller.proofs.Halves.{run-held, ran}
 
 drop-map : {A B : Type 0} (f : A → B) (n : ℕ) (l : List A) → drop n (map f l) ≡ map f (drop n l)

@@ -1,4 +1,3 @@
 pub mod Controller
-pub mod Refused
 pub mod Run
 pub mod Promise

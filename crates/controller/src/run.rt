@@ -2,11 +2,11 @@
 use crate::controller::Controller;
 use crate::controller::controller_of;
 use crate::controller::state_of;
-use crate::refused::refusal_of;
 use engine::run::run;
 use records::refusal::Refusal;
 use records::refusal::refuse;
 use records::table::Table;
+use refusals::refused::refusal_of;
 ghost use Prim.Native.Nat.{_/_};
 ghost use lib.ListN.{length};
 ghost use Rattle.records.specs.Transaction.{transactionsIn};

@@ -39,7 +39,7 @@ use Rattle.lists.proofs.Promises.{decode-kept}
 use Rattle.controller.specs.declared.controller.Controller.{Controller}
 use Rattle.controller.specs.declared.run.RunAnswer.the-variants.{Refused as NotRun}
 use Rattle.controller.specs.Controller.{tells}
-use Rattle.controller.specs.Refused.{runRefusal}
+use Rattle.refusals.specs.Refused.{runRefusal}
 use Rattle.controller.specs.Run.{RunLeft, ranLeft, refusedLeft, runController}
 use Rattle.controller.proofs.Halves.{refused}
 use Rattle.desk.specs.Admit.{admitted}

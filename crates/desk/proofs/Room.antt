@@ -31,7 +31,7 @@ use Rattle.controller.specs.declared.controller.Controller.{Controller}
 use Rattle.controller.specs.declared.run.RunReport.{RunReport}
 use Rattle.controller.specs.declared.run.RunTold.{RunTold}
 use Rattle.controller.specs.declared.run.RunAnswer.the-variants.{Ran, Refused as NotRun}
-use Rattle.controller.specs.Refused.{runRefusal}
+use Rattle.refusals.specs.Refused.{runRefusal}
 use Rattle.controller.specs.Controller.{tells}
 use Rattle.controller.specs.Run.{RunLeft, written, ranLeft, refusedLeft, runController, LeavesRun}
 use Rattle.controller.proofs.Written.{written-length}

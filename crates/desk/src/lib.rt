@@ -1,17 +1,17 @@
 // The desk: what the customer calls. Any bytes may be handed in; a call refuses what it cannot take, with the number, the position and the
 // edition of document 01, and then changes nothing.
 pub mod admit;
-pub mod bounds;
+pub mod bounding;
 pub mod judging;
 pub mod running;
 pub mod schedules;
 pub mod transactions;
 
-pub use bounds::bound;
+pub use bounding::bound;
+pub use commands::command::read_command;
+pub use commands::command::write_command;
 pub use judging::judge;
 pub use judging::judge_pattern;
-pub use records::command::read_command;
-pub use records::command::write_command;
 pub use records::table::read_table;
 pub use records::table::write_table;
 pub use records::transaction::read_transaction;

@@ -2,4 +2,3 @@ pub mod Laws
 pub mod Going
 pub mod Marks
 pub mod Schedule
-pub mod Bounds

@@ -1,7 +1,7 @@
 // The built schedule: a fresh run to the end, and a pass over what it wrote for the finishing cycles.
 use crate::run::run;
+use commands::command::command_at;
 use heads::kinds::is_data;
-use records::command::command_at;
 use records::table::Table;
 use rules::state::fresh_of;
 ghost use mathlib.Core.Path.{_≡_};

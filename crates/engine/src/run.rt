@@ -1,15 +1,15 @@
 // A run of a few cycles, which writes its commands.
 use crate::choose::Go;
 use crate::choose::choose;
+use commands::command::put_command;
 use heads::due::due;
 use heads::queue::leave;
 use heads::queue::queues_after;
-use records::command::put_command;
 use records::table::Table;
 use records::tests::both_of;
-use rules::note::note_kind;
-use rules::square::distances;
 use rules::state::State;
+use timing::note::note_kind;
+use timing::square::distances;
 ghost use mathlib.Core.Path.{_≡_};
 ghost use mathlib.Core.Bool.{_&&_, _||_};
 ghost use mathlib.Core.List.{[]};

@@ -74,14 +74,14 @@ every-back : (f : Transaction → Bool) (p q : List Transaction) → every f (p 
 every-back f [] q e = e
 every-back f (x ∷ p) q e = every-back f p q (and-snd (f x) (every f (p ++ q)) e)
 
-acts-most : (τ : Table) (l : List Transaction) → AllFit τ l → sum actCount l ≤ 16 * length l
+pub acts-most : (τ : Table) (l : List Transaction) → AllFit τ l → sum actCount l ≤ 16 * length l
 acts-most τ [] v = omega arith
 acts-most τ (x ∷ l) v = omega (arith, v .0 .maxI, acts-most τ l (v .1))
 
 pub size-most : (τ : Table) (x : Transaction) → Fit τ x → dataCount x ≤ 256
 size-most τ x v = mul-le-mul {n₁ = x .bi} {m₁ = x .bc} {n₂ = 16} {m₂ = 16} (v .maxI) (v .maxC)
 
-datas-most : (τ : Table) (l : List Transaction) → AllFit τ l → sum dataCount l ≤ 256 * length l
+pub datas-most : (τ : Table) (l : List Transaction) → AllFit τ l → sum dataCount l ≤ 256 * length l
 datas-most τ [] v = omega arith
 datas-most τ (x ∷ l) v = omega (arith, size-most τ x (v .0), datas-most τ l (v .1))
 

@@ -4,6 +4,7 @@
 // a transaction and a command from the n bytes. Calls 2, 4 and 6 write one: the values come first, in 32, 4 or 8 bytes, and the rest is
 // the buffer. The line is `case` for any other call, for a write whose bytes are too few for the values or leave more than 64 for the
 // buffer, and for a case that the input cuts short, which is the last.
+use commands::command::kind_number;
 use desk::read_command;
 use desk::read_table;
 use desk::read_transaction;
@@ -14,7 +15,6 @@ use libc::STDIN_FILENO;
 use libc::STDOUT_FILENO;
 use records::command::Command;
 use records::command::CommandRead;
-use records::command::kind_number;
 use records::little::from_le32;
 use records::little::num_at;
 use records::refusal::Refusal;

@@ -1,7 +1,5 @@
 -- The theorems about the judges.
 pub mod Laws
-pub mod Seen
-pub mod LookBack
 pub mod Turn
 pub mod FiveCopies
 pub mod Unique

@@ -30,10 +30,10 @@ use Rattle.rules.proofs.Newest.{newest-data}
 use Rattle.rules.proofs.Judged.{holds}
 use Rattle.rules.proofs.Legal.{below}
 use Rattle.rules.proofs.JudgeState.{Judging, judging-broken, judging-note, judging-open}
-use Rattle.judge.specs.Seen.{recordIn, before, farBySquare}
-use Rattle.judge.specs.ByState.{testsTold, foundBy, shutBy}
-use Rattle.judge.proofs.LookBack.{record-read}
-use Rattle.judge.proofs.Seen.{left, left-none, left-next}
+use Rattle.broken.specs.Seen.{recordIn, before, farBySquare}
+use Rattle.broken.specs.ByState.{testsTold, foundBy, shutBy}
+use Rattle.broken.proofs.LookBack.{record-read}
+use Rattle.broken.proofs.Seen.{left, left-none, left-next}
 
 -- i records of a copy are judged: the state sums up all before the next, and the verdict on what is left is that on the whole copy
 pub record Turn (τ : Table) (s : List ℕ) (d : ℕ) (h : List Command) (n i : ℕ) (st : State) : Type 0 where

@@ -1,5 +1,5 @@
 // What the judges answer, and what they refuse before they judge.
-use crate::plain::either_of;
+use broken::plain::either_of;
 use records::refusal::Refusal;
 use records::refusal::first_failed;
 use rules::verdict::PatternVerdict;

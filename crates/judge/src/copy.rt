@@ -1,17 +1,17 @@
 // One copy of a schedule, record by record.
-use crate::back::keeps_distance;
-use crate::found::found_by;
-use crate::plain::shift_of;
-use records::command::command_at;
+use broken::back::keeps_distance;
+use broken::found::found_by;
+use broken::plain::shift_of;
+use commands::command::command_at;
 use records::table::Table;
 use records::tests::both_of;
 use records::tests::not_of;
-use rules::note::note_kind;
 use rules::state::State;
-use rules::tests::is_open;
 use rules::verdict::Found;
 use rules::verdict::Rule;
 use rules::verdict::Verdict;
+use timing::note::note_kind;
+use timing::tests::is_open;
 ghost use mathlib.Core.Path.{_≡_};
 ghost use Prim.Native.Nat.{suc, _≤_, _<_};
 ghost use Rattle.records.specs.Tests.{pick};
@@ -22,8 +22,8 @@ ghost use Rattle.rules.specs.Square.{square};
 ghost use Rattle.rules.specs.Verdict.{judgeFrom};
 ghost use Rattle.rules.specs.Pattern.{copy};
 ghost use Rattle.rules.proofs.JudgeState.{Judging};
-ghost use Rattle.judge.specs.Seen.{recordCount, whole};
-ghost use Rattle.judge.specs.ByState.{shutBy};
+ghost use Rattle.broken.specs.Seen.{recordCount, whole};
+ghost use Rattle.broken.specs.ByState.{shutBy};
 
 // The verdict on a copy, and the state after it.
 pub struct Copied {

@@ -4,15 +4,15 @@ use crate::answer::pattern_refusal;
 use crate::copy::judge_copy;
 use records::refusal::refuse;
 use records::table::Table;
-use rules::square::distances;
 use rules::state::fresh_of;
 use rules::verdict::PatternVerdict;
 use rules::verdict::Verdict;
+use timing::square::distances;
 ghost use mathlib.Core.Path.{_≡_};
 ghost use Prim.Native.Nat.{_≤_};
 ghost use Rattle.records.specs.Command.{commandsIn};
 ghost use Rattle.rules.specs.Pattern.{copies};
-ghost use Rattle.judge.specs.Seen.{recordCount};
+ghost use Rattle.broken.specs.Seen.{recordCount};
 ghost use Rattle.judge.specs.Answer.{PatternAnswers};
 
 // The verdict on five copies, which is that on any number from five on.

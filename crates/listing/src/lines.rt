@@ -1,8 +1,8 @@
 // The lines of document 01: one for the edition, one for each command, one for each finish; or the refusal's.
+use commands::command::command_at;
 use libc::STDOUT_FILENO;
 use records::command::Command;
 use records::command::Kind;
-use records::command::command_at;
 use records::refusal::Refusal;
 ghost use Prim.Native.Nat.{_*_, _≤_};
 ghost use lib.ListN.{length};

@@ -1,16 +1,11 @@
 // A list by value, four bytes to a transaction, and the lent run of records that it is gathered from.
-use crate::check::Checked;
-use crate::check::check_bytes;
-use records::refusal::refuse;
-use records::table::Table;
 use records::transaction::Transaction;
 ghost use mathlib.Core.Path.{_≡_};
 ghost use mathlib.Core.List.{[]};
 ghost use Prim.Native.Nat.{_<_};
 ghost use lib.ListN.{length, getD};
 ghost use Rattle.records.specs.Transaction.{transaction};
-ghost use Rattle.lists.specs.Check.{checkList};
-ghost use Rattle.lists.specs.Packed.{noTransaction, held, putOf, packed};
+ghost use Rattle.lists.specs.Packed.{noTransaction, putOf, packed};
 
 pub struct Packed {
     // How many there are; 257 where there are more than 256.
@@ -42,18 +37,6 @@ pub fn put(p: Packed, kind: u8, start: u8, bi: u8, bc: u8) -> Packed
     }
     q.n = 257;
     q
-}
-
-pub fn check_packed(t: Table, p: Packed) -> Checked
-    ensures { λ r. ⌜ r ≡ checkList t (held p) ⌝ }
-{
-    let n = p.n;
-    if n <= 256 {
-        let bytes = p.bytes;
-        let end = 4 * n;
-        return check_bytes(t, &bytes[..end]);
-    }
-    Checked::Refused(refuse(3, 0, t.edition))
 }
 
 // One more, the k-th of a lent run of records.

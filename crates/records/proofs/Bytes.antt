@@ -5,23 +5,29 @@ use mathlib.Core.Path.{_≡_, refl, sym, ap, _∙_}
 use mathlib.Core.List.{List, [], _∷_, _++_, append-assoc}
 use native.Mathlib.Omega.{arith}
 use native.Mathlib.Numerals.{add-one, towards-suc}
-use lib.ListN.{length, getD, set, take, drop, length-append, length-drop, length-take}
+use lib.ListN.{length, getD, set, take, drop, length-append, length-drop, length-take, length-set}
 use lib.Seq.{sets, sets-eq, take-suc, take-append-seam, drop-append-add, drop-drop}
 use Rattle.records.specs.Told.{over, putAt}
-use Rattle.records.specs.Little.{bytes16, put16}
+use Rattle.records.specs.Little.{bytes16, bytes32, put16, put32}
 
 -- stores at places that follow each other
 pub put-sets : (new s : List ℕ) (at : ℕ) → at + length new ≤ length s → sets s at new ≡ putAt s at new
 put-sets new s at h = sets-eq new s at h
 
-pub put-8 : (s : List ℕ) (at b0 b1 b2 b3 b4 b5 b6 b7 : ℕ) → at + 8 ≤ length s
-    → set (set (set (set (set (set (set (set s at b0) (at + 1) b1) (at + 2) b2) (at + 3) b3) (at + 4) b4) (at + 5) b5) (at + 6) b6) (at + 7) b7
-    ≡ putAt s at (b0 ∷ b1 ∷ b2 ∷ b3 ∷ b4 ∷ b5 ∷ b6 ∷ b7 ∷ [])
-put-8 s at b0 b1 b2 b3 b4 b5 b6 b7 h = as-sets ∙ put-sets (b0 ∷ b1 ∷ b2 ∷ b3 ∷ b4 ∷ b5 ∷ b6 ∷ b7 ∷ []) s at h
+-- a command's eight: a number of 32 bits, two bytes, a number of 16 bits
+pub put-8 : (s : List ℕ) (at x k b n : ℕ) → at + 8 ≤ length s
+    → put16 (set (set (put32 s at x) (at + 4) k) (at + 5) b) (at + 6) n ≡ putAt s at (bytes32 x ++ (k ∷ b ∷ bytes16 (n ∷ [])))
+put-8 s at x k b n h = as-sets ∙ put-sets (bytes32 x ++ (k ∷ b ∷ bytes16 (n ∷ []))) s at h
   where
-    as-sets : set (set (set (set (set (set (set (set s at b0) (at + 1) b1) (at + 2) b2) (at + 3) b3) (at + 4) b4) (at + 5) b5) (at + 6) b6) (at + 7) b7
-        ≡ sets s at (b0 ∷ b1 ∷ b2 ∷ b3 ∷ b4 ∷ b5 ∷ b6 ∷ b7 ∷ [])
+    as-sets : put16 (set (set (put32 s at x) (at + 4) k) (at + 5) b) (at + 6) n ≡ sets s at (bytes32 x ++ (k ∷ b ∷ bytes16 (n ∷ [])))
     as-sets = simp towards-suc
+
+-- v is s with the first number, w what is left in the end
+pub length-8 : (s v w : List ℕ) (at x k b n : ℕ) → v ≡ put32 s at x → w ≡ put16 (set (set v (at + 4) k) (at + 5) b) (at + 6) n → length w ≡ length s
+length-8 s v w at x k b n p q =
+    let first : length (put32 s at x) ≡ length s = simp length-set in
+    let rest : length (put16 (set (set v (at + 4) k) (at + 5) b) (at + 6) n) ≡ length v = simp length-set in
+    ap length q ∙ (rest ∙ (ap length p ∙ first))
 
 pub length-over : (new s : List ℕ) → length new ≤ length s → length (over new s) ≡ length s
 length-over new s h = simp (length-append, length-drop) (omega arith)

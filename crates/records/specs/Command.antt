@@ -12,7 +12,7 @@ use Rattle.records.specs.declared.command.CommandRead.the-variants.{Read
 use Rattle.records.specs.declared.refusal.Written.the-variants.{Done, Refused as NotWritten}
 use Rattle.records.specs.Tests.{pick}
 use Rattle.records.specs.Told.{refusal, firstFailed, over, Wrote}
-use Rattle.records.specs.Little.{le32, num, bytes16, bytes32}
+use Rattle.records.specs.Little.{num, num32, bytes16, bytes32}
 
 abbrev pub kindOf : ℕ → Kind
 kindOf n = pick (eqb n 0) Act (pick (eqb n 1) Rd (pick (eqb n 2) Rda (pick (eqb n 3) Wr (pick (eqb n 4) Wra (Other n)))))
@@ -31,7 +31,7 @@ command t k b x = record { cycle = t; kind = k; bank = b; number = x }
 -- the command of the eight bytes from a place on
 abbrev pub commandAt : List ℕ → ℕ → Command
 commandAt s at =
-    command (le32 (getD s at 0) (getD s (at + 1) 0) (getD s (at + 2) 0) (getD s (at + 3) 0)) (kindOf (getD s (at + 4) 0)) (getD s (at + 5) 0)
+    command (num32 s at) (kindOf (getD s (at + 4) 0)) (getD s (at + 5) 0)
     (num s (at + 6))
 
 abbrev pub bytesOf : Command → List ℕ

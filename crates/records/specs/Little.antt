@@ -13,6 +13,10 @@ le32 a b c d = a + b * 256 + c * 65536 + d * 16777216
 abbrev pub num : List ℕ → ℕ → ℕ
 num s at = le16 (getD s at 0) (getD s (at + 1) 0)
 
+-- the 32-bit number at a place
+abbrev pub num32 : List ℕ → ℕ → ℕ
+num32 s at = le32 (getD s at 0) (getD s (at + 1) 0) (getD s (at + 2) 0) (getD s (at + 3) 0)
+
 -- the bytes of numbers of 16 bits
 abbrev pub bytes16 : List ℕ → List ℕ
 bytes16 [] = []
@@ -25,3 +29,7 @@ bytes32 x = (x % 256) ∷ (x / 256 % 256) ∷ (x / 65536 % 256) ∷ (x / 1677721
 -- a list with a 16-bit number at a place
 abbrev pub put16 : List ℕ → ℕ → ℕ → List ℕ
 put16 s at x = set (set s at (x % 256)) (at + 1) (x / 256)
+
+-- a list with a 32-bit number at a place
+abbrev pub put32 : List ℕ → ℕ → ℕ → List ℕ
+put32 s at x = set (set (set (set s at (x % 256)) (at + 1) (x / 256 % 256)) (at + 2) (x / 65536 % 256)) (at + 3) (x / 16777216)

@@ -1,4 +1,4 @@
-// The records of document 01: a timing table, a transaction, a command. Each is read and written exactly.
+// The records of document 01: a timing table, a transaction, a command. The first two are read and written here, the last in `commands`.
 pub mod command;
 pub mod house;
 pub mod little;

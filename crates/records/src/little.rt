@@ -2,7 +2,7 @@
 ghost use mathlib.Core.Path.{_≡_};
 ghost use Prim.Native.Nat.{_+_, _≤_};
 ghost use lib.ListN.{length};
-ghost use Rattle.records.specs.Little.{le16, le32, num, put16};
+ghost use Rattle.records.specs.Little.{le16, le32, num, num32, put16, put32};
 
 pub fn from_le16(a: u8, b: u8) -> u16
     ensures { λ r. ⌜ r ≡ le16 a b ⌝ }
@@ -31,4 +31,23 @@ pub fn put_16(s: &mut [u8], at: usize, x: u16)
 {
     s[at] = (x % 256) as u8;
     s[at + 1] = (x / 256) as u8;
+}
+
+// The 32-bit number at a place.
+pub fn num_32_at(s: &[u8], at: usize) -> u32
+    requires { ⌜ at + 4 ≤ length (now s) ⌝ }
+    ensures { λ r. ⌜ r ≡ num32 (now (s .entry)) at ⌝ }
+{
+    from_le32(s[at], s[at + 1], s[at + 2], s[at + 3])
+}
+
+// Writes a 32-bit number at a place.
+pub fn put_32(s: &mut [u8], at: usize, x: u32)
+    requires { ⌜ at + 4 ≤ length (now s) ⌝ }
+    ensures { λ r. ⌜ now (s .exit) ≡ put32 (now (s .entry)) at x ⌝ }
+{
+    s[at] = (x % 256) as u8;
+    s[at + 1] = (x / 256 % 256) as u8;
+    s[at + 2] = (x / 65536 % 256) as u8;
+    s[at + 3] = (x / 16777216) as u8;
 }

@@ -39,6 +39,5 @@ pub mod OfFirst
 pub mod Prefix
 pub mod Built
 pub mod Promises
-pub mod Leaves
 pub mod Demands
 pub mod Ends

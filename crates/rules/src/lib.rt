@@ -1,6 +1,3 @@
-// What document 01 says of time: the distances, the rules read off a state, and the state after a command.
-pub mod note;
-pub mod square;
+// What document 01 says of time. The types are here, the definitions in specs/, the theorems in proofs/; the code that keeps to them is `timing`.
 pub mod state;
-pub mod tests;
 pub mod verdict;

@@ -1,8 +1,8 @@
 // What more than one call's lines have.
+use commands::command::command_at;
 use libc::STDOUT_FILENO;
 use records::command::Command;
 use records::command::Kind;
-use records::command::command_at;
 use records::refusal::Refusal;
 ghost use Prim.Native.Nat.{_*_, _≤_};
 ghost use lib.ListN.{length};

@@ -1,7 +1,7 @@
 use borrow.Author.Needs.{needs}
 use Prim.Native.Nat.{_-_}
 use mathlib.Core.Path.{refl}
-use Rattle.controller.proofs.Laws.{Filled, fill-start, fill-turn, fill-end}
+use Rattle.refusals.proofs.Laws.{Filled, fill-start, fill-turn, fill-end}
 use Rattle.controller.specs.Controller.{bankKept}
 use Rattle.rules.specs.State.{shut}
 use Rattle.controller.proofs.controller.banks_kept.Statement.{statement}

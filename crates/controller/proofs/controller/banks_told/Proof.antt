@@ -1,7 +1,7 @@
 use borrow.Author.Needs.{needs}
 use Prim.Native.Nat.{_-_}
 use mathlib.Core.Path.{refl}
-use Rattle.controller.proofs.Laws.{Filled, fill-start, fill-turn, fill-end}
+use Rattle.refusals.proofs.Laws.{Filled, fill-start, fill-turn, fill-end}
 use Rattle.controller.specs.Controller.{bankTells}
 use Rattle.controller.specs.declared.controller.HostBank.{HostBank}
 use Rattle.controller.proofs.controller.banks_told.Statement.{statement}

@@ -3,7 +3,7 @@ use native.Mathlib.Omega.{arith}
 use Prim.Native.Nat.{_≤_, _-_}
 use mathlib.Core.Path.{_≡_, refl, ap, _∙_}
 use native.Mathlib.Numerals.{add-one}
-use Rattle.judge.specs.ByState.{shutBy}
+use Rattle.broken.specs.ByState.{shutBy}
 use Rattle.judge.proofs.copy.all_shut.Statement.{statement}
 use Rattle.judge.proofs.copy.all_shut.Tie as tie
 

@@ -7,8 +7,8 @@ use Rattle.records.specs.Tests.{pick}
 use Rattle.rules.specs.declared.verdict.Verdict.{Verdict}
 use Rattle.rules.specs.declared.verdict.Verdict.the-variants.{Accepted, Refused}
 use Rattle.rules.specs.declared.verdict.Rule.the-variants.{End}
-use Rattle.judge.specs.Seen.{recordCount, whole}
-use Rattle.judge.proofs.Seen.{room}
+use Rattle.broken.specs.Seen.{recordCount, whole}
+use Rattle.broken.proofs.Seen.{room}
 use Rattle.judge.proofs.Turn.{Turn, turn-start, turn-stops, turn-bank, turn-next, turn-judging, turn-end}
 use Rattle.judge.proofs.copy.judge_copy.Statement.{statement}
 use Rattle.judge.proofs.copy.judge_copy.Tie as tie

@@ -1,0 +1,2 @@
+// The bound in code.
+pub mod bound;

@@ -1,0 +1,93 @@
+-- What the proofs of the leaves cite.
+-- Assumes nothing.
+use Prim.Native.Nat.{ℕ, _*_, _≤_, _<_}
+use native.Mathlib.Nat.{mul-le-mul}
+use native.Mathlib.Omega.{arith}
+use mathlib.Core.Path.{_≡_, refl}
+use mathlib.Core.Bool.{Bool, true, false, not}
+use mathlib.Core.List.{List, [], _∷_}
+use borrow.Author.Tests.{le-leb, lt-leb}
+use Rattle.records.specs.Tests.{pick}
+use Rattle.records.specs.declared.table.Table.{Table}
+use Rattle.records.specs.declared.command.Kind.{Kind}
+use Rattle.records.specs.declared.command.Kind.the-variants.{Act, Rd, Rda, Wr, Wra, Other}
+use Rattle.rules.specs.declared.state.Stamp.{Stamp}
+use Rattle.rules.specs.declared.state.Bank.{Bank}
+use Rattle.rules.specs.declared.state.State.{State}
+use Rattle.rules.specs.declared.verdict.Rule.the-variants.{Range, Order, Opened, Precharge, Rc, Rrd, Faw, Rcd, Distance}
+use Rattle.rules.specs.declared.verdict.Found.the-variants.{Fine, Broken}
+use Rattle.rules.specs.Kinds.{isAct, isKnown, firstBroken, rulesInOrder}
+use Rattle.rules.specs.State.{past, isOpen, bankOf, charged, actTestsOf, actTests, dataTestsOf}
+use Rattle.rules.specs.History.{inTable}
+use Rattle.rules.proofs.TestLaws.{true-false, and-fst}
+use Rattle.broken.specs.ByState.{testsTold, foundBy}
+
+-- L × k for a length of 32 bits and one of five copies
+pub shift-small : (L k : ℕ) → L < 4294967296 → k < 5 → L * k ≤ 17179869180
+shift-small L k l m = mul-le-mul {n₁ = L} {m₁ = k} {n₂ = 4294967295} {m₂ = 4} (omega arith) (omega arith)
+
+-- the rules that an ACT, and a data command, can break, one after the other
+act-tests : (a b c d e : Bool)
+    → pick a (pick b (pick c (pick d (pick e Fine (Broken Faw)) (Broken Rrd)) (Broken Rc)) (Broken Precharge)) (Broken Opened)
+    ≡ firstBroken (true ∷ true ∷ a ∷ b ∷ c ∷ d ∷ e ∷ []) rulesInOrder
+act-tests false b c d e = refl
+act-tests true false c d e = refl
+act-tests true true false d e = refl
+act-tests true true true false e = refl
+act-tests true true true true false = refl
+act-tests true true true true true = refl
+
+data-tests : (a b c : Bool)
+    → pick a (pick b (pick c Fine (Broken Distance)) (Broken Rcd)) (Broken Opened)
+    ≡ firstBroken (true ∷ true ∷ a ∷ true ∷ true ∷ true ∷ true ∷ b ∷ c ∷ []) rulesInOrder
+data-tests false b c = refl
+data-tests true false c = refl
+data-tests true true false = refl
+data-tests true true true = refl
+
+pub act-order : (τ : Table) (k : Bank) (a1 a4 : Stamp) (t : ℕ)
+    → pick (not (isOpen k)) (pick (charged τ k t) (pick (past (k .act) (τ .rc) t) (pick (past a1 (τ .rrd) t) (pick (past a4 (τ .faw) t) Fine (Broken Faw)) (Broken Rrd)) (Broken Rc)) (Broken Precharge)) (Broken Opened)
+    ≡ firstBroken (true ∷ true ∷ actTestsOf τ k (past a1 (τ .rrd) t) (past a4 (τ .faw) t) t) rulesInOrder
+act-order τ k a1 a4 t = act-tests (not (isOpen k)) (charged τ k t) (past (k .act) (τ .rc) t) (past a1 (τ .rrd) t) (past a4 (τ .faw) t)
+
+pub data-order : (τ : Table) (k : Bank) (keeps9 : Bool) (t : ℕ)
+    → pick (isOpen k) (pick (past (k .act) (τ .rcd) t) (pick keeps9 Fine (Broken Distance)) (Broken Rcd)) (Broken Opened)
+    ≡ firstBroken (true ∷ true ∷ dataTestsOf τ k keeps9 t) rulesInOrder
+data-order τ k keeps9 t = data-tests (isOpen k) (past (k .act) (τ .rcd) t) keeps9
+
+-- the rules of a record, in the order in which the code comes to them
+module _ (τ : Table) (s : State) (k : Kind) (t b : ℕ) (keeps9 : Bool) where
+  pub found-range : inTable τ k b ≡ false → Broken Range ≡ foundBy τ s k t b keeps9
+  unfolding foundBy
+  found-range e = rw e
+
+  pub found-order : inTable τ k b ≡ true → t < s .cycle → Broken Order ≡ foundBy τ s k t b keeps9
+  unfolding foundBy
+  found-order e l = rw (e, lt-leb (s .cycle) t l)
+
+  told : inTable τ k b ≡ true → s .cycle ≤ t → (ts : List Bool) → ts ≡ testsTold τ s k t b keeps9 → firstBroken (true ∷ true ∷ ts) rulesInOrder ≡ foundBy τ s k t b keeps9
+  unfolding foundBy
+  told e l ts u = rw (e, le-leb (s .cycle) t l, u)
+
+  act-told : (k : Kind) → isAct k ≡ true → actTests τ s t b ≡ testsTold τ s k t b keeps9
+  act-told Act a = refl
+  act-told Rd a = true-false false a refl
+  act-told Rda a = true-false false a refl
+  act-told Wr a = true-false false a refl
+  act-told Wra a = true-false false a refl
+  act-told (Other n) a = true-false false a refl
+
+  data-told : (k : Kind) → isKnown k ≡ true → isAct k ≡ false → dataTestsOf τ (bankOf s b) keeps9 t ≡ testsTold τ s k t b keeps9
+  data-told Act n a = true-false true refl a
+  data-told Rd n a = refl
+  data-told Rda n a = refl
+  data-told Wr n a = refl
+  data-told Wra n a = refl
+  data-told (Other m) n a = true-false false n refl
+
+  pub found-act : inTable τ k b ≡ true → s .cycle ≤ t → isAct k ≡ true → firstBroken (true ∷ true ∷ actTests τ s t b) rulesInOrder ≡ foundBy τ s k t b keeps9
+  found-act e l a = told e l (actTests τ s t b) (act-told k a)
+
+  pub found-data : inTable τ k b ≡ true → s .cycle ≤ t → isAct k ≡ false
+      → firstBroken (true ∷ true ∷ dataTestsOf τ (bankOf s b) keeps9 t) rulesInOrder ≡ foundBy τ s k t b keeps9
+  found-data e l a = told e l (dataTestsOf τ (bankOf s b) keeps9 t) (data-told k (and-fst (isKnown k) _ e) a)

@@ -1,0 +1,5 @@
+use Rattle.broken.proofs.found.unless.Statement.{statement}
+use Rattle.broken.proofs.found.unless.Tie as tie
+
+pub unless-spec : {M : Type 1} → statement M
+unless-spec = tie.close (tie.spec (λ c. rw (c .if1 .taken)) (λ c. rw (c .if1 .left)))

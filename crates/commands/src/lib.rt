@@ -1,0 +1,2 @@
+// A command is read and written exactly.
+pub mod command;

@@ -1,0 +1,74 @@
+-- A built schedule's commands are counted in 32 bits.
+-- Assumes nothing.
+use Prim.Native.Nat.{ℕ, _+_, _≤_, _<_}
+use mathlib.Core.Bool.{true}
+use mathlib.Core.Path.{_≡_, refl, _∙_}
+use mathlib.Core.List.{List}
+use native.Mathlib.Omega.{arith}
+use lib.Dec.{leb}
+use lib.ListN.{length}
+use borrow.Author.Tests.{leb-true}
+use Rattle.records.specs.declared.table.Table.{Table}
+use Rattle.records.specs.declared.table.TableRead.{TableRead}
+use Rattle.records.specs.declared.table.TableRead.the-variants.{Read, Refused}
+use Rattle.records.specs.declared.transaction.Transaction.{Transaction}
+use Rattle.records.specs.declared.refusal.Refusal.{Refusal}
+use Rattle.records.specs.Tests.{every}
+use Rattle.records.specs.Table.{Accepted}
+use Rattle.records.specs.Transaction.{transactionsIn, fits, listFits}
+use Rattle.rules.specs.Queues.{actQueue, dataQueue}
+use Rattle.rules.proofs.TestLaws.{and-fst}
+use Rattle.rules.proofs.Queue.{act-length, data-length}
+use Rattle.rules.proofs.Built.{each-fits, built-count}
+use Rattle.heads.proofs.Laws.{acts-most, datas-most}
+use Rattle.lists.specs.declared.check.Checked.{Checked}
+use Rattle.lists.specs.declared.check.Checked.the-variants.{Fine, Refused as NotFine}
+use Rattle.lists.specs.Check.{checkList, checkBytes}
+use Rattle.lists.proofs.Checks.{into-256, into-list, fine-fits}
+use Rattle.builder.specs.declared.build.BuildAnswer.{BuildAnswer}
+use Rattle.builder.specs.declared.build.BuildAnswer.the-variants.{Built, Refused as NotBuilt}
+use Rattle.builder.specs.Build.{LeavesBuild}
+use Rattle.desk.specs.Admit.{admitted}
+use Rattle.desk.specs.Schedules.{NothingBuilt, BuildsChecked, Schedules}
+use Rattle.desk.proofs.Laws.{read-accepted}
+use Rattle.host.specs.Answers.{countOf}
+
+module _ (l : List Transaction) (b₀ b f₀ f : List ℕ) where
+  -- 256 transactions of at most 16 ACTs and 256 data commands
+  due-few : (τ : Table) → Accepted τ → listFits τ l ≡ true → length (actQueue τ l) + length (dataQueue τ l) ≤ 69632
+  due-few τ acc fit =
+      let few = leb-true (length l) 256 (and-fst (leb (length l) 256) (every (fits τ) l) fit) in
+      let each = each-fits τ acc l fit in
+      omega (arith, few, act-length τ l, data-length τ l, acts-most τ l each, datas-most τ l each)
+
+  leaves-few : (τ : Table) → Accepted τ → listFits τ l ≡ true → (v : BuildAnswer) → LeavesBuild τ l b₀ b f₀ f v → countOf v ≤ 69632
+  leaves-few τ acc fit (Built e n) h =
+      omega (arith, h .2 .count, built-count τ acc l fit (h .2 .schedule) (h .2 .built), due-few τ acc fit)
+  leaves-few τ acc fit (NotBuilt x) h = omega arith
+
+  nothing-few : (x : Refusal) (v : BuildAnswer) → NothingBuilt x b₀ b f₀ f v → countOf v ≤ 69632
+  nothing-few x v h = rw (h .0) (omega arith)
+
+  checked-few : (τ : Table) → Accepted τ → (c : Checked) → (c ≡ Fine → listFits τ l ≡ true) → (v : BuildAnswer) → BuildsChecked c τ l b₀ b f₀ f v → countOf v ≤ 69632
+  unfolding BuildsChecked
+  checked-few τ acc Fine fit v h = leaves-few τ acc (fit refl) v h
+  checked-few τ acc (NotFine x) fit v h = nothing-few x v h
+
+  schedules-few : (check : Table → Checked) → ((τ : Table) → check τ ≡ Fine → listFits τ l ≡ true) → (a : TableRead) → ((τ : Table) → a ≡ Read τ → Accepted τ)
+      → (v : BuildAnswer) → Schedules check a l b₀ b f₀ f v → countOf v ≤ 69632
+  unfolding Schedules
+  schedules-few check fit (Read τ) acc v h = checked-few τ (acc τ refl) (check τ) (fit τ) v h
+  schedules-few check fit (Refused x) acc v h = nothing-few x v h
+
+-- of the list's bytes s, and of a list l
+module _ (table b₀ b f₀ f : List ℕ) (v : BuildAnswer) where
+  pub few-of-bytes : (s : List ℕ) → Schedules (λ τ. checkBytes τ s) (admitted table) (transactionsIn s) b₀ b f₀ f v → countOf v < 4294967296
+  few-of-bytes s h =
+      let few = schedules-few (transactionsIn s) b₀ b f₀ f (λ τ. checkBytes τ s)
+      (λ τ e. fine-fits τ (transactionsIn s) (into-list τ s 256 (into-256 τ s ∙ e))) (admitted table) (read-accepted table) v h in
+      omega (arith, few)
+
+  pub few-of-list : (l : List Transaction) → Schedules (λ τ. checkList τ l) (admitted table) l b₀ b f₀ f v → countOf v < 4294967296
+  few-of-list l h =
+      let few = schedules-few l b₀ b f₀ f (λ τ. checkList τ l) (λ τ. fine-fits τ l) (admitted table) (read-accepted table) v h in
+      omega (arith, few)

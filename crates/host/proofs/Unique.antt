@@ -1,0 +1,64 @@
+-- Each exported call's promise leaves one possible result and one possible content of each buffer it was lent, refused or not.
+-- Assumes nothing.
+use Prim.Native.Nat.{ℕ}
+use mathlib.Core.Path.{_≡_, sym, ap, _∙_}
+use mathlib.Core.List.{List}
+use Rattle.records.specs.Told.{Wrote}
+use Rattle.records.specs.Table.{readTable, writeTable}
+use Rattle.records.specs.Transaction.{transaction, readTransaction, writeTransaction, transactionsIn}
+use Rattle.records.specs.Command.{command, kindOf, readCommand, writeCommand}
+use Rattle.records.proofs.Unique.{one-answer}
+use Rattle.lists.specs.Check.{checkList, checkBytes}
+use Rattle.desk.specs.Admit.{admitted}
+use Rattle.desk.specs.Judging.{judging}
+use Rattle.desk.specs.Bounds.{bounding}
+use Rattle.desk.specs.Transactions.{reading}
+use Rattle.desk.specs.Running.{starting, running}
+use Rattle.desk.proofs.Unique.{only as desk-only}
+use Rattle.host.specs.declared.answer.Answer.{Answer}
+use Rattle.host.specs.Answers.{ofWritten, ofTable, ofTransaction, ofCommand, ofRead, ofBuild, ofBound, startOf, ofRun, runOf}
+use Rattle.host.specs.Verdicts.{verdictOf, patternOf}
+use Rattle.host.specs.Promises.{Writes}
+use Rattle.host.specs.Only.{OnlyRecord, Only}
+
+-- made of equals by one definition
+made : {A B : Type 0} (f : A → B) (u v : A) (x y : B) → u ≡ v → x ≡ f u → y ≡ f v → x ≡ y
+made f u v x y e p q = p ∙ ap f e ∙ sym q
+
+one-written : (w : Wrote) (x y : Answer) (b d : List ℕ) → Writes w x b → Writes w y d → (x ≡ y) × (b ≡ d)
+one-written w x y b d p q = (one-answer (ofWritten (w .answer)) x y (p .0) (q .0), one-answer (w .buffer) b d (p .1) (q .1))
+
+pub only-record : (s : List ℕ) → OnlyRecord s
+only-record s =
+    record {
+      tableRead = one-answer (ofTable (readTable s));
+      tableWritten = λ l. one-written (writeTable l s);
+      transactionRead = one-answer (ofTransaction (readTransaction s));
+      transactionWritten = λ kind start bi bc. one-written (writeTransaction (transaction kind start bi bc) s);
+      commandRead = one-answer (ofCommand (readCommand s));
+      commandWritten = λ cycle kind bank number. one-written (writeCommand (command cycle (kindOf kind) bank number) s);
+    }
+
+pub only : (table : List ℕ) → Only table
+only table =
+    record {
+      judge = λ s. one-answer (verdictOf (judging (admitted table) s));
+      judgePattern = λ s L x y p q. made patternOf (p .0) (q .0) x y (desk-only table .judgePattern s L (p .0) (q .0) (p .1) (q .1)) (p .2) (q .2);
+      bound = λ bi bc. one-answer (ofBound (bounding (admitted table) bi bc));
+      readTransactions = λ s l x y b d p q.
+          let w = reading (admitted table) s l in
+          (one-answer (ofRead (w .answer)) x y (p .0) (q .0), one-answer (w .list) b d (p .1) (q .1));
+      schedule = λ l b₀ f₀ x y b d f g p q.
+          let k = desk-only table .schedule l b₀ f₀ (p .0) (q .0) b d f g (p .1) (q .1) in
+          (made ofBuild (p .0) (q .0) x y (k .0) (p .2) (q .2), k .1, k .2);
+      scheduleBytes = λ s b₀ f₀ x y b d f g p q.
+          let k = desk-only table .scheduleBytes s b₀ f₀ (p .0) (q .0) b d f g (p .1) (q .1) in
+          (made ofBuild (p .0) (q .0) x y (k .0) (p .2) (q .2), k .1, k .2);
+      start = one-answer (startOf (starting (admitted table)));
+      run = λ c₀ l n b₀ x y c e b d p q.
+          let w = running (λ τ. checkList τ l) (admitted table) c₀ l n b₀ in
+          (one-answer (ofRun (w .told .answer)) x y (p .0) (q .0), one-answer (w .told .controller) c e (p .1) (q .1), one-answer (w .buffer) b d (p .2) (q .2));
+      runBytes = λ c₀ s n b₀ x y b d p q.
+          let w = running (λ τ. checkBytes τ s) (admitted table) c₀ (transactionsIn s) n b₀ in
+          (one-answer (runOf (w .told)) x y (p .0) (q .0), one-answer (w .buffer) b d (p .1) (q .1));
+    }

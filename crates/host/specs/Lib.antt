@@ -1,0 +1,4 @@
+pub mod Answers
+pub mod Verdicts
+pub mod Promises
+pub mod Only

@@ -1,0 +1,62 @@
+-- "For all inputs, a public call's promise leaves one possible result and one possible content of each buffer it was lent, refused or not": of
+-- each exported call.
+use Prim.Native.Nat.{ℕ}
+use mathlib.Core.Path.{_≡_}
+use mathlib.Core.List.{List}
+use Rattle.records.specs.declared.transaction.Transaction.{Transaction}
+use Rattle.records.specs.Table.{readTable, writeTable}
+use Rattle.records.specs.Transaction.{transaction, readTransaction, writeTransaction, transactionsIn}
+use Rattle.records.specs.Command.{command, kindOf, readCommand, writeCommand}
+use Rattle.lists.specs.Check.{checkList, checkBytes}
+use Rattle.controller.specs.declared.controller.Controller.{Controller}
+use Rattle.desk.specs.Admit.{admitted}
+use Rattle.desk.specs.Judging.{judging}
+use Rattle.desk.specs.Bounds.{bounding}
+use Rattle.desk.specs.Transactions.{reading}
+use Rattle.desk.specs.Running.{starting, running}
+use Rattle.host.specs.declared.answer.Answer.{Answer}
+use Rattle.host.specs.declared.reader.TableAnswer.{TableAnswer}
+use Rattle.host.specs.declared.reader.TransactionAnswer.{TransactionAnswer}
+use Rattle.host.specs.declared.reader.CommandAnswer.{CommandAnswer}
+use Rattle.host.specs.declared.answer.StartAnswer.{StartAnswer}
+use Rattle.host.specs.declared.answer.RunAnswer.{RunAnswer}
+use Rattle.host.specs.declared.verdict.VerdictAnswer.{VerdictAnswer}
+use Rattle.host.specs.Answers.{ofTable, ofTransaction, ofCommand, ofBound, startOf}
+use Rattle.host.specs.Verdicts.{verdictOf}
+use Rattle.host.specs.Promises.{Writes, PatternSaid, ReadsInto, Scheduled, RunsIn, RunsBack}
+
+-- x and y are two results that keep the promise; b and d, and c and e, and f and g, are a buffer or a controller as either leaves it. The
+-- calls on one record, whose bytes or buffer s are
+pub record OnlyRecord (s : List ℕ) : Type 0 where
+  pub tableRead : (x y : TableAnswer) → x ≡ ofTable (readTable s) → y ≡ ofTable (readTable s) → x ≡ y
+  pub tableWritten : (l : List ℕ) (x y : Answer) (b d : List ℕ) → Writes (writeTable l s) x b → Writes (writeTable l s) y d → (x ≡ y) × (b ≡ d)
+  pub transactionRead : (x y : TransactionAnswer) → x ≡ ofTransaction (readTransaction s) → y ≡ ofTransaction (readTransaction s) → x ≡ y
+  pub transactionWritten : (kind start bi bc : ℕ) (x y : Answer) (b d : List ℕ)
+      → Writes (writeTransaction (transaction kind start bi bc) s) x b → Writes (writeTransaction (transaction kind start bi bc) s) y d
+      → (x ≡ y) × (b ≡ d)
+  pub commandRead : (x y : CommandAnswer) → x ≡ ofCommand (readCommand s) → y ≡ ofCommand (readCommand s) → x ≡ y
+  pub commandWritten : (cycle kind bank number : ℕ) (x y : Answer) (b d : List ℕ)
+      → Writes (writeCommand (command cycle (kindOf kind) bank number) s) x b → Writes (writeCommand (command cycle (kindOf kind) bank number) s) y d
+      → (x ≡ y) × (b ≡ d)
+
+-- the calls that take a table
+pub record Only (table : List ℕ) : Type 0 where
+  pub judge : (s : List ℕ) (x y : VerdictAnswer) → x ≡ verdictOf (judging (admitted table) s) → y ≡ verdictOf (judging (admitted table) s) → x ≡ y
+  pub judgePattern : (s : List ℕ) (L : ℕ) (x y : VerdictAnswer) → PatternSaid (admitted table) s L x → PatternSaid (admitted table) s L y → x ≡ y
+  pub bound : (bi bc : ℕ) (x y : Answer) → x ≡ ofBound (bounding (admitted table) bi bc) → y ≡ ofBound (bounding (admitted table) bi bc) → x ≡ y
+  pub readTransactions : (s : List ℕ) (l : List Transaction) (x y : Answer) (b d : List Transaction)
+      → ReadsInto (reading (admitted table) s l) x b → ReadsInto (reading (admitted table) s l) y d → (x ≡ y) × (b ≡ d)
+  pub schedule : (l : List Transaction) (b₀ f₀ : List ℕ) (x y : Answer) (b d f g : List ℕ)
+      → Scheduled (λ τ. checkList τ l) (admitted table) l b₀ b f₀ f x → Scheduled (λ τ. checkList τ l) (admitted table) l b₀ d f₀ g y
+      → (x ≡ y) × (b ≡ d) × (f ≡ g)
+  pub scheduleBytes : (s b₀ f₀ : List ℕ) (x y : Answer) (b d f g : List ℕ)
+      → Scheduled (λ τ. checkBytes τ s) (admitted table) (transactionsIn s) b₀ b f₀ f x
+      → Scheduled (λ τ. checkBytes τ s) (admitted table) (transactionsIn s) b₀ d f₀ g y → (x ≡ y) × (b ≡ d) × (f ≡ g)
+  pub start : (x y : StartAnswer) → x ≡ startOf (starting (admitted table)) → y ≡ startOf (starting (admitted table)) → x ≡ y
+  -- `skv_step` is the run of one cycle
+  pub run : (c₀ : Controller) (l : List Transaction) (n : ℕ) (b₀ : List ℕ) (x y : Answer) (c e : Controller) (b d : List ℕ)
+      → RunsIn (running (λ τ. checkList τ l) (admitted table) c₀ l n b₀) x c b → RunsIn (running (λ τ. checkList τ l) (admitted table) c₀ l n b₀) y e d
+      → (x ≡ y) × (c ≡ e) × (b ≡ d)
+  pub runBytes : (c₀ : Controller) (s : List ℕ) (n : ℕ) (b₀ : List ℕ) (x y : RunAnswer) (b d : List ℕ)
+      → RunsBack (running (λ τ. checkBytes τ s) (admitted table) c₀ (transactionsIn s) n b₀) x b
+      → RunsBack (running (λ τ. checkBytes τ s) (admitted table) c₀ (transactionsIn s) n b₀) y d → (x ≡ y) × (b ≡ d)

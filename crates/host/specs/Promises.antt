@@ -1,0 +1,45 @@
+-- What the calls promise, where it is more than that the answer is a definition's: of the desk's promise, with the answer as plain numbers.
+use Prim.Native.Nat.{ℕ}
+use mathlib.Core.Path.{_≡_}
+use mathlib.Core.List.{List}
+use Rattle.records.specs.declared.table.Table.{Table}
+use Rattle.records.specs.declared.table.TableRead.{TableRead}
+use Rattle.records.specs.declared.transaction.Transaction.{Transaction}
+use Rattle.records.specs.Told.{Wrote}
+use Rattle.judge.specs.declared.answer.PatternJudged.{PatternJudged}
+use Rattle.lists.specs.declared.check.Checked.{Checked}
+use Rattle.lists.specs.Decode.{Decoding}
+use Rattle.builder.specs.declared.build.BuildAnswer.{BuildAnswer}
+use Rattle.controller.specs.declared.controller.Controller.{Controller}
+use Rattle.controller.specs.Run.{RunLeft}
+use Rattle.desk.specs.Judging.{PatternTold}
+use Rattle.desk.specs.Schedules.{Schedules}
+use Rattle.host.specs.declared.answer.Answer.{Answer}
+use Rattle.host.specs.declared.answer.RunAnswer.{RunAnswer}
+use Rattle.host.specs.declared.verdict.VerdictAnswer.{VerdictAnswer}
+use Rattle.host.specs.Answers.{ofWritten, ofRead, ofBuild, ofRun, runOf}
+use Rattle.host.specs.Verdicts.{patternOf}
+
+-- one record written: r is the answer, b what the buffer holds as the call returns
+abbrev pub Writes : Wrote → Answer → List ℕ → Type 0
+Writes w r b = (r ≡ ofWritten (w .answer)) × (b ≡ w .buffer)
+
+-- a pattern judged: r is the numbers of the one verdict that the desk's judge may give
+abbrev pub PatternSaid : TableRead → List ℕ → ℕ → VerdictAnswer → Type 0
+PatternSaid a s L r = (v : PatternJudged) × PatternTold a s L v × (r ≡ patternOf v)
+
+-- transactions read: l is what the run of records holds
+abbrev pub ReadsInto : Decoding → Answer → List Transaction → Type 0
+ReadsInto d r l = (r ≡ ofRead (d .answer)) × (l ≡ d .list)
+
+-- a schedule: b₀ and f₀ are what the two buffers held, b and f what they hold
+abbrev pub Scheduled : (Table → Checked) → TableRead → List Transaction → List ℕ → List ℕ → List ℕ → List ℕ → Answer → Type 0
+Scheduled check a l b₀ b f₀ f r = (v : BuildAnswer) × Schedules check a l b₀ b f₀ f v × (r ≡ ofBuild v)
+
+-- a run where the controller lies: c is the controller and b the room as the call returns
+abbrev pub RunsIn : RunLeft → Answer → Controller → List ℕ → Type 0
+RunsIn w r c b = (r ≡ ofRun (w .told .answer)) × (c ≡ w .told .controller) × (b ≡ w .buffer)
+
+-- the same of a controller handed in and back
+abbrev pub RunsBack : RunLeft → RunAnswer → List ℕ → Type 0
+RunsBack w r b = (r ≡ runOf (w .told)) × (b ≡ w .buffer)

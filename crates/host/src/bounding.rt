@@ -1,0 +1,15 @@
+// By when must a transaction finish?
+use crate::answer::Answer;
+use crate::answer::of_bound;
+use desk::bounding::bound;
+ghost use mathlib.Core.Path.{_≡_};
+ghost use Rattle.desk.specs.Admit.{admitted};
+ghost use Rattle.desk.specs.Bounds.{bounding};
+ghost use Rattle.host.specs.Answers.{ofBound};
+
+#[no_mangle]
+pub extern "C" fn skv_bound(table: &[u8], bi: u8, bc: u8) -> Answer
+    ensures { λ r. ⌜ r ≡ ofBound (bounding (admitted (now (table .entry))) bi bc) ⌝ }
+{
+    of_bound(bound(table, bi, bc))
+}

@@ -1,0 +1,25 @@
+// Is the schedule legal and, if not, which record breaks which rule first? And is a pattern, however often it is repeated?
+use crate::verdict::VerdictAnswer;
+use crate::verdict::pattern_of;
+use crate::verdict::verdict_of;
+use desk::judging::judge;
+use desk::judging::judge_pattern;
+ghost use mathlib.Core.Path.{_≡_};
+ghost use Rattle.desk.specs.Admit.{admitted};
+ghost use Rattle.desk.specs.Judging.{judging};
+ghost use Rattle.host.specs.Verdicts.{verdictOf};
+ghost use Rattle.host.specs.Promises.{PatternSaid};
+
+#[no_mangle]
+pub extern "C" fn skv_judge(table: &[u8], schedule: &[u8]) -> VerdictAnswer
+    ensures { λ r. ⌜ r ≡ verdictOf (judging (admitted (now (table .entry))) (now (schedule .entry))) ⌝ }
+{
+    verdict_of(judge(table, schedule))
+}
+
+#[no_mangle]
+pub extern "C" fn skv_judge_pattern(table: &[u8], pattern: &[u8], length: u32) -> VerdictAnswer
+    ensures { λ r. ⌜ PatternSaid (admitted (now (table .entry))) (now (pattern .entry)) length r ⌝ }
+{
+    pattern_of(judge_pattern(table, pattern, length))
+}

@@ -1,0 +1,89 @@
+// One record read or written: a table, a transaction, a command.
+use crate::answer::Answer;
+use crate::answer::of_written;
+use crate::reader::CommandAnswer;
+use crate::reader::TableAnswer;
+use crate::reader::TransactionAnswer;
+use crate::reader::of_command;
+use crate::reader::of_table;
+use crate::reader::of_transaction;
+use commands::command::read_command;
+use commands::command::write_command;
+use records::table::read_table;
+use records::table::write_table;
+use records::transaction::Transaction;
+use records::transaction::read_transaction;
+use records::transaction::write_transaction;
+ghost use mathlib.Core.Path.{_≡_};
+ghost use Rattle.records.specs.Table.{readTable, writeTable};
+ghost use Rattle.records.specs.Transaction.{transaction, readTransaction, writeTransaction};
+ghost use Rattle.records.specs.Command.{kindOf, command, readCommand, writeCommand};
+ghost use Rattle.host.specs.Answers.{ofTable, ofTransaction, ofCommand};
+ghost use Rattle.host.specs.Promises.{Writes};
+
+// A table's sixteen numbers.
+#[repr(C)]
+pub struct Numbers {
+    pub numbers: [u16; 16],
+}
+
+#[no_mangle]
+pub extern "C" fn skv_read_table(bytes: &[u8]) -> TableAnswer
+    ensures { λ r. ⌜ r ≡ ofTable (readTable (now (bytes .entry))) ⌝ }
+{
+    of_table(read_table(bytes))
+}
+
+#[no_mangle]
+pub extern "C" fn skv_write_table(numbers: Numbers, out: &mut [u8]) -> Answer
+    ensures { λ r. ⌜ Writes (writeTable (numbers .numbers) (now (out .entry))) r (now (out .exit)) ⌝ }
+{
+    let n = numbers.numbers;
+    of_written(write_table(n, out))
+}
+
+#[no_mangle]
+pub extern "C" fn skv_read_transaction(bytes: &[u8]) -> TransactionAnswer
+    ensures { λ r. ⌜ r ≡ ofTransaction (readTransaction (now (bytes .entry))) ⌝ }
+{
+    of_transaction(read_transaction(bytes))
+}
+
+#[no_mangle]
+pub extern "C" fn skv_write_transaction(
+    kind: u8,
+    start: u8,
+    bi: u8,
+    bc: u8,
+    out: &mut [u8],
+) -> Answer
+    ensures { λ r. ⌜ Writes (writeTransaction (transaction kind start bi bc) (now (out .entry))) r (now (out .exit)) ⌝ }
+{
+    let x = Transaction {
+        kind: kind,
+        start: start,
+        bi: bi,
+        bc: bc,
+    };
+    of_written(write_transaction(x, out))
+}
+
+#[no_mangle]
+pub extern "C" fn skv_read_command(bytes: &[u8]) -> CommandAnswer
+    ensures { λ r. ⌜ r ≡ ofCommand (readCommand (now (bytes .entry))) ⌝ }
+{
+    of_command(read_command(bytes))
+}
+
+#[no_mangle]
+pub extern "C" fn skv_write_command(
+    cycle: u32,
+    kind: u8,
+    bank: u8,
+    number: u16,
+    out: &mut [u8],
+) -> Answer
+    ensures { λ r. ⌜ Writes (writeCommand (command cycle (kindOf kind) bank number) (now (out .entry))) r (now (out .exit)) ⌝ }
+{
+    of_written(write_command(cycle, kind, bank, number, out))
+}

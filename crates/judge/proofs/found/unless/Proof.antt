@@ -1,5 +1,0 @@
-use Rattle.judge.proofs.found.unless.Statement.{statement}
-use Rattle.judge.proofs.found.unless.Tie as tie
-
-pub unless-spec : {M : Type 1} → statement M
-unless-spec = tie.close (tie.spec (λ c. rw (c .if1 .taken)) (λ c. rw (c .if1 .left)))

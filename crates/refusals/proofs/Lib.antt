@@ -1,0 +1,4 @@
+pub mod Laws
+pub mod StoredKept
+pub mod Backed
+pub mod SoundKept
