@@ -8,6 +8,7 @@ mod cases;
 pub use cases::cases;
 
 use crate::desk::*;
+use crate::house::split;
 
 const READ_TABLE: u8 = 1;
 const WRITE_TABLE: u8 = 2;
@@ -23,9 +24,12 @@ pub fn lines(input: &[u8]) -> String {
     let mut out = String::new();
     let mut rest = input;
     while !rest.is_empty() {
-        let Some((call, bytes, after)) = first_case(rest) else {
-            out.push_str("case\n");
-            break;
+        let (call, bytes, after) = match first_case(rest) {
+            Some(case) => case,
+            None => {
+                out.push_str("case\n");
+                break;
+            }
         };
         out.push_str(&line(call, bytes).unwrap_or_else(|| "case".to_string()));
         out.push('\n');
@@ -36,8 +40,8 @@ pub fn lines(input: &[u8]) -> String {
 
 /// The first case and what follows it, unless the input is cut short within the case.
 fn first_case(input: &[u8]) -> Option<(u8, &[u8], &[u8])> {
-    let (head, rest) = input.split_at_checked(2)?;
-    let (bytes, after) = rest.split_at_checked(head[1].into())?;
+    let (head, rest) = split(input, 2)?;
+    let (bytes, after) = split(rest, head[1].into())?;
     Some((head[0], bytes, after))
 }
 
@@ -82,7 +86,7 @@ fn line(call: u8, bytes: &[u8]) -> Option<String> {
 }
 
 fn values_and_room(bytes: &[u8], size: usize) -> Option<(&[u8], Vec<u8>)> {
-    let (values, room) = bytes.split_at_checked(size)?;
+    let (values, room) = split(bytes, size)?;
     (room.len() <= ROOM).then(|| (values, room.to_vec()))
 }
 

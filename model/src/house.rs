@@ -55,6 +55,11 @@ pub fn command(cycle: u32, kind: u8, bank: u8, transaction: u16) -> [u8; 8] {
     [c0, c1, c2, c3, kind, bank, t0, t1]
 }
 
+/// The first so many bytes and the others, unless there are fewer.
+pub fn split(bytes: &[u8], n: usize) -> Option<(&[u8], &[u8])> {
+    (n <= bytes.len()).then(|| bytes.split_at(n))
+}
+
 /// 8 bytes for each ACT and each data command.
 pub fn room_for(list: &[[u8; 4]]) -> usize {
     let due = |x: &[u8; 4]| usize::from(x[2]) * (1 + usize::from(x[3]));

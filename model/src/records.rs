@@ -98,8 +98,9 @@ fn check_transaction(size: usize, x: &Transaction) -> Result<(), Refusal> {
 }
 
 pub fn read_transaction(bytes: &[u8]) -> Result<Transaction, Refusal> {
-    let &[kind, start, bi, bc] = bytes else {
-        return refused(3);
+    let [kind, start, bi, bc] = match *bytes {
+        [kind, start, bi, bc] => [kind, start, bi, bc],
+        _ => return refused(3),
     };
     let x = Transaction {
         kind,
@@ -140,11 +141,12 @@ pub struct Command {
 }
 
 pub fn read_command(bytes: &[u8]) -> Result<Command, Refusal> {
-    let &[c0, c1, c2, c3, kind, bank, t0, t1] = bytes else {
+    if bytes.len() != 8 {
         return refused(7);
-    };
-    let cycle = u32::from_le_bytes([c0, c1, c2, c3]);
-    let transaction = u16::from_le_bytes([t0, t1]);
+    }
+    let cycle = u32::from_le_bytes([bytes[0], bytes[1], bytes[2], bytes[3]]);
+    let (kind, bank) = (bytes[4], bytes[5]);
+    let transaction = u16::from_le_bytes([bytes[6], bytes[7]]);
     Ok(Command {
         cycle,
         kind,

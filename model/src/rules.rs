@@ -92,7 +92,7 @@ impl Record {
 /// The last command to the bank tells: auto precharge closes it, every other leaves it open.
 fn is_open(before: &[Record], bank: u8) -> bool {
     let last = before.iter().rfind(|r| r.bank == bank);
-    last.is_some_and(|r| r.kind != RDA && r.kind != WRA)
+    last.map_or(false, |r| r.kind != RDA && r.kind != WRA)
 }
 
 fn last_act(before: &[Record], bank: u8) -> Option<usize> {
@@ -123,19 +123,19 @@ pub fn breaks(rule: u8, table: &Table, before: &[Record], r: &Record) -> bool {
     let own_act = || last_act(before, r.bank).map(|place| before[place].cycle);
     match rule {
         1 => r.kind > WRA || u16::from(r.bank) >= table[BANKS],
-        2 => before.last().is_some_and(|last| r.cycle <= last.cycle),
+        2 => before.last().map_or(false, |last| r.cycle <= last.cycle),
         3 if r.acts() => is_open(before, r.bank),
         3 => r.is_data() && !is_open(before, r.bank),
         4 if r.acts() => {
-            precharge_start(t, before, r.bank).is_some_and(|start| r.cycle < start + t.rp)
+            precharge_start(t, before, r.bank).map_or(false, |start| r.cycle < start + t.rp)
         }
-        5 if r.acts() => own_act().is_some_and(|act| r.cycle < act + t.rc),
+        5 if r.acts() => own_act().map_or(false, |act| r.cycle < act + t.rc),
         6 if r.acts() => before.iter().any(|e| e.acts() && r.cycle < e.cycle + t.rrd),
         7 if r.acts() => {
             let fourth = before.iter().rev().filter(|e| e.acts()).nth(3);
-            fourth.is_some_and(|e| r.cycle < e.cycle + t.faw)
+            fourth.map_or(false, |e| r.cycle < e.cycle + t.faw)
         }
-        8 if r.is_data() => own_act().is_some_and(|act| r.cycle < act + t.rcd),
+        8 if r.is_data() => own_act().map_or(false, |act| r.cycle < act + t.rcd),
         9 if r.is_data() => before
             .iter()
             .any(|e| e.is_data() && r.cycle < e.cycle + t.distance(e.reads(), r.reads())),
@@ -153,7 +153,7 @@ fn leaves_open(table: &Table, records: &[Record]) -> bool {
 }
 
 fn read_schedule(table: &Table, bytes: &[u8]) -> Result<Vec<Record>, Refusal> {
-    if !bytes.len().is_multiple_of(8) || bytes.len() / 8 > MOST_RECORDS {
+    if bytes.len() % 8 != 0 || bytes.len() / 8 > MOST_RECORDS {
         return Err(Refusal {
             number: 7,
             position: 0,

@@ -12,6 +12,7 @@ pub use cases::cases;
 use std::fmt::Write;
 
 use crate::desk::*;
+use crate::house::split;
 use crate::listing::{command_lines, schedule_lines};
 
 const BUILD: u8 = 1;
@@ -40,7 +41,7 @@ struct Bytes<'a>(&'a [u8]);
 
 impl<'a> Bytes<'a> {
     fn take(&mut self, n: usize) -> Option<&'a [u8]> {
-        let (taken, rest) = self.0.split_at_checked(n)?;
+        let (taken, rest) = split(self.0, n)?;
         self.0 = rest;
         Some(taken)
     }

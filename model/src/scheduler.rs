@@ -20,7 +20,7 @@ fn refused<T>(table: &Table, number: u8, position: u32) -> Result<T, Refusal> {
 
 /// Number 3 of bytes: "not a multiple of 4". What the records hold is not looked at yet.
 pub fn decode(table: &Table, bytes: &[u8]) -> Result<Vec<Transaction>, Refusal> {
-    if !bytes.len().is_multiple_of(4) {
+    if bytes.len() % 4 != 0 {
         return refused(table, 3, 0);
     }
     let decoded = bytes.chunks_exact(4).map(|x| Transaction {
@@ -175,7 +175,7 @@ pub fn bound(table: &Table, bi: u8, bc: u8) -> Result<u64, Refusal> {
     ]
     .into_iter()
     .fold(0, u64::max);
-    let d = t.rrd.max(t.faw.div_ceil(4));
+    let d = t.rrd.max((t.faw + 3) / 4);
     let x = t
         .ccd
         .max(t.distance(true, false))

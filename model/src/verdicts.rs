@@ -10,6 +10,7 @@ mod search;
 pub use cases::cases;
 
 use crate::desk::{judge, judge_pattern, PatternVerdict, Refusal, Verdict};
+use crate::house::split;
 
 const JUDGE: u8 = 1;
 const JUDGE_PATTERN: u8 = 2;
@@ -25,9 +26,12 @@ pub fn lines(input: &[u8]) -> String {
     let mut out = String::new();
     let mut rest = input;
     while !rest.is_empty() {
-        let Some((case, after)) = first_case(rest) else {
-            out.push_str("case\n");
-            break;
+        let (case, after) = match first_case(rest) {
+            Some(case) => case,
+            None => {
+                out.push_str("case\n");
+                break;
+            }
         };
         out.push_str(&line(&case));
         out.push('\n');
@@ -39,14 +43,15 @@ pub fn lines(input: &[u8]) -> String {
 /// The first case and what follows it, unless the input is cut short within the case.
 fn first_case(input: &[u8]) -> Option<(Case<'_>, &[u8])> {
     let (call, rest) = input.split_first()?;
-    let (table, rest) = rest.split_at_checked(32)?;
-    let (length, rest) = rest.split_first_chunk()?;
-    let (n, rest) = rest.split_first_chunk()?;
-    let (bytes, after) = rest.split_at_checked(u16::from_le_bytes(*n).into())?;
+    let (table, rest) = split(rest, 32)?;
+    let (length, rest) = split(rest, 4)?;
+    let (n, rest) = split(rest, 2)?;
+    let n = u16::from_le_bytes(n.try_into().ok()?);
+    let (bytes, after) = split(rest, n.into())?;
     let case = Case {
         call: *call,
         table,
-        length: u32::from_le_bytes(*length),
+        length: u32::from_le_bytes(length.try_into().ok()?),
         bytes,
     };
     Some((case, after))

@@ -25,8 +25,8 @@ use Rattle.host.specs.Answers.{ofTable, ofTransaction, ofCommand, ofBoun
 use Rattle.host.specs.Verdicts.{verdictOf}
 use Rattle.host.specs.Promises.{Writes, PatternSaid, ReadsInto, Scheduled, RunsIn, RunsBack}
 
--- x and y are two results that keep the promise; b and d, and c and e, and f and g, are a buffer or a controller as either leaves it. The
--- calls on one record, whose bytes or buffer s are
+-- x and y are two results that keep the promise; b and d, f and g, c and e are a buffer or a controller as either leaves it. First the calls
+-- on one record: s is the bytes read, or what the buffer held
 pub record OnlyRecord (s : List ℕ) : Type 0 where
   pub tableRead : (x y : TableAnswer) → x ≡ ofTable (readTable s) → y ≡ ofTable (readTable s) → x ≡ y
   pub tableWritten : (l : List ℕ) (x y : Answer) (b d : List ℕ) → Writes (writeTable l s) x b → Writes (writeTable l s) y d → (x ≡ y) × (b ≡ d)

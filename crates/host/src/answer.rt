@@ -89,7 +89,7 @@ pub fn of_read(d: Decoded) -> Answer
 }
 
 // A schedule's commands are counted in 32 bits: there are at most 69,632.
-pub fn of_build(b: BuildAnswer) -> Answer
+pub(crate) fn of_build(b: BuildAnswer) -> Answer
     requires { ⌜ countOf b < 4294967296 ⌝ }
     ensures { λ r. ⌜ r ≡ ofBuild b ⌝ }
 {

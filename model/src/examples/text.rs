@@ -61,21 +61,23 @@ impl Example {
         let end = self.bytes().len() - 1;
         let mut out = format!("Bytes 32 to {end}, the transactions, 4 bytes each: {count}.\n\n");
         let mut first = 0;
-        for alike in self.list.chunk_by(|x, y| x == y) {
-            let last = first + alike.len() - 1;
+        while first < count {
+            let rest = &self.list[first..];
+            let alike = rest.iter().take_while(|x| **x == rest[0]).count();
+            let last = first + alike - 1;
             let which = if first == last {
                 format!("transaction {first}")
             } else {
                 format!("transactions {first} to {last}, each")
             };
-            let [kind, start, bi, bc] = alike[0];
+            let [kind, start, bi, bc] = rest[0];
             let word = if kind == 0 { "read" } else { "write" };
             writeln!(
                 out,
                 "    {which}: type {kind} ({word}), start bank {start}, BI {bi}, BC {bc}"
             )
             .expect("a string takes it");
-            first += alike.len();
+            first += alike;
         }
         out
     }

@@ -66,8 +66,9 @@ pub fn too_early(numbers: &mut Numbers) -> Vec<(Table, usize, Vec<Record>)> {
     let mut seen = BTreeSet::new();
     for table in house.iter().chain(&long_rc).chain(&ODD[1..]) {
         for count in (2..=6).chain([6, 8, 10].repeat(12)) {
-            let Some(legal) = any_legal(table, count, numbers) else {
-                continue;
+            let legal = match any_legal(table, count, numbers) {
+                Some(legal) => legal,
+                None => continue,
             };
             for place in 1..count {
                 let mut records = legal.clone();
@@ -90,8 +91,9 @@ pub fn broken_sets(numbers: &mut Numbers) -> Vec<(Table, Vec<Record>)> {
     for _ in 0..6000 {
         let table = any_table(numbers);
         let count = 2 + numbers.below(7);
-        let Some(mut records) = any_legal(&table, count, numbers) else {
-            continue;
+        let mut records = match any_legal(&table, count, numbers) {
+            Some(records) => records,
+            None => continue,
         };
         records.truncate(1 + numbers.below(count));
         let end = records[records.len() - 1].cycle + 6;
@@ -118,8 +120,9 @@ pub fn patterns(numbers: &mut Numbers) -> Vec<(Table, Vec<Record>, u32)> {
     for round in 0..9600 {
         let table = any_table(numbers);
         let count = 1 + round % 12;
-        let Some(mut records) = any_legal(&table, count.max(2), numbers) else {
-            continue;
+        let mut records = match any_legal(&table, count.max(2), numbers) {
+            Some(records) => records,
+            None => continue,
         };
         let verdict = |records: &[Record], length: u32| {
             judge_pattern(&table, &bytes_of_records(records), length)

@@ -1,0 +1,233 @@
+//! A case put through the archive, in memory that shows what was touched.
+
+use skvorzhan::raw::*;
+use std::mem::size_of;
+
+use crate::case::{fresh, Call, Case, State, BANKS, LAST};
+use crate::expected::Outcome;
+use crate::numbers::Noise;
+
+use crate::lent::Region;
+
+pub const LONGEST_TABLE: usize = 400;
+/// One record more than a schedule may have, and some bytes.
+pub const LONGEST_BYTES: usize = 8 * 69_633 + 64;
+pub const MOST_ROOM: usize = LONGEST_BYTES;
+pub const MOST_SLOTS: usize = 400;
+
+/// What is lent for each purpose.
+pub struct Archive {
+    table: Region,
+    bytes: Region,
+    room: Region,
+    slots: Region,
+    state: Region,
+    pub noise: Noise,
+}
+
+/// Where a controller's numbers stand in its bytes, with their sizes; between them is padding, which belongs to nobody.
+fn fields() -> Vec<(usize, usize)> {
+    let mut fields = vec![(0, 2), (4, 4), (8, 4), (12, 4)];
+    for bank in 0..16 {
+        let at = 16 + 16 * bank;
+        fields.extend([(at, 1), (at + 4, 4), (at + 8, 4), (at + 12, 4)]);
+    }
+    fields.extend((0..6).map(|i| (272 + 4 * i, 4)));
+    fields
+}
+
+fn state_now(bytes: &[u8]) -> State {
+    let mut s = fresh(0);
+    for (number, (at, size)) in s.iter_mut().zip(fields()) {
+        let mut word = [0; 4];
+        word[..size].copy_from_slice(&bytes[at..at + size]);
+        *number = u32::from_le_bytes(word);
+    }
+    s
+}
+
+fn controller(s: &State) -> Controller {
+    let mut banks = [HostBank {
+        opened: 0,
+        act: 0,
+        rd: 0,
+        wr: 0,
+    }; 16];
+    for (bank, n) in banks.iter_mut().zip(s[BANKS..LAST].chunks_exact(4)) {
+        *bank = HostBank {
+            opened: n[0] as u8,
+            act: n[1],
+            rd: n[2],
+            wr: n[3],
+        };
+    }
+    Controller {
+        edition: s[0] as u16,
+        cycle: s[1],
+        acts: s[2],
+        datas: s[3],
+        banks,
+        last: [s[68], s[69], s[70], s[71]],
+        rd: s[72],
+        wr: s[73],
+    }
+}
+
+fn state(c: &Controller) -> State {
+    let mut s = fresh(0);
+    s[..BANKS].copy_from_slice(&[c.edition.into(), c.cycle, c.acts, c.datas]);
+    for (n, bank) in s[BANKS..LAST].chunks_exact_mut(4).zip(&c.banks) {
+        n.copy_from_slice(&[bank.opened.into(), bank.act, bank.rd, bank.wr]);
+    }
+    s[LAST..LAST + 4].copy_from_slice(&c.last);
+    s[LAST + 4] = c.rd;
+    s[LAST + 5] = c.wr;
+    s
+}
+
+fn numbers(a: Answer) -> Vec<u32> {
+    vec![a.refused, a.position, a.edition, a.count, a.cycles]
+}
+
+fn verdict(a: VerdictAnswer) -> Vec<u32> {
+    vec![a.refused, a.position, a.edition, a.rule, a.copy, a.record]
+}
+
+impl Archive {
+    pub fn new() -> Archive {
+        assert_eq!(size_of::<Controller>(), 296);
+        Archive {
+            table: Region::new(LONGEST_TABLE),
+            bytes: Region::new(LONGEST_BYTES),
+            room: Region::new(MOST_ROOM),
+            slots: Region::new(4 * MOST_SLOTS),
+            state: Region::new(size_of::<Controller>()),
+            noise: Noise::new(MOST_ROOM),
+        }
+    }
+
+    /// The outcome, or what was touched that may not be.
+    pub fn call(&mut self, case: &Case) -> Result<Outcome, String> {
+        let (f, lies, noise) = (case.filling, case.lies, &self.noise);
+        let whole = self.handed_over(case);
+        let list = self.bytes.hold(&whole, lies, noise, f);
+        let t = self.table.hold(&case.table, lies, noise, f);
+        let room = self.room.fill(case.room, lies, noise, f);
+        let slots = self.slots.fill(4 * case.slots, lies, noise, f);
+        let c = self.state.fill(size_of::<Controller>(), lies, noise, f) as *mut Controller;
+        let before = controller(&case.state);
+        if case.call.runs() {
+            // Field by field, so that the padding stays noise.
+            unsafe {
+                (*c).edition = before.edition;
+                (*c).cycle = before.cycle;
+                (*c).acts = before.acts;
+                (*c).datas = before.datas;
+                for (bank, from) in (*c).banks.iter_mut().zip(&before.banks) {
+                    bank.opened = from.opened;
+                    bank.act = from.act;
+                    bank.rd = from.rd;
+                    bank.wr = from.wr;
+                }
+                (*c).last = before.last;
+                (*c).rd = before.rd;
+                (*c).wr = before.wr;
+            }
+        }
+        let (tn, bn, rn, sn) = (case.table.len(), whole.len(), case.room, case.slots);
+        let xs = list as *const Transaction;
+        let finishes = slots as *mut u32;
+        let [v0, v1, v2, v3] = case.values;
+        let mut handed_back = None;
+        let mut keep = |a: ControllerAnswer| {
+            handed_back = Some(state(&a.controller));
+            numbers(a.answer)
+        };
+        let answer = unsafe {
+            match case.call {
+                Call::ReadTable => {
+                    let a = skv_read_table(t, tn);
+                    let head = [a.refused, a.position, a.edition];
+                    let numbers = a.numbers.map(u32::from);
+                    head.iter().chain(&numbers).copied().collect()
+                }
+                Call::WriteTable => {
+                    let numbers_ = Numbers {
+                        numbers: case.numbers(),
+                    };
+                    numbers(skv_write_table(numbers_, room, rn))
+                }
+                Call::ReadTransaction => {
+                    let a = skv_read_transaction(list, bn);
+                    let x = [a.kind, a.start, a.bi, a.bc].map(u32::from);
+                    vec![a.refused, a.position, a.edition, x[0], x[1], x[2], x[3]]
+                }
+                Call::WriteTransaction => numbers(skv_write_transaction(
+                    v0 as u8, v1 as u8, v2 as u8, v3 as u8, room, rn,
+                )),
+                Call::ReadCommand => {
+                    let a = skv_read_command(list, bn);
+                    let (kind, bank) = (a.kind.into(), a.bank.into());
+                    let head = vec![a.refused, a.position, a.edition];
+                    [head, vec![a.cycle, kind, bank, a.number.into()]].concat()
+                }
+                Call::WriteCommand => numbers(skv_write_command(
+                    v0, v1 as u8, v2 as u8, v3 as u16, room, rn,
+                )),
+                Call::ReadTransactions => numbers(skv_read_transactions(
+                    t,
+                    tn,
+                    list,
+                    bn,
+                    slots as *mut Transaction,
+                    sn,
+                )),
+                Call::Schedule => numbers(skv_schedule(t, tn, xs, bn / 4, room, rn, finishes, sn)),
+                Call::ScheduleBytes => {
+                    numbers(skv_schedule_bytes(t, tn, list, bn, room, rn, finishes, sn))
+                }
+                Call::Judge => verdict(skv_judge(t, tn, list, bn)),
+                Call::JudgePattern => verdict(skv_judge_pattern(t, tn, list, bn, v0)),
+                Call::Bound => numbers(skv_bound(t, tn, v0 as u8, v1 as u8)),
+                Call::Start => keep(skv_start(t, tn)),
+                Call::Run => numbers(skv_run(c, t, tn, xs, bn / 4, v0, room, rn)),
+                Call::Step => numbers(skv_step(c, t, tn, xs, bn / 4, room, rn)),
+                Call::RunBytes => keep(skv_run_bytes(before, t, tn, list, bn, v0, room, rn)),
+            }
+        };
+        self.untouched(case, &whole)?;
+        let lent_state = matches!(case.call, Call::Run | Call::Step);
+        Ok(Outcome {
+            answer,
+            room: self.room.now().to_vec(),
+            slots: self.slots.now().to_vec(),
+            state: handed_back.or_else(|| lent_state.then(|| state_now(self.state.now()))),
+        })
+    }
+
+    /// Decoded transactions are handed over whole.
+    fn handed_over(&self, case: &Case) -> Vec<u8> {
+        match case.call {
+            Call::Schedule | Call::Run | Call::Step => case.records().concat(),
+            _ => case.bytes.clone(),
+        }
+    }
+
+    fn untouched(&self, case: &Case, whole: &[u8]) -> Result<(), String> {
+        for (name, region) in [
+            ("the table", &self.table),
+            ("the bytes", &self.bytes),
+            ("the room", &self.room),
+            ("the slots", &self.slots),
+            ("the controller", &self.state),
+        ] {
+            if !region.beside_is_kept(&self.noise) {
+                return Err(format!("bytes beside {name} were changed"));
+            }
+        }
+        if self.table.now() != &case.table[..] || self.bytes.now() != whole {
+            return Err("bytes that were lent for reading were changed".to_string());
+        }
+        Ok(())
+    }
+}

@@ -1,0 +1,230 @@
+//! One call with all that it is given, as plain numbers and bytes, and its text, from which it can be run again.
+
+use std::fmt::{self, Write};
+use std::str::FromStr;
+
+#[derive(Debug, Clone, Copy, PartialEq, Eq)]
+pub enum Call {
+    ReadTable,
+    WriteTable,
+    ReadTransaction,
+    WriteTransaction,
+    ReadCommand,
+    WriteCommand,
+    ReadTransactions,
+    Schedule,
+    ScheduleBytes,
+    Judge,
+    JudgePattern,
+    Bound,
+    Start,
+    Run,
+    Step,
+    RunBytes,
+}
+
+use Call::*;
+
+/// In the order of the header.
+pub const CALLS: [(Call, &str); 16] = [
+    (ReadTable, "skv_read_table"),
+    (WriteTable, "skv_write_table"),
+    (ReadTransaction, "skv_read_transaction"),
+    (WriteTransaction, "skv_write_transaction"),
+    (ReadCommand, "skv_read_command"),
+    (WriteCommand, "skv_write_command"),
+    (ReadTransactions, "skv_read_transactions"),
+    (Schedule, "skv_schedule"),
+    (ScheduleBytes, "skv_schedule_bytes"),
+    (Judge, "skv_judge"),
+    (JudgePattern, "skv_judge_pattern"),
+    (Bound, "skv_bound"),
+    (Start, "skv_start"),
+    (Run, "skv_run"),
+    (Step, "skv_step"),
+    (RunBytes, "skv_run_bytes"),
+];
+
+impl Call {
+    pub fn name(self) -> &'static str {
+        CALLS[self as usize].1
+    }
+
+    pub fn runs(self) -> bool {
+        matches!(self, Run | Step | RunBytes)
+    }
+
+    /// The size of what `bytes` holds.
+    pub fn record(self) -> usize {
+        match self {
+            Judge | JudgePattern => 8,
+            ReadTransaction | ReadCommand => 1,
+            _ => 4,
+        }
+    }
+}
+
+/// A controller's numbers: edition, cycle, acts, datas; opened, act, rd, wr of each bank; the last four ACTs; rd, wr.
+pub type State = [u32; 74];
+pub const EDITION: usize = 0;
+pub const CYCLE: usize = 1;
+pub const ACTS: usize = 2;
+pub const DATAS: usize = 3;
+pub const BANKS: usize = 4;
+pub const LAST: usize = 68;
+
+/// Closed, and "never" throughout.
+pub fn fresh(edition: u32) -> State {
+    let mut s = [u32::MAX; 74];
+    s[EDITION] = edition;
+    s[CYCLE..BANKS].fill(0);
+    for opened in s[BANKS..LAST].iter_mut().step_by(4) {
+        *opened = 0;
+    }
+    s
+}
+
+#[derive(Debug, Clone, PartialEq, Eq)]
+pub struct Case {
+    pub call: Call,
+    /// The table's bytes; for `skv_write_table` the sixteen numbers.
+    pub table: Vec<u8>,
+    /// The list, the schedule, the pattern, or the one record to be read.
+    pub bytes: Vec<u8>,
+    /// What is passed as plain numbers, in the order of the parameters.
+    pub values: [u32; 4],
+    /// The size of the lent bytes.
+    pub room: usize,
+    /// The number of lent finishing cycles, or of places to decode into.
+    pub slots: usize,
+    pub state: State,
+    /// Where the noise starts that the lent buffers are filled with.
+    pub filling: u16,
+    /// Where the buffers lie: 0 at the end of their pages, 1 at the start, 2 within.
+    pub lies: u8,
+}
+
+impl Case {
+    pub fn new(call: Call) -> Case {
+        Case {
+            call,
+            table: Vec::new(),
+            bytes: Vec::new(),
+            values: [0; 4],
+            room: 0,
+            slots: 0,
+            state: fresh(7),
+            filling: 0,
+            lies: 0,
+        }
+    }
+
+    /// The list of a call that takes decoded transactions: whole records only.
+    pub fn records(&self) -> Vec<[u8; 4]> {
+        let record = |x: &[u8]| [x[0], x[1], x[2], x[3]];
+        self.bytes.chunks_exact(4).map(record).collect()
+    }
+
+    /// The records of the bytes, for a reader: commands as cycle, kind, bank and number.
+    pub fn shown(&self) -> Vec<Vec<u32>> {
+        let record = |x: &[u8]| match *x {
+            [a, b, c, d, kind, bank, e, f] => {
+                let cycle = u32::from_le_bytes([a, b, c, d]);
+                let number = u16::from_le_bytes([e, f]);
+                vec![cycle, kind.into(), bank.into(), number.into()]
+            }
+            _ => x.iter().map(|&b| b.into()).collect(),
+        };
+        self.bytes.chunks(self.call.record()).map(record).collect()
+    }
+
+    /// The sixteen numbers of `skv_write_table`.
+    pub fn numbers(&self) -> [u16; 16] {
+        let mut numbers = [0; 16];
+        for (number, pair) in numbers.iter_mut().zip(self.table.chunks_exact(2)) {
+            *number = u16::from_le_bytes([pair[0], pair[1]]);
+        }
+        numbers
+    }
+
+    /// The cycles asked for of a call that runs.
+    pub fn count(&self) -> u32 {
+        if self.call == Step {
+            1
+        } else {
+            self.values[0]
+        }
+    }
+}
+
+fn hex(bytes: &[u8]) -> String {
+    let mut out = String::new();
+    for b in bytes {
+        write!(out, "{b:02x}").expect("a string takes it");
+    }
+    out
+}
+
+fn unhex(text: &str) -> Result<Vec<u8>, String> {
+    let digits = text.as_bytes();
+    let pair = |p: &[u8]| {
+        let text = std::str::from_utf8(p).map_err(|e| e.to_string())?;
+        u8::from_str_radix(text, 16).map_err(|e| e.to_string())
+    };
+    digits.chunks(2).map(pair).collect()
+}
+
+/// `NAME key=value ..`; bytes are hex, and of the state only what is not as in a fresh one of edition 7 is named, as place:number.
+impl fmt::Display for Case {
+    fn fmt(&self, f: &mut fmt::Formatter) -> fmt::Result {
+        let [a, b, c, d] = self.values;
+        write!(f, "{}", self.call.name())?;
+        write!(f, " table={} bytes={}", hex(&self.table), hex(&self.bytes))?;
+        write!(f, " values={a},{b},{c},{d}")?;
+        write!(f, " room={} slots={}", self.room, self.slots)?;
+        let base = fresh(7);
+        let changed = (0..74).filter(|&i| self.state[i] != base[i]);
+        let changed: Vec<String> = changed.map(|i| format!("{i}:{}", self.state[i])).collect();
+        write!(f, " state={}", changed.join(","))?;
+        write!(f, " filling={} lies={}", self.filling, self.lies)
+    }
+}
+
+impl FromStr for Case {
+    type Err = String;
+
+    fn from_str(text: &str) -> Result<Case, String> {
+        let mut words = text.split_whitespace();
+        let name = words.next().unwrap_or("");
+        let call = CALLS.iter().find(|(_, n)| *n == name);
+        let call = call.ok_or_else(|| format!("no call is named `{name}`"))?.0;
+        let mut case = Case::new(call);
+        for word in words {
+            let (key, value) = word.split_once('=').ok_or(format!("no value: `{word}`"))?;
+            let number = || value.parse::<usize>().map_err(|e| format!("{word}: {e}"));
+            match key {
+                "table" => case.table = unhex(value)?,
+                "bytes" => case.bytes = unhex(value)?,
+                "values" => {
+                    for (place, v) in case.values.iter_mut().zip(value.split(',')) {
+                        *place = v.parse().map_err(|e| format!("{word}: {e}"))?;
+                    }
+                }
+                "room" => case.room = number()?,
+                "slots" => case.slots = number()?,
+                "state" => {
+                    for pair in value.split(',').filter(|p| !p.is_empty()) {
+                        let (i, v) = pair.split_once(':').ok_or(format!("no number: `{pair}`"))?;
+                        let i: usize = i.parse().map_err(|e| format!("{pair}: {e}"))?;
+                        let place = case.state.get_mut(i).ok_or(format!("no place {i}"))?;
+                        *place = v.parse().map_err(|e| format!("{pair}: {e}"))?;
+                    }
+                }
+                "filling" => case.filling = number()? as u16,
+                "lies" => case.lies = number()? as u8,
+                _ => return Err(format!("no key `{key}`")),
+            }
+        }
+        Ok(case)
+    }
+}

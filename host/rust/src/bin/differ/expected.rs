@@ -1,0 +1,202 @@
+//! What the model says of a case: every number of the answer, and what each buffer must then hold.
+
+use model::desk::{self, Bank, Controller, PatternVerdict, Refusal, Transaction, Verdict};
+
+use crate::case::*;
+use crate::numbers::Noise;
+
+/// Buffers as bytes; those that the call isn't lent are empty.
+#[derive(Debug, Clone, PartialEq, Eq)]
+pub struct Outcome {
+    /// In the order of the answer's fields.
+    pub answer: Vec<u32>,
+    pub room: Vec<u8>,
+    pub slots: Vec<u8>,
+    pub state: Option<State>,
+}
+
+/// Up to so many commands are built by the model's own way, which tries each against all before it; more by its controller, since the time
+/// of the first grows with the square.
+const COMMANDS_BY_HISTORY: usize = 100;
+
+pub fn transactions(list: &[[u8; 4]]) -> Vec<Transaction> {
+    let one = |&[kind, start, bi, bc]: &[u8; 4]| Transaction {
+        kind,
+        start,
+        bi,
+        bc,
+    };
+    list.iter().map(one).collect()
+}
+
+pub fn controller(s: &State) -> Controller {
+    let mut c = Controller::fresh(&[0; 16]);
+    c.edition = s[EDITION] as u16;
+    c.cycle = s[CYCLE];
+    c.acts = s[ACTS];
+    c.datas = s[DATAS];
+    for (bank, n) in c.banks.iter_mut().zip(s[BANKS..LAST].chunks_exact(4)) {
+        *bank = Bank {
+            opened: n[0] as u8,
+            act: n[1],
+            rd: n[2],
+            wr: n[3],
+        };
+    }
+    c.last.copy_from_slice(&s[LAST..LAST + 4]);
+    c.rd = s[LAST + 4];
+    c.wr = s[LAST + 5];
+    c
+}
+
+pub fn state(c: &Controller) -> State {
+    let mut s = [0; 74];
+    s[..BANKS].copy_from_slice(&[c.edition.into(), c.cycle, c.acts, c.datas]);
+    for (n, bank) in s[BANKS..LAST].chunks_exact_mut(4).zip(&c.banks) {
+        n.copy_from_slice(&[bank.opened.into(), bank.act, bank.rd, bank.wr]);
+    }
+    s[LAST..LAST + 4].copy_from_slice(&c.last);
+    s[LAST + 4] = c.rd;
+    s[LAST + 5] = c.wr;
+    s
+}
+
+/// The answer of so many numbers beside the refusal and the edition: the edition with the numbers, or the refusal with 0 for each.
+fn answer<const N: usize>(told: Result<(u16, [u32; N]), Refusal>) -> Vec<u32> {
+    let (head, rest) = match told {
+        Ok((edition, numbers)) => ([0, 0, edition.into()], numbers),
+        Err(r) => ([r.number.into(), r.position, r.edition.into()], [0; N]),
+    };
+    head.iter().chain(&rest).copied().collect()
+}
+
+/// The refusal's number.
+pub fn refused(answer: &[u32]) -> usize {
+    answer[0] as usize
+}
+
+pub fn expected(case: &Case, noise: &Noise) -> Outcome {
+    let (table, bytes) = (&case.table[..], &case.bytes[..]);
+    let [a, b, c, d] = case.values;
+    let mut room = noise.lent(case.filling, case.room).to_vec();
+    let slots = noise.lent(case.filling, 4 * case.slots);
+    let mut finishes: Vec<u32> = words(slots);
+    let mut places = transactions(&records(slots));
+    let mut run = controller(&case.state);
+    let mut fresh = None;
+    let list = || transactions(&case.records());
+    let whole = |edition| (edition, [0, 0]);
+    let built = |s: desk::Scheduled| (s.edition, [s.commands, 0]);
+    let ran = |r: desk::Ran| (r.edition, [r.commands, r.cycles]);
+    let answer = match case.call {
+        Call::ReadTable => answer(desk::read_table(table).map(|t| (t[0], t.map(u32::from)))),
+        Call::WriteTable => answer(desk::write_table(case.numbers(), &mut room).map(whole)),
+        Call::ReadTransaction => answer(
+            desk::read_transaction(bytes)
+                .map(|x| (0, [x.kind.into(), x.start.into(), x.bi.into(), x.bc.into()])),
+        ),
+        Call::WriteTransaction => answer(
+            desk::write_transaction(a as u8, b as u8, c as u8, d as u8, &mut room).map(whole),
+        ),
+        Call::ReadCommand => answer(desk::read_command(bytes).map(|c| {
+            let (kind, bank) = (c.kind.into(), c.bank.into());
+            (0, [c.cycle, kind, bank, c.transaction.into()])
+        })),
+        Call::WriteCommand => {
+            answer(desk::write_command(a, b as u8, c as u8, d as u16, &mut room).map(whole))
+        }
+        Call::ReadTransactions => {
+            let told = desk::read_transactions(table, bytes, &mut places);
+            answer(told.map(|d| (d.edition, [d.transactions, 0])))
+        }
+        Call::Schedule => answer(schedule(table, &list(), &mut room, &mut finishes).map(built)),
+        Call::ScheduleBytes if bytes.len() % 4 == 0 => {
+            answer(schedule(table, &list(), &mut room, &mut finishes).map(built))
+        }
+        Call::ScheduleBytes => {
+            answer(desk::schedule_bytes(table, bytes, &mut room, &mut finishes).map(built))
+        }
+        Call::Judge => answer(
+            desk::judge(table, bytes).map(|(edition, verdict)| match verdict {
+                Verdict::Accepted => (edition, [0; 3]),
+                Verdict::Broken { rule, record } => (edition, [rule.into(), 0, record as u32]),
+            }),
+        ),
+        Call::JudgePattern => answer(desk::judge_pattern(table, bytes, a).map(
+            |(edition, verdict)| match verdict {
+                PatternVerdict::Accepted => (edition, [0; 3]),
+                PatternVerdict::Broken { rule, copy, record } => {
+                    (edition, [rule.into(), copy as u32, record as u32])
+                }
+            },
+        )),
+        Call::Bound => {
+            let told = desk::bound(table, a as u8, b as u8);
+            answer(told.map(|(edition, bound)| (edition, [bound as u32, 0])))
+        }
+        Call::Start => {
+            let (told, c) = desk::start(table);
+            fresh = Some(c);
+            answer(told.map(whole))
+        }
+        Call::Run | Call::Step => {
+            answer(desk::run(&mut run, table, &list(), case.count(), &mut room).map(ran))
+        }
+        Call::RunBytes => answer(desk::run_bytes(&mut run, table, bytes, a, &mut room).map(ran)),
+    };
+    Outcome {
+        answer,
+        room,
+        slots: match case.call {
+            Call::ReadTransactions => places
+                .iter()
+                .flat_map(|x| [x.kind, x.start, x.bi, x.bc])
+                .collect(),
+            _ => finishes.iter().flat_map(|n| n.to_le_bytes()).collect(),
+        },
+        state: match fresh {
+            Some(c) => Some(state(&c)),
+            None if case.call.runs() => Some(state(&run)),
+            None => None,
+        },
+    }
+}
+
+fn words(bytes: &[u8]) -> Vec<u32> {
+    let word = |x: &[u8]| u32::from_le_bytes([x[0], x[1], x[2], x[3]]);
+    bytes.chunks_exact(4).map(word).collect()
+}
+
+fn records(bytes: &[u8]) -> Vec<[u8; 4]> {
+    bytes
+        .chunks_exact(4)
+        .map(|x| [x[0], x[1], x[2], x[3]])
+        .collect()
+}
+
+fn schedule(
+    table: &[u8],
+    list: &[Transaction],
+    room: &mut [u8],
+    finishes: &mut [u32],
+) -> Result<desk::Scheduled, Refusal> {
+    let due = |x: &Transaction| usize::from(x.bi) * (1 + usize::from(x.bc));
+    let due: usize = list.iter().map(due).sum();
+    let refused = room.len() < 8 * due || finishes.len() < list.len();
+    if due > COMMANDS_BY_HISTORY && !refused {
+        let (_, mut fresh) = desk::start(table);
+        if let Ok(told) = desk::run(&mut fresh, table, list, u32::MAX, room) {
+            for record in room.chunks_exact(8).take(told.commands as usize) {
+                let c = desk::read_command(record)?;
+                if c.kind != 0 {
+                    finishes[usize::from(c.transaction)] = c.cycle;
+                }
+            }
+            return Ok(desk::Scheduled {
+                edition: told.edition,
+                commands: told.commands,
+            });
+        }
+    }
+    desk::schedule(table, list, room, finishes)
+}

@@ -1,0 +1,176 @@
+//! Cases: random and hostile, for every call.
+
+mod lists;
+mod schedules;
+mod states;
+mod tables;
+mod walk;
+
+use model::house::TABLE_A;
+
+use crate::case::*;
+use crate::numbers::Random;
+pub use states::too_long;
+
+/// How often each call is made, in the order of the header.
+const SHARES: [usize; 16] = [3, 3, 2, 2, 1, 2, 6, 12, 8, 14, 10, 3, 1, 14, 6, 8];
+
+/// Case `index` of a seed.
+pub fn case(seed: u64, index: u64) -> Case {
+    let r = &mut Random::of(seed, index);
+    let mut share = r.below(SHARES.iter().sum());
+    let mut at = 0;
+    while share >= SHARES[at] {
+        share -= SHARES[at];
+        at += 1;
+    }
+    let mut case = Case::new(CALLS[at].0);
+    case.filling = r.u32() as u16;
+    case.lies = r.below(3) as u8;
+    match case.call {
+        Call::ReadTable => case.table = tables::hostile(r),
+        Call::WriteTable => {
+            case.table = tables::numbers(r);
+            case.room = size(r, 32);
+        }
+        Call::ReadTransaction => case.bytes = record(r, 4),
+        Call::WriteTransaction => {
+            let x = lists::one(r, 16);
+            case.values = x.map(u32::from);
+            case.room = size(r, 4);
+        }
+        Call::ReadCommand => case.bytes = record(r, 8),
+        Call::WriteCommand => {
+            case.values = [r.edge(), r.u8().into(), r.u8().into(), r.u32() & 0xffff];
+            case.room = room(r, 8);
+        }
+        Call::ReadTransactions => {
+            let table = tables::some(r, &mut case);
+            case.bytes = lists::some(r, table[1] as u8);
+            case.slots = slots(r, case.bytes.len() / 4);
+        }
+        Call::Schedule | Call::ScheduleBytes => {
+            let table = tables::some(r, &mut case);
+            case.bytes = lists::some(r, table[1] as u8);
+            case.room = room(r, 8 * lists::due(&case.records()));
+            case.slots = slots(r, case.bytes.len() / 4);
+        }
+        Call::Judge => {
+            let table = tables::for_judges(r, &mut case);
+            case.bytes = schedules::some(r, &table);
+        }
+        Call::JudgePattern => {
+            let table = tables::for_judges(r, &mut case);
+            schedules::pattern(r, &table, &mut case);
+        }
+        Call::Bound => {
+            tables::some(r, &mut case);
+            let number = |r: &mut Random| match r.below(8) {
+                0 => r.u8().into(),
+                1 => r.of_these(&[0, 16, 17, 255]),
+                _ => r.range(1, 16),
+            };
+            case.values = [number(r), number(r), 0, 0];
+        }
+        Call::Start => {
+            tables::some(r, &mut case);
+        }
+        Call::Run | Call::Step | Call::RunBytes => {
+            let table = tables::some(r, &mut case);
+            case.bytes = lists::some(r, table[1] as u8);
+            states::run(r, &table, &mut case);
+        }
+    }
+    case
+}
+
+/// A record's bytes of about that size.
+fn record(r: &mut Random, right: usize) -> Vec<u8> {
+    let size = if r.one_in(4) { r.below(12) } else { right };
+    if right == 4 && size == 4 {
+        return lists::one(r, 16).to_vec();
+    }
+    (0..size).map(|_| r.u8()).collect()
+}
+
+/// The size of a buffer that must have just that size.
+fn size(r: &mut Random, right: usize) -> usize {
+    match r.below(6) {
+        0 => right - 1,
+        1 => right + 1,
+        2 => r.below(3 * right),
+        _ => right,
+    }
+}
+
+/// Room for so many bytes: just enough, one short, a record short, or more.
+fn room(r: &mut Random, due: usize) -> usize {
+    let due = due.min(8 * 69_632);
+    match r.below(10) {
+        0 => due.saturating_sub(1),
+        1 => due.saturating_sub(8),
+        2 => r.below(due + 1),
+        3 => due + 1,
+        4 => due + 7 + r.below(30),
+        5 if r.one_in(4) => 0,
+        _ => due,
+    }
+}
+
+fn slots(r: &mut Random, due: usize) -> usize {
+    let due = due.min(380);
+    match r.below(10) {
+        0 => due.saturating_sub(1),
+        1 => due + 1 + r.below(5),
+        2 if r.one_in(4) => 0,
+        _ => due,
+    }
+}
+
+/// Cases that random ones seldom meet: the greatest sizes, and a run that idles from the first cycle to the last.
+pub fn greatest() -> Vec<Case> {
+    let table = |t: &model::desk::Table| model::house::bytes_of(t);
+    let mut cases = Vec::new();
+    let mut sixteen = TABLE_A;
+    sixteen[1] = 16;
+    for (call, n, more) in [
+        (Call::Schedule, 256, 0),
+        (Call::ScheduleBytes, 256, 0),
+        (Call::Schedule, 256, 1),
+        (Call::Schedule, 257, 0),
+        (Call::ScheduleBytes, 257, 0),
+        (Call::Run, 256, 0),
+        (Call::RunBytes, 257, 0),
+    ] {
+        let mut case = Case::new(call);
+        case.table = table(&sixteen);
+        case.bytes = (0..n)
+            .flat_map(|i| [(i % 3 == 1) as u8, 0, 16, 16])
+            .collect();
+        case.values[0] = u32::MAX;
+        case.room = 8 * 69_632 - more;
+        case.slots = n;
+        cases.push(case);
+    }
+    for records in [69_632, 69_633] {
+        for (call, length) in [
+            (Call::Judge, 0),
+            (Call::JudgePattern, 0),
+            (Call::JudgePattern, 9),
+        ] {
+            let mut case = Case::new(call);
+            case.table = table(&TABLE_A);
+            case.bytes = vec![0; 8 * records];
+            case.values[0] = length;
+            cases.push(case);
+        }
+    }
+    let mut idles = Case::new(Call::Run);
+    idles.table = table(&TABLE_A);
+    idles.bytes = vec![0, 0, 1, 1];
+    idles.values[0] = u32::MAX;
+    idles.room = 16;
+    idles.state[BANKS] = 1;
+    cases.push(idles);
+    cases
+}

@@ -1,0 +1,127 @@
+//! Tables: legal ones of every shape, and damaged ones.
+
+use model::desk::Table;
+use model::house::*;
+
+use crate::case::Case;
+use crate::numbers::Random;
+
+/// A table that is accepted.
+pub fn legal(r: &mut Random) -> Table {
+    let mut t = match r.below(8) {
+        0 => r.of_these(&[TABLE_A, TABLE_B, TABLE_C]),
+        1 => r.of_these(&[LEAST, GREATEST]),
+        2 => r.of_these(&ODD),
+        3 => near(r),
+        4 => drawn(r, 255),
+        5 => drawn(r, 60),
+        _ => drawn(r, 12),
+    };
+    if r.one_in(3) {
+        t[0] = 1 + r.below(65_535) as u16;
+    }
+    if r.one_in(6) {
+        t[1] = 1 + r.below(16) as u16;
+    }
+    t
+}
+
+/// Table A with a number or two moved a little.
+fn near(r: &mut Random) -> Table {
+    let mut t = TABLE_A;
+    for _ in 0..=r.below(2) {
+        let i = 4 + r.below(11);
+        t[i] = (t[i] + r.below(5) as u16).saturating_sub(2).max(1);
+    }
+    t
+}
+
+fn drawn(r: &mut Random, most: u32) -> Table {
+    let mut t = [0; 16];
+    t[0] = 1 + r.below(65_535) as u16;
+    t[1] = if r.one_in(2) {
+        8
+    } else {
+        1 + r.below(16) as u16
+    };
+    for number in &mut t[2..15] {
+        *number = r.range(1, most) as u16;
+    }
+    // One that stands out decides where it applies.
+    if r.one_in(2) {
+        let (rc, faw) = (7, 9);
+        let any = 2 + r.below(13);
+        let i = r.of_these(&[any, rc, faw]);
+        t[i] = (t[i] * 8).min(255);
+    }
+    t[3] = t[3].max(2).max(t[2]);
+    t
+}
+
+/// Sixteen numbers, one or two of them at an edge or beyond it.
+fn beyond(r: &mut Random) -> Table {
+    let mut t = legal(r);
+    for _ in 0..=r.below(2) {
+        let i = r.below(16);
+        t[i] = match r.below(8) {
+            0 => 0,
+            1 => 1,
+            2 => r.of_these(&[16, 17, 18]),
+            3 => 255,
+            4 => 256,
+            5 => 65_535,
+            6 => 256 * r.below(256) as u16,
+            _ => r.u32() as u16,
+        };
+    }
+    if r.one_in(4) {
+        t[3] = t[2].saturating_sub(r.below(2) as u16);
+    }
+    t
+}
+
+/// The sixteen numbers to be written, as bytes.
+pub fn numbers(r: &mut Random) -> Vec<u8> {
+    let t = if r.one_in(2) { legal(r) } else { beyond(r) };
+    bytes_of(&t)
+}
+
+/// Bytes that may not be a table.
+pub fn hostile(r: &mut Random) -> Vec<u8> {
+    let mut bytes = numbers(r);
+    match r.below(8) {
+        0 => {
+            let size = r.of_these(&[0, 1, 2, 30, 31, 33, 34, 64, 200]);
+            bytes = bytes.iter().copied().cycle().take(size).collect();
+        }
+        1 => bytes.truncate(r.below(32)),
+        2 => {
+            let at = r.below(32);
+            bytes[at] ^= 1 << r.below(8);
+        }
+        3 if r.one_in(2) => bytes.iter_mut().for_each(|b| *b = r.u8()),
+        _ => (),
+    }
+    bytes
+}
+
+/// Gives the case a table, mostly an accepted one, and answers the table that the rest of the case is made for.
+pub fn some(r: &mut Random, case: &mut Case) -> Table {
+    let t = legal(r);
+    case.table = bytes_of(&t);
+    if r.one_in(16) {
+        case.table = hostile(r);
+    }
+    t
+}
+
+/// The same with RC or FAW, which seldom decide, far out now and then.
+pub fn for_judges(r: &mut Random, case: &mut Case) -> Table {
+    let mut t = some(r, case);
+    if r.one_in(4) && case.table == bytes_of(&t) {
+        let (rc, faw) = (7, 9);
+        t[r.of_these(&[rc, faw])] = r.range(60, 255) as u16;
+        case.table = bytes_of(&t);
+    }
+    t
+}

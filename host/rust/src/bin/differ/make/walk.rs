@@ -1,0 +1,144 @@
+//! Schedules that no cycle rule gives: any command to any bank, each as early as the timing allows, or a little before or after.
+//!
+//! Where this is wrong about the timing, the schedule is only less legal than it might be.
+
+use model::desk::Table;
+
+use crate::numbers::Random;
+
+#[derive(Clone, Copy)]
+struct Bank {
+    open: bool,
+    /// When its next ACT may come.
+    closed_until: i64,
+    act: i64,
+}
+
+struct Walk {
+    t: [i64; 16],
+    cycle: i64,
+    banks: [Bank; 16],
+    /// Newest first.
+    acts: [i64; 4],
+    rd: i64,
+    wr: i64,
+}
+
+const LONG_AGO: i64 = -100_000;
+
+impl Walk {
+    fn earliest(&self, kind: u8, bank: usize) -> i64 {
+        let [_, _, b, ccd, rcd, _, _, _, rrd, faw, rl, wl, _, _, wtr, _] = self.t;
+        let own = &self.banks[bank];
+        let least = match kind {
+            0 => own
+                .closed_until
+                .max(self.acts[0] + rrd)
+                .max(self.acts[3] + faw),
+            1 | 2 => (own.act + rcd)
+                .max(self.rd + ccd)
+                .max(self.wr + ccd.max(wl + b + wtr)),
+            _ => (own.act + rcd)
+                .max(self.wr + ccd)
+                .max(self.rd + ccd.max(rl + ccd + 2 - wl)),
+        };
+        least.max(self.cycle + 1)
+    }
+
+    fn note(&mut self, cycle: i64, kind: u8, bank: usize) {
+        let [_, _, b, _, _, rp, ras, rc, _, _, _, wl, rtp, wr, _, _] = self.t;
+        self.cycle = cycle;
+        let own = &mut self.banks[bank];
+        own.open = kind == 0 || kind % 2 == 1;
+        let until = match kind {
+            0 => {
+                own.act = cycle;
+                own.closed_until = LONG_AGO;
+                self.acts.rotate_right(1);
+                self.acts[0] = cycle;
+                cycle + rc.max(ras + rp)
+            }
+            1 | 2 => {
+                self.rd = cycle;
+                cycle + rtp + rp
+            }
+            _ => {
+                self.wr = cycle;
+                cycle + wl + b + wr + rp
+            }
+        };
+        own.closed_until = own.closed_until.max(until);
+    }
+}
+
+fn slack(r: &mut Random) -> i64 {
+    match r.below(12) {
+        0 => 1,
+        1 => r.range(2, 4).into(),
+        2 if r.one_in(3) => r.range(5, 300).into(),
+        _ => 0,
+    }
+}
+
+/// About so many records, with one of them perhaps a cycle early.
+pub fn records(r: &mut Random, table: &Table, size: usize) -> Vec<[u8; 8]> {
+    let mut walk = Walk {
+        t: table.map(i64::from),
+        cycle: -1,
+        banks: [Bank {
+            open: false,
+            closed_until: LONG_AGO,
+            act: LONG_AGO,
+        }; 16],
+        acts: [LONG_AGO; 4],
+        rd: LONG_AGO,
+        wr: LONG_AGO,
+    };
+    let banks = usize::from(table[1]);
+    let used = if r.one_in(2) {
+        banks
+    } else {
+        banks.min(1 + r.below(3))
+    };
+    let early = if r.one_in(2) {
+        r.below(size + 1)
+    } else {
+        size * 2
+    };
+    let mut records = Vec::new();
+    let mut put = |walk: &mut Walk, r: &mut Random, kind: u8, bank: usize| {
+        let mut cycle = walk.earliest(kind, bank) + slack(r);
+        if records.len() == early {
+            cycle = (cycle - 1).max(0);
+        }
+        walk.note(cycle, kind, bank);
+        records.push(model::house::command(
+            cycle as u32,
+            kind,
+            bank as u8,
+            r.u32() as u16,
+        ));
+    };
+    // Many ACTs one after the other, for rules 6 and 7.
+    let opens = r.one_in(3);
+    for _ in 0..size {
+        let mut bank = r.below(used);
+        if opens && walk.banks[bank].open {
+            bank = (0..used).find(|&b| !walk.banks[b].open).unwrap_or(bank);
+        }
+        let kind = match walk.banks[bank].open {
+            false => 0,
+            true => r.range(1, 4) as u8,
+        };
+        put(&mut walk, r, kind, bank);
+    }
+    if !r.one_in(10) {
+        for bank in 0..used {
+            if walk.banks[bank].open {
+                let kind = r.of_these(&[2, 4]);
+                put(&mut walk, r, kind, bank);
+            }
+        }
+    }
+    records
+}

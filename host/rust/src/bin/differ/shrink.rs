@@ -1,0 +1,177 @@
+//! A case that shows a difference, made small: fewer records, fewer bytes that are not table A's, smaller numbers.
+
+use std::time::{Duration, Instant};
+
+use model::house::{bytes_of, TABLE_A};
+
+use crate::case::*;
+use crate::make::too_long;
+
+const AT_MOST: Duration = Duration::from_secs(20);
+
+/// The smallest that was found of which `differs` holds, as it does of the one given.
+pub fn shrunk(case: &Case, mut differs: impl FnMut(&Case) -> bool) -> Case {
+    let end = Instant::now() + AT_MOST;
+    let mut least = case.clone();
+    let mut smaller = true;
+    while smaller {
+        smaller = false;
+        let mut size = least.bytes.len().next_power_of_two();
+        while size >= 1 {
+            smaller |= cut(&mut least, size, &mut differs, end);
+            size /= 2;
+        }
+        for change in changes(&least) {
+            if Instant::now() > end {
+                return least;
+            }
+            let mut next = least.clone();
+            change(&mut next);
+            if next != least && !too_long(&next) && differs(&next) {
+                least = next;
+                smaller = true;
+            }
+        }
+    }
+    least
+}
+
+/// Takes parts of so many records out of the bytes, wherever the difference stays; at last single bytes.
+fn cut(
+    least: &mut Case,
+    size: usize,
+    differs: &mut impl FnMut(&Case) -> bool,
+    end: Instant,
+) -> bool {
+    let mut smaller = false;
+    let record = least.call.record();
+    for size in [size * record, size] {
+        let mut at = 0;
+        while at + size <= least.bytes.len() && Instant::now() < end {
+            let mut next = least.clone();
+            next.bytes.drain(at..at + size);
+            // With a list goes the room for it, where that is wanted to keep the difference.
+            let with_less_room = {
+                let gone = (least.bytes[at..at + size].chunks_exact(4))
+                    .map(|x| usize::from(x[2]) * (1 + usize::from(x[3])));
+                let mut next = next.clone();
+                next.room = next.room.saturating_sub(8 * gone.sum::<usize>());
+                next.slots = next.slots.saturating_sub(size / 4);
+                next
+            };
+            let found = [with_less_room, next].iter().any(|next| {
+                let found = !too_long(next) && differs(next);
+                if found {
+                    *least = next.clone();
+                }
+                found
+            });
+            smaller |= found;
+            if !found {
+                at += size;
+            }
+        }
+    }
+    smaller
+}
+
+type Change = Box<dyn Fn(&mut Case)>;
+
+/// What may be tried on a case, simplest first.
+fn changes(case: &Case) -> Vec<Change> {
+    let mut all: Vec<Change> = Vec::new();
+    let a = bytes_of(&TABLE_A);
+    all.push(Box::new(|c| {
+        c.table = bytes_of(&TABLE_A);
+        c.state[EDITION] = 7;
+    }));
+    all.push(Box::new(|c| c.table = bytes_of(&TABLE_A)));
+    all.push(Box::new(|c| {
+        if let Some(edition) = c.table.get_mut(..2) {
+            edition.copy_from_slice(&[7, 0]);
+            c.state[EDITION] = 7;
+        }
+    }));
+    for (i, pair) in a.chunks(2).enumerate() {
+        let pair = [pair[0], pair[1]];
+        all.push(Box::new(move |c| {
+            if let Some(place) = c.table.get_mut(2 * i..2 * i + 2) {
+                place.copy_from_slice(&pair);
+            }
+        }));
+    }
+    all.push(Box::new(|c| {
+        c.table.pop();
+    }));
+    all.push(Box::new(|c| c.state = fresh(c.state[EDITION])));
+    for i in 0..74 {
+        if case.state[i] != fresh(7)[i] {
+            all.push(Box::new(move |c| c.state[i] = fresh(7)[i]));
+            for less in [|n: u32| n / 2, |n: u32| n.saturating_sub(1)] {
+                all.push(Box::new(move |c| {
+                    if c.state[i] != fresh(7)[i] {
+                        c.state[i] = less(c.state[i]);
+                    }
+                }));
+            }
+        }
+    }
+    for i in 0..4 {
+        all.push(Box::new(move |c| c.values[i] = 0));
+        all.push(Box::new(move |c| c.values[i] = c.values[i].min(1)));
+        all.push(Box::new(move |c| c.values[i] /= 2));
+        all.push(Box::new(move |c| {
+            c.values[i] = c.values[i].saturating_sub(1)
+        }));
+    }
+    type Size = fn(&mut Case) -> &mut usize;
+    let sizes: [(Size, usize); 2] = [(|c| &mut c.room, case.room), (|c| &mut c.slots, case.slots)];
+    for (of, now) in sizes {
+        for less in [0, now / 2, now.saturating_sub(8), now.saturating_sub(1)] {
+            all.push(Box::new(move |c| *of(c) = less));
+        }
+    }
+    // Records of a list: simplest numbers, with the room that goes with them, and without.
+    if case.call.record() == 4 {
+        for at in (0..case.bytes.len() / 4 * 4).take(400) {
+            let simple = [0, 0, 1, 1][at % 4];
+            all.push(Box::new(move |c| {
+                let before = due(c);
+                if set(c, at, simple) {
+                    c.room = (c.room + 8 * due(c)).saturating_sub(8 * before);
+                }
+            }));
+            all.push(Box::new(move |c| {
+                set(c, at, simple);
+            }));
+        }
+    } else {
+        for at in (0..case.bytes.len()).take(400) {
+            all.push(Box::new(move |c| {
+                set(c, at, 0);
+            }));
+            all.push(Box::new(move |c| {
+                let less = c.bytes.get(at).map_or(0, |b| b.saturating_sub(1));
+                set(c, at, less);
+            }));
+        }
+    }
+    all.push(Box::new(|c| c.filling = 0));
+    all.push(Box::new(|c| c.lies = 2));
+    all
+}
+
+fn due(c: &Case) -> usize {
+    let one = |x: &[u8; 4]| usize::from(x[2]) * (1 + usize::from(x[3]));
+    c.records().iter().map(one).sum()
+}
+
+fn set(c: &mut Case, at: usize, to: u8) -> bool {
+    match c.bytes.get_mut(at) {
+        Some(b) => {
+            *b = to;
+            true
+        }
+        None => false,
+    }
+}

@@ -1,0 +1,65 @@
+//! The ordinary programs say what the model says.
+
+use super::*;
+use model::desk;
+use model::house::*;
+
+fn list(numbers: &mut Numbers, banks: usize, size: usize) -> Vec<Transaction> {
+    let mut one = || {
+        let bi = 1 + numbers.below(banks.min(4));
+        Transaction {
+            kind: numbers.byte() % 2,
+            start: numbers.below(banks + 1 - bi) as u8,
+            bi: bi as u8,
+            bc: 1 + numbers.byte() % 3,
+        }
+    };
+    (0..size).map(|_| one()).collect()
+}
+
+/// Built schedules, and judged ones with a byte changed.
+#[test]
+fn as_the_model_says() {
+    let mut numbers = Numbers(3);
+    let mut tables = vec![TABLE_A, TABLE_B, TABLE_C, LEAST, GREATEST];
+    tables.extend(ODD);
+    let mut verdicts = [0; 11];
+    for round in 0..600 {
+        let t = tables[round % tables.len()];
+        let table = bytes_of(&t);
+        let list = list(&mut numbers, t[1].into(), round % 7);
+        let due: usize = list
+            .iter()
+            .map(|x| usize::from(x.bi) * (1 + usize::from(x.bc)))
+            .sum();
+        let mut right = (vec![9; 8 * due + 3], vec![9; list.len() + 1]);
+        let told = desk::schedule(&table, &list, &mut right.0, &mut right.1).map(|s| s.commands);
+        for by_cycles in [false, true] {
+            let mut got = (vec![9; 8 * due + 3], vec![9; list.len() + 1]);
+            let commands = schedule(&table, &list, &mut got.0, &mut got.1, by_cycles);
+            assert_eq!(commands, told.ok().map(|n| n as usize));
+            assert!(got == right);
+        }
+        let mut bytes = right.0[..8 * due].to_vec();
+        for _ in 0..30 {
+            let (_, verdict) = desk::judge(&table, &bytes).expect("it's judged");
+            let verdict = match verdict {
+                desk::Verdict::Accepted => None,
+                desk::Verdict::Broken { rule, record } => Some((rule, record)),
+            };
+            verdicts[verdict.map_or(0, |(rule, _)| usize::from(rule))] += 1;
+            assert_eq!(judge(&table, &bytes), Some(verdict));
+            bytes.copy_from_slice(&right.0[..8 * due]);
+            if due > 0 {
+                let at = numbers.below(due) * 8 + numbers.of(&[0, 0, 0, 1, 4, 4, 5]);
+                bytes[at] = match numbers.below(4) {
+                    0 => bytes[at].wrapping_add(1),
+                    1 => bytes[at].wrapping_sub(1 + numbers.byte() % 4),
+                    2 => numbers.byte() % 5,
+                    _ => bytes[at].wrapping_sub(1),
+                };
+            }
+        }
+    }
+    assert!(verdicts.iter().all(|&n| n > 0), "{verdicts:?}");
+}

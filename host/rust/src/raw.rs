@@ -1,0 +1,135 @@
+//! The archive's calls and structs, as `skvorzhan.h` declares them. Nothing checks one against the other but the tests.
+//!
+//! A slice crosses as a pointer and a number of elements. The pointer is never null, even where the number is 0, which holds of every
+//! Rust slice; what is lent for writing overlaps nothing else that is lent.
+
+#[repr(C)]
+#[derive(Debug, Clone, Copy, PartialEq, Eq)]
+pub struct Answer {
+    pub refused: u32,
+    pub position: u32,
+    pub edition: u32,
+    pub count: u32,
+    pub cycles: u32,
+}
+
+#[repr(C)]
+#[derive(Debug, Clone, Copy, PartialEq, Eq)]
+pub struct VerdictAnswer {
+    pub refused: u32,
+    pub position: u32,
+    pub edition: u32,
+    pub rule: u32,
+    pub copy: u32,
+    pub record: u32,
+}
+
+#[repr(C)]
+#[derive(Debug, Clone, Copy, PartialEq, Eq)]
+pub struct TableAnswer {
+    pub refused: u32,
+    pub position: u32,
+    pub edition: u32,
+    pub numbers: [u16; 16],
+}
+
+#[repr(C)]
+#[derive(Debug, Clone, Copy, PartialEq, Eq)]
+pub struct TransactionAnswer {
+    pub refused: u32,
+    pub position: u32,
+    pub edition: u32,
+    pub kind: u8,
+    pub start: u8,
+    pub bi: u8,
+    pub bc: u8,
+}
+
+#[repr(C)]
+#[derive(Debug, Clone, Copy, PartialEq, Eq)]
+pub struct CommandAnswer {
+    pub refused: u32,
+    pub position: u32,
+    pub edition: u32,
+    pub cycle: u32,
+    pub kind: u8,
+    pub bank: u8,
+    pub number: u16,
+}
+
+#[repr(C)]
+#[derive(Debug, Clone, Copy, PartialEq, Eq)]
+pub struct Numbers {
+    pub numbers: [u16; 16],
+}
+
+#[repr(C)]
+#[derive(Debug, Clone, Copy, PartialEq, Eq)]
+pub struct HostBank {
+    /// Open unless 0.
+    pub opened: u8,
+    pub act: u32,
+    /// Since that ACT.
+    pub rd: u32,
+    pub wr: u32,
+}
+
+#[repr(C)]
+#[derive(Debug, Clone, Copy, PartialEq, Eq)]
+pub struct Controller {
+    pub edition: u16,
+    /// The next to be tried.
+    pub cycle: u32,
+    /// How many commands have left each queue.
+    pub acts: u32,
+    pub datas: u32,
+    pub banks: [HostBank; 16],
+    /// Newest first.
+    pub last: [u32; 4],
+    pub rd: u32,
+    pub wr: u32,
+}
+
+#[repr(C)]
+#[derive(Debug, Clone, Copy, PartialEq, Eq)]
+pub struct Transaction {
+    /// 0 read, 1 write.
+    pub kind: u8,
+    pub start: u8,
+    pub bi: u8,
+    pub bc: u8,
+}
+
+/// What `skv_start` and `skv_run_bytes` hand back.
+#[repr(C)]
+#[derive(Debug, Clone, Copy, PartialEq, Eq)]
+pub struct ControllerAnswer {
+    pub controller: Controller,
+    pub answer: Answer,
+}
+
+#[rustfmt::skip]
+extern "C" {
+    pub fn skv_read_table(bytes: *const u8, bytes_len: usize) -> TableAnswer;
+    pub fn skv_write_table(numbers: Numbers, out: *mut u8, out_len: usize) -> Answer;
+    pub fn skv_read_transaction(bytes: *const u8, bytes_len: usize) -> TransactionAnswer;
+    pub fn skv_write_transaction(kind: u8, start: u8, bi: u8, bc: u8, out: *mut u8, out_len: usize) -> Answer;
+    pub fn skv_read_command(bytes: *const u8, bytes_len: usize) -> CommandAnswer;
+    pub fn skv_write_command(cycle: u32, kind: u8, bank: u8, number: u16, out: *mut u8, out_len: usize) -> Answer;
+    pub fn skv_read_transactions(table: *const u8, table_len: usize, bytes: *const u8, bytes_len: usize,
+        list: *mut Transaction, list_len: usize) -> Answer;
+    pub fn skv_schedule(table: *const u8, table_len: usize, list: *const Transaction, list_len: usize,
+        commands: *mut u8, commands_len: usize, finishes: *mut u32, finishes_len: usize) -> Answer;
+    pub fn skv_schedule_bytes(table: *const u8, table_len: usize, list: *const u8, list_len: usize,
+        commands: *mut u8, commands_len: usize, finishes: *mut u32, finishes_len: usize) -> Answer;
+    pub fn skv_judge(table: *const u8, table_len: usize, schedule: *const u8, schedule_len: usize) -> VerdictAnswer;
+    pub fn skv_judge_pattern(table: *const u8, table_len: usize, pattern: *const u8, pattern_len: usize, length: u32) -> VerdictAnswer;
+    pub fn skv_bound(table: *const u8, table_len: usize, bi: u8, bc: u8) -> Answer;
+    pub fn skv_start(table: *const u8, table_len: usize) -> ControllerAnswer;
+    pub fn skv_run(c: *mut Controller, table: *const u8, table_len: usize, list: *const Transaction, list_len: usize,
+        count: u32, room: *mut u8, room_len: usize) -> Answer;
+    pub fn skv_step(c: *mut Controller, table: *const u8, table_len: usize, list: *const Transaction, list_len: usize,
+        room: *mut u8, room_len: usize) -> Answer;
+    pub fn skv_run_bytes(c: Controller, table: *const u8, table_len: usize, list: *const u8, list_len: usize,
+        count: u32, room: *mut u8, room_len: usize) -> ControllerAnswer;
+}

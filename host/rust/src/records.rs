@@ -1,0 +1,75 @@
+//! A reader and a writer of each record.
+
+use crate::raw::*;
+use crate::{told, Refusal};
+
+/// Edition, banks, B, CCD, RCD, RP, RAS, RC, RRD, FAW, RL, WL, RTP, WR, WTR, and a last that is 0.
+pub type Table = [u16; 16];
+
+/// Refused with 1 and 2.
+pub fn read_table(bytes: &[u8]) -> Result<Table, Refusal> {
+    let a = unsafe { skv_read_table(bytes.as_ptr(), bytes.len()) };
+    told(a.refused, a.position, a.edition, a.numbers)
+}
+
+/// Refused with 1 and 2. Answers the table's edition.
+pub fn write_table(numbers: Table, out: &mut [u8]) -> Result<u32, Refusal> {
+    let a = unsafe { skv_write_table(Numbers { numbers }, out.as_mut_ptr(), out.len()) };
+    a.told(a.edition)
+}
+
+/// Refused with 3 and 4.
+pub fn read_transaction(bytes: &[u8]) -> Result<Transaction, Refusal> {
+    let a = unsafe { skv_read_transaction(bytes.as_ptr(), bytes.len()) };
+    let x = Transaction {
+        kind: a.kind,
+        start: a.start,
+        bi: a.bi,
+        bc: a.bc,
+    };
+    told(a.refused, a.position, a.edition, x)
+}
+
+/// Refused with 3 and 4.
+pub fn write_transaction(x: Transaction, out: &mut [u8]) -> Result<(), Refusal> {
+    let a =
+        unsafe { skv_write_transaction(x.kind, x.start, x.bi, x.bc, out.as_mut_ptr(), out.len()) };
+    a.told(())
+}
+
+#[derive(Debug, Clone, Copy, PartialEq, Eq)]
+pub struct Command {
+    pub cycle: u32,
+    /// 0 ACT, 1 RD, 2 RDA, 3 WR, 4 WRA, or any other number.
+    pub kind: u8,
+    pub bank: u8,
+    /// The transaction's.
+    pub number: u16,
+}
+
+/// Refused with 7.
+pub fn read_command(bytes: &[u8]) -> Result<Command, Refusal> {
+    let a = unsafe { skv_read_command(bytes.as_ptr(), bytes.len()) };
+    let c = Command {
+        cycle: a.cycle,
+        kind: a.kind,
+        bank: a.bank,
+        number: a.number,
+    };
+    told(a.refused, a.position, a.edition, c)
+}
+
+/// Refused with 5. The buffer may be longer than 8 bytes.
+pub fn write_command(c: Command, out: &mut [u8]) -> Result<(), Refusal> {
+    let a = unsafe {
+        skv_write_command(
+            c.cycle,
+            c.kind,
+            c.bank,
+            c.number,
+            out.as_mut_ptr(),
+            out.len(),
+        )
+    };
+    a.told(())
+}

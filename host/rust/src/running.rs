@@ -1,0 +1,90 @@
+//! A controller that is run a few cycles at a time.
+
+use crate::raw::*;
+use crate::Refusal;
+
+/// Refused with 1 and 2. A fresh controller.
+pub fn start(table: &[u8]) -> Result<Controller, Refusal> {
+    let a = unsafe { skv_start(table.as_ptr(), table.len()) };
+    a.answer.told(a.controller)
+}
+
+#[derive(Debug, Clone, Copy, PartialEq, Eq)]
+pub struct Ran {
+    pub edition: u32,
+    pub commands: u32,
+    pub cycles: u32,
+}
+
+fn ran(a: Answer) -> Result<Ran, Refusal> {
+    a.told(Ran {
+        edition: a.edition,
+        commands: a.count,
+        cycles: a.cycles,
+    })
+}
+
+/// Refused with 1 to 5 and 9.
+pub fn run(
+    c: &mut Controller,
+    table: &[u8],
+    list: &[Transaction],
+    count: u32,
+    room: &mut [u8],
+) -> Result<Ran, Refusal> {
+    ran(unsafe {
+        skv_run(
+            c,
+            table.as_ptr(),
+            table.len(),
+            list.as_ptr(),
+            list.len(),
+            count,
+            room.as_mut_ptr(),
+            room.len(),
+        )
+    })
+}
+
+/// One cycle.
+pub fn step(
+    c: &mut Controller,
+    table: &[u8],
+    list: &[Transaction],
+    room: &mut [u8],
+) -> Result<Ran, Refusal> {
+    ran(unsafe {
+        skv_step(
+            c,
+            table.as_ptr(),
+            table.len(),
+            list.as_ptr(),
+            list.len(),
+            room.as_mut_ptr(),
+            room.len(),
+        )
+    })
+}
+
+/// As `run`, from the transactions' bytes, with the controller handed in and back.
+pub fn run_bytes(
+    c: Controller,
+    table: &[u8],
+    list: &[u8],
+    count: u32,
+    room: &mut [u8],
+) -> (Controller, Result<Ran, Refusal>) {
+    let a = unsafe {
+        skv_run_bytes(
+            c,
+            table.as_ptr(),
+            table.len(),
+            list.as_ptr(),
+            list.len(),
+            count,
+            room.as_mut_ptr(),
+            room.len(),
+        )
+    };
+    (a.controller, ran(a.answer))
+}

@@ -1,0 +1,190 @@
+//! Document 01's examples through the safe functions, and a refusal of each kind.
+
+use skvorzhan::*;
+
+const A: Table = [7, 8, 4, 4, 10, 10, 28, 38, 6, 32, 10, 8, 6, 12, 6, 0];
+const FAW: usize = 9;
+
+fn bytes(t: Table) -> [u8; 32] {
+    let mut bytes = [0; 32];
+    assert_eq!(write_table(t, &mut bytes), Ok(t[0].into()));
+    assert_eq!(read_table(&bytes), Ok(t));
+    bytes
+}
+
+fn transaction(kind: u8, start: u8, bi: u8, bc: u8) -> Transaction {
+    Transaction {
+        kind,
+        start,
+        bi,
+        bc,
+    }
+}
+
+fn refused<T: std::fmt::Debug>(told: Result<T, Refusal>) -> (u32, u32, u32) {
+    let r = told.expect_err("it's refused");
+    (r.number, r.position, r.edition)
+}
+
+/// Cycle, kind, bank, number.
+type Told = (u32, u8, u8, u16);
+
+/// The commands, the finishing cycles, and the commands' bytes.
+fn built(list: &[Transaction]) -> (Vec<Told>, Vec<u32>, Vec<u8>) {
+    let due: usize = list
+        .iter()
+        .map(|x| usize::from(x.bi) * (1 + usize::from(x.bc)))
+        .sum();
+    let (mut room, mut finishes) = (vec![9; 8 * due + 1], vec![9; list.len() + 1]);
+    let told = schedule(&bytes(A), list, &mut room, &mut finishes);
+    let (edition, commands) = (7, due as u32);
+    assert_eq!(told, Ok(Scheduled { edition, commands }));
+    assert_eq!((room.pop(), finishes.pop()), (Some(9), Some(9)));
+    let command = |c: &[u8]| {
+        let c = read_command(c).expect("8 bytes are a command");
+        (c.cycle, c.kind, c.bank, c.number)
+    };
+    (room.chunks(8).map(command).collect(), finishes, room)
+}
+
+#[test]
+fn schedules() {
+    let (write, read) = (transaction(1, 0, 1, 1), transaction(0, 0, 1, 1));
+    let (commands, finishes, _) = built(&[write, read]);
+    assert_eq!(
+        commands,
+        [(0, 0, 0, 0), (10, 4, 0, 0), (44, 0, 0, 1), (54, 2, 0, 1)]
+    );
+    assert_eq!(finishes, [10, 54]);
+    assert_eq!(bound(&bytes(A), 1, 1), Ok((7, 44)));
+    let bounds = [(2, 1), (1, 4), (4, 2), (5, 1), (8, 1)].map(|(bi, bc)| bound(&bytes(A), bi, bc));
+    assert_eq!(bounds, [53, 56, 75, 80, 107].map(|bound| Ok((7, bound))));
+    assert_eq!(built(&[transaction(0, 0, 5, 1)]).1, [42]);
+}
+
+#[test]
+fn verdicts() {
+    let (_, _, one) = built(&[transaction(0, 0, 1, 1)]);
+    let (_, _, four) = built(&[transaction(0, 0, 4, 2)]);
+    let mut b = A;
+    b[FAW] = 155;
+    let broken = |copy, rule| {
+        Ok((
+            7,
+            Verdict::Broken {
+                rule,
+                copy,
+                record: 0,
+            },
+        ))
+    };
+    let accepted = Ok((7, Verdict::Accepted));
+    assert_eq!(judge(&bytes(A), &one), accepted);
+    assert_eq!(judge(&bytes(A), &[]), accepted);
+    assert_eq!(judge_pattern(&bytes(A), &one, 38), accepted);
+    assert_eq!(judge_pattern(&bytes(A), &one, 37), broken(2, 4));
+    assert_eq!(judge_pattern(&bytes(A), &four, 39), accepted);
+    assert_eq!(judge_pattern(&bytes(A), &four, 38), broken(2, 2));
+    assert_eq!(judge_pattern(&bytes(b), &one, 39), accepted);
+    assert_eq!(judge_pattern(&bytes(b), &one, 38), broken(5, 7));
+    let open = Verdict::Broken {
+        rule: 10,
+        copy: 0,
+        record: 1,
+    };
+    assert_eq!(judge(&bytes(A), &one[..8]), Ok((7, open)));
+}
+
+/// A few cycles, one, and the rest, lent and handed over, give what is built at once.
+#[test]
+fn runs() {
+    let list = [transaction(1, 0, 1, 1), transaction(0, 0, 1, 1)];
+    let (_, _, whole) = built(&list);
+    let table = bytes(A);
+    let mut c = start(&table).expect("the table is accepted");
+    assert_eq!(
+        (c.edition, c.cycle, c.last, c.wr),
+        (7, 0, [NEVER; 4], NEVER)
+    );
+    let mut room = [0; 32];
+    let (edition, commands) = (7, 1);
+    let first = Ran {
+        edition,
+        commands,
+        cycles: 10,
+    };
+    assert_eq!(run(&mut c, &table, &list, 10, &mut room), Ok(first));
+    let next = Ran {
+        edition,
+        commands,
+        cycles: 1,
+    };
+    assert_eq!(step(&mut c, &table, &list, &mut room[8..]), Ok(next));
+    let (c, rest) = run_bytes(c, &table, &[1, 0, 1, 1, 0, 0, 1, 1], NEVER, &mut room[16..]);
+    assert_eq!(
+        rest,
+        Ok(Ran {
+            edition,
+            commands: 2,
+            cycles: 44
+        })
+    );
+    assert_eq!(
+        (c.cycle, c.acts, c.datas, &room[..]),
+        (55, 2, 2, &whole[..])
+    );
+}
+
+#[test]
+fn refusals() {
+    let table = bytes(A);
+    let mut ccd_1 = A;
+    ccd_1[3] = 1;
+    let mut out = [5; 40];
+    assert_eq!(refused(read_table(&table[..31])), (1, 0, 0));
+    assert_eq!(refused(write_table(ccd_1, &mut out[..32])), (2, 0, 0));
+    let beyond = transaction(0, 7, 2, 1);
+    let mut list = [transaction(0, 7, 1, 1), beyond];
+    assert_eq!(
+        refused(read_transactions(&table, &[0; 7], &mut list)),
+        (3, 0, 7)
+    );
+    assert_eq!(
+        refused(schedule(&table, &list, &mut out, &mut [])),
+        (4, 1, 7)
+    );
+    assert_eq!(
+        refused(schedule(&table, &list[..1], &mut out[..15], &mut [])),
+        (5, 0, 7)
+    );
+    assert_eq!(
+        refused(schedule(&table, &list[..1], &mut out, &mut [])),
+        (6, 0, 7)
+    );
+    assert_eq!(refused(judge(&table, &[0; 9])), (7, 0, 7));
+    assert_eq!(refused(judge_pattern(&table, &[], 0)), (8, 0, 7));
+    let mut c = start(&table).expect("the table is accepted");
+    c.cycle = 100_000_000;
+    let before = c;
+    assert_eq!(refused(run(&mut c, &table, &[], 1, &mut out)), (9, 0, 7));
+    assert_eq!(c, before);
+    assert_eq!(refused(write_transaction(beyond, &mut out)), (3, 0, 0));
+    assert_eq!(write_transaction(beyond, &mut out[..4]), Ok(()));
+    assert_eq!(read_transaction(&out[..4]), Ok(beyond));
+    let c = Command {
+        cycle: 1,
+        kind: 2,
+        bank: 3,
+        number: 4,
+    };
+    assert_eq!(refused(write_command(c, &mut out[..7])), (5, 0, 0));
+    assert_eq!(write_command(c, &mut out), Ok(()));
+    assert_eq!(read_command(&out[..8]), Ok(c));
+    assert_eq!(out[8..], [5; 32]);
+    let shown = refused_text(judge(&table, &[0; 9]));
+    assert_eq!(shown, "refused 7 at 0 edition 7");
+}
+
+fn refused_text<T>(told: Result<T, Refusal>) -> String {
+    told.err().map_or(String::new(), |r| r.to_string())
+}

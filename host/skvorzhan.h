@@ -1,0 +1,208 @@
+/*
+ * Skvorzhan: SDRAM command schedules. The calls of the archive libhost.a, for C on x86-64.
+ *
+ * What holds of every call
+ *
+ * Any bytes and any numbers may be handed in. A call refuses what it cannot take, by the numbers below, and then changes no buffer and no
+ * controller. A call that is not refused writes each result from its buffer's start and leaves all beyond as it stood. What a call is lent as
+ * const it only reads.
+ *
+ * The checks go in the order of the numbers: the first that applies is told. A call makes only the checks that its comment names.
+ *
+ *   1  table not 32 bytes, or its last number not 0
+ *   2  a table number out of range, CCD below 2 or below B
+ *   3  transaction bytes not a multiple of 4, or over 256 transactions, or too few places to decode into
+ *   4  a transaction out of range; the position is the lowest such transaction's number, from 0
+ *   5  too little room for commands
+ *   6  fewer places for finishing cycles than transactions
+ *   7  schedule bytes not a multiple of 8, or over 69,632 records
+ *   8  pattern length 0
+ *   9  a controller that cannot be gone on with: its cycle at 100,000,000 or more, an edition not the table's, a stored cycle not before its
+ *      own cycle, more commands gone from a queue than the list puts there, or a data command gone whose ACT has not
+ *
+ * The position is 0 but for number 4. The edition of an answer is the table's; it is 0 where no table is given, and for refusals 1 and 2.
+ *
+ * What a caller owes: each pointer points to that many elements (never NULL, even where the number is 0), aligned for its type; what is lent
+ * for writing overlaps nothing else that is lent in the same call; and nobody else writes to what is lent while the call runs.
+ * The calls keep nothing: no state beside the controller that is lent, no allocation, no output. They may be made from several threads at once.
+ *
+ * Numbers in bytes are little-endian.
+ *
+ *   table, 32 bytes       sixteen 16-bit numbers: edition, banks, B, CCD, RCD, RP, RAS, RC, RRD, FAW, RL, WL, RTP, WR, WTR, and a last that
+ *                         is 0. Edition is 1 to 65,535, banks 1 to 16, the others 1 to 255; CCD is at least 2 and at least B
+ *   transaction, 4 bytes  type (0 read, 1 write), start bank, BI, BC. BI and BC are 1 to 16; start + BI is at most banks
+ *   command, 8 bytes      cycle (32 bits), kind (0 ACT, 1 RD, 2 RDA, 3 WR, 4 WRA), bank, transaction number (16 bits)
+ */
+#ifndef SKVORZHAN_H
+#define SKVORZHAN_H
+
+#include <stddef.h>
+#include <stdint.h>
+
+#ifdef __cplusplus
+extern "C" {
+#endif
+
+/* A stored cycle of a controller that stands for "never". */
+#define SKV_NEVER 4294967295u
+
+/* refused: 0, or the number of the refusal; then count and cycles are 0.
+ * count: commands written, transactions read, or the bound. cycles: cycles run (skv_run, skv_step and skv_run_bytes alone). */
+typedef struct skv_answer {
+    uint32_t refused;
+    uint32_t position;
+    uint32_t edition;
+    uint32_t count;
+    uint32_t cycles;
+} skv_answer;
+
+/* rule: 0 where the schedule or pattern is accepted, else the first broken rule, 1 to 10. copy: the lowest that breaks it, from 1, for a
+ * pattern; 0 for a schedule. record: from 0; for rule 10 the number of records. Where refused or accepted, rule, copy and record are 0. */
+typedef struct skv_verdict_answer {
+    uint32_t refused;
+    uint32_t position;
+    uint32_t edition;
+    uint32_t rule;
+    uint32_t copy;
+    uint32_t record;
+} skv_verdict_answer;
+
+/* Where refused, all sixteen numbers are 0. */
+typedef struct skv_table_answer {
+    uint32_t refused;
+    uint32_t position;
+    uint32_t edition;
+    uint16_t numbers[16];
+} skv_table_answer;
+
+/* Where refused, kind, start, bi and bc are 0. */
+typedef struct skv_transaction_answer {
+    uint32_t refused;
+    uint32_t position;
+    uint32_t edition;
+    uint8_t kind;
+    uint8_t start;
+    uint8_t bi;
+    uint8_t bc;
+} skv_transaction_answer;
+
+/* Where refused, cycle, kind, bank and number are 0. */
+typedef struct skv_command_answer {
+    uint32_t refused;
+    uint32_t position;
+    uint32_t edition;
+    uint32_t cycle;
+    uint8_t kind;
+    uint8_t bank;
+    uint16_t number;
+} skv_command_answer;
+
+/* The sixteen numbers of a table, in the order of its bytes. */
+typedef struct skv_numbers {
+    uint16_t numbers[16];
+} skv_numbers;
+
+typedef struct skv_transaction {
+    uint8_t kind; /* 0 read, 1 write */
+    uint8_t start;
+    uint8_t bi;
+    uint8_t bc;
+} skv_transaction;
+
+/* A bank: open unless opened is 0; the cycles of its last ACT and of the last RD and WR since. */
+typedef struct skv_bank {
+    uint8_t opened;
+    uint32_t act;
+    uint32_t rd;
+    uint32_t wr;
+} skv_bank;
+
+/* A running controller. Any bits are one; what number 9 says of them is checked by the calls. Of the banks only the table's are read or
+ * changed. The bytes between the fields hold nothing, and may come back as others. */
+typedef struct skv_controller {
+    uint16_t edition;
+    uint32_t cycle; /* the next to be tried */
+    uint32_t acts;  /* gone from the ACT queue */
+    uint32_t datas; /* gone from the data queue */
+    skv_bank banks[16];
+    uint32_t last[4]; /* the last four ACTs, newest first */
+    uint32_t rd;      /* the last RD of all */
+    uint32_t wr;      /* the last WR of all */
+} skv_controller;
+
+typedef struct skv_controller_answer {
+    skv_controller controller;
+    skv_answer answer;
+} skv_controller_answer;
+
+/* Checks 1, 2. Answers the sixteen numbers and the table's edition. */
+skv_table_answer skv_read_table(const uint8_t *bytes, size_t bytes_len);
+
+/* Checks 1 (out is not 32 bytes, or the last number is not 0), 2. Writes the 32 bytes of the table. The edition is the table's, count is 0. */
+skv_answer skv_write_table(skv_numbers numbers, uint8_t *out, size_t out_len);
+
+/* Checks 3 (not 4 bytes), 4 (out of range, banks counting as 16; position 0). Answers the four numbers. */
+skv_transaction_answer skv_read_transaction(const uint8_t *bytes, size_t bytes_len);
+
+/* Checks 3 (out is not 4 bytes), 4 (as skv_read_transaction). Writes the 4 bytes of the transaction. */
+skv_answer skv_write_transaction(uint8_t kind, uint8_t start, uint8_t bi, uint8_t bc, uint8_t *out, size_t out_len);
+
+/* Checks 7 (not 8 bytes). Any 8 bytes are a command. */
+skv_command_answer skv_read_command(const uint8_t *bytes, size_t bytes_len);
+
+/* Checks 5 (out under 8 bytes). Writes the 8 bytes of the command; any numbers are one. Bytes of out beyond the eighth stay as they stood. */
+skv_answer skv_write_command(uint32_t cycle, uint8_t kind, uint8_t bank, uint16_t number, uint8_t *out, size_t out_len);
+
+/* Checks 1, 2, 3 (bytes not a multiple of 4, over 256 transactions, or more than list has places), 4. Writes the transactions into list; places
+ * beyond them stay as they stood. count is the number of transactions. */
+skv_answer skv_read_transactions(const uint8_t *table, size_t table_len, const uint8_t *bytes, size_t bytes_len,
+                                 skv_transaction *list, size_t list_len);
+
+/* Checks 1, 2, 3 (over 256 transactions), 4, 5 (commands_len under 8 x the commands due), 6 (finishes_len under list_len).
+ * Writes the schedule that the cycle rule gives, 8 bytes for each command, oldest first, and into finishes, for each transaction, the cycle of
+ * its last data command. Bytes and places beyond stay as they stood. count is the number of commands. */
+skv_answer skv_schedule(const uint8_t *table, size_t table_len, const skv_transaction *list, size_t list_len,
+                        uint8_t *commands, size_t commands_len, uint32_t *finishes, size_t finishes_len);
+
+/* As skv_schedule, with the transactions' bytes for the list: 3 also where list_len is not a multiple of 4. */
+skv_answer skv_schedule_bytes(const uint8_t *table, size_t table_len, const uint8_t *list, size_t list_len,
+                              uint8_t *commands, size_t commands_len, uint32_t *finishes, size_t finishes_len);
+
+/* Checks 1, 2, 7. Accepts the schedule exactly when every timing rule holds of each record and at the end every bank is closed; otherwise names
+ * the first record that breaks a rule, and the first rule that it breaks. The transaction numbers are not looked at. */
+skv_verdict_answer skv_judge(const uint8_t *table, size_t table_len, const uint8_t *schedule, size_t schedule_len);
+
+/* Checks 1, 2, 7, 8. Copy n, from 1, has length x (n - 1) added to each cycle, in numbers that never wrap. Accepts the pattern exactly when every
+ * number of copies, set end to end, is a legal schedule; otherwise names the lowest copy, its first record that breaks a rule, and the rule. */
+skv_verdict_answer skv_judge_pattern(const uint8_t *table, size_t table_len, const uint8_t *pattern, size_t pattern_len,
+                                     uint32_t length);
+
+/* Checks 1, 2, 4 (bi or bc outside 1 to 16, or bi above banks; position 0). count is the bound: a transaction of (bi, bc) finishes at most
+ * so many cycles after the one before it, the first after cycle 0. */
+skv_answer skv_bound(const uint8_t *table, size_t table_len, uint8_t bi, uint8_t bc);
+
+/* Checks 1, 2. Answers a fresh controller of the table's edition: cycle 0, all banks closed, "never" throughout. Where refused, one of edition 0,
+ * which no table has. */
+skv_controller_answer skv_start(const uint8_t *table, size_t table_len);
+
+/* Checks 1, 2, 3 (over 256 transactions), 4, 5 (room_len under 8 x the lesser of count and the commands left in the two queues), 9.
+ * Runs the cycle rule on from what c tells, and stops after count cycles, when the list is served, or at cycle 100,000,000, whichever is first.
+ * Writes the commands that go, 8 bytes each, into room, and changes c to what it then tells. Bytes beyond, and what c keeps past the table's
+ * banks, stay as they stood. count is the number of commands, cycles the number of cycles run. */
+skv_answer skv_run(skv_controller *c, const uint8_t *table, size_t table_len, const skv_transaction *list, size_t list_len,
+                   uint32_t count, uint8_t *room, size_t room_len);
+
+/* As skv_run with a count of 1. */
+skv_answer skv_step(skv_controller *c, const uint8_t *table, size_t table_len, const skv_transaction *list, size_t list_len,
+                    uint8_t *room, size_t room_len);
+
+/* As skv_run, with the transactions' bytes for the list (3 also where list_len is not a multiple of 4), and with the controller handed in and
+ * back by value. Where refused, it comes back as it was. */
+skv_controller_answer skv_run_bytes(skv_controller c, const uint8_t *table, size_t table_len, const uint8_t *list, size_t list_len,
+                                    uint32_t count, uint8_t *room, size_t room_len);
+
+#ifdef __cplusplus
+}
+#endif
+
+#endif
