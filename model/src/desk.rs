@@ -1,8 +1,11 @@
 //! The public calls, one function each.
 //!
-//! A call that works from a table takes its bytes. "Checks go in the order of these numbers", each call making only those on things
-//! it's given, and "no buffer or state changes" when it refuses: nothing is written until the last check has passed.
+//! "Each call that takes a table also takes an expected edition", before the table's bytes. "Checks go in the order of these
+//! numbers", but for 10, which goes "straight after number 2", each call making only those on things it's given; and "no buffer or
+//! state changes" when it refuses: nothing is written until the last check has passed.
 
+#[cfg(test)]
+mod editions;
 #[cfg(test)]
 mod laws;
 #[cfg(test)]
@@ -19,6 +22,21 @@ pub use crate::scheduler::{Bank, State as Controller, NEVER};
 use crate::records::EDITION;
 use crate::{rules, scheduler};
 
+/// Numbers 1, 2 and 10, for every call that takes a table: "If they differ it's refused as number 10, position the table's edition,
+/// straight after number 2; expected 0 always differs", since no table of edition 0 gets past number 2.
+fn admit(expected: u16, table: &[u8]) -> Result<Table, Refusal> {
+    let table = read_table(table)?;
+    let edition = table[EDITION];
+    if expected != edition {
+        return Err(Refusal {
+            number: 10,
+            position: edition.into(),
+            edition,
+        });
+    }
+    Ok(table)
+}
+
 /// What `read_transactions` answers: how many were decoded.
 #[derive(Debug, Clone, Copy, PartialEq, Eq)]
 pub struct Decoded {
@@ -26,13 +44,14 @@ pub struct Decoded {
     pub transactions: u32,
 }
 
-/// Numbers 1, 2, 3 and 4. "Too few places to decode into" is 3.
+/// Numbers 1, 2, 10, 3 and 4. "Too few places to decode into" is 3.
 pub fn read_transactions(
+    expected: u16,
     table: &[u8],
     bytes: &[u8],
     places: &mut [Transaction],
 ) -> Result<Decoded, Refusal> {
-    let table = read_table(table)?;
+    let table = admit(expected, table)?;
     let list = scheduler::decode(&table, bytes)?;
     scheduler::check_list(&table, &list, places.len())?;
     places[..list.len()].copy_from_slice(&list);
@@ -49,14 +68,15 @@ pub struct Scheduled {
     pub commands: u32,
 }
 
-/// Numbers 1 to 6. "Success writes each result from its buffer's start and leaves all beyond as it stood."
+/// Numbers 1, 2, 10, and 3 to 6. "Success writes each result from its buffer's start and leaves all beyond as it stood."
 pub fn schedule(
+    expected: u16,
     table: &[u8],
     list: &[Transaction],
     room: &mut [u8],
     finishes: &mut [u32],
 ) -> Result<Scheduled, Refusal> {
-    let table = read_table(table)?;
+    let table = admit(expected, table)?;
     let built = scheduler::build(&table, list, room.len(), finishes.len())?;
     write_commands(&built.commands, room);
     finishes[..list.len()].copy_from_slice(&built.finishes);
@@ -68,13 +88,14 @@ pub fn schedule(
 
 /// The same from the transactions' bytes.
 pub fn schedule_bytes(
+    expected: u16,
     table: &[u8],
     bytes: &[u8],
     room: &mut [u8],
     finishes: &mut [u32],
 ) -> Result<Scheduled, Refusal> {
-    let list = scheduler::decode(&read_table(table)?, bytes)?;
-    schedule(table, &list, room, finishes)
+    let list = scheduler::decode(&admit(expected, table)?, bytes)?;
+    schedule(expected, table, &list, room, finishes)
 }
 
 fn write_commands(commands: &[Command], room: &mut [u8]) {
@@ -83,33 +104,34 @@ fn write_commands(commands: &[Command], room: &mut [u8]) {
     }
 }
 
-/// Numbers 1, 2 and 7. Answers the edition and the verdict.
-pub fn judge(table: &[u8], bytes: &[u8]) -> Result<(u16, Verdict), Refusal> {
-    let table = read_table(table)?;
+/// Numbers 1, 2, 10 and 7. Answers the edition and the verdict.
+pub fn judge(expected: u16, table: &[u8], bytes: &[u8]) -> Result<(u16, Verdict), Refusal> {
+    let table = admit(expected, table)?;
     Ok((table[EDITION], rules::judge(&table, bytes)?))
 }
 
-/// Numbers 1, 2, 7 and 8. Answers the edition and the verdict, which names the copy.
+/// Numbers 1, 2, 10, 7 and 8. Answers the edition and the verdict, which names the copy.
 pub fn judge_pattern(
+    expected: u16,
     table: &[u8],
     bytes: &[u8],
     length: u32,
 ) -> Result<(u16, PatternVerdict), Refusal> {
-    let table = read_table(table)?;
+    let table = admit(expected, table)?;
     let verdict = rules::judge_pattern(&table, bytes, length)?;
     Ok((table[EDITION], verdict))
 }
 
-/// Numbers 1, 2 and 4: "the bound gives 4, position 0, for BI or BC outside 1 to 16 or BI above banks". Answers the edition and the
-/// bound.
-pub fn bound(table: &[u8], bi: u8, bc: u8) -> Result<(u16, u64), Refusal> {
-    let table = read_table(table)?;
+/// Numbers 1, 2, 10 and 4: "the bound gives 4, position 0, for BI or BC outside 1 to 16 or BI above banks". Answers the edition and
+/// the bound.
+pub fn bound(expected: u16, table: &[u8], bi: u8, bc: u8) -> Result<(u16, u64), Refusal> {
+    let table = admit(expected, table)?;
     Ok((table[EDITION], scheduler::bound(&table, bi, bc)?))
 }
 
-/// Numbers 1 and 2. Answers the edition, and hands over a fresh controller: of edition 0 when it refuses.
-pub fn start(table: &[u8]) -> (Result<u16, Refusal>, Controller) {
-    match read_table(table) {
+/// Numbers 1, 2 and 10. Answers the edition, and hands over a fresh controller: of edition 0 when it refuses.
+pub fn start(expected: u16, table: &[u8]) -> (Result<u16, Refusal>, Controller) {
+    match admit(expected, table) {
         Ok(table) => (Ok(table[EDITION]), Controller::fresh(&table)),
         Err(refusal) => (Err(refusal), Controller::fresh(&[0; 16])),
     }
@@ -123,15 +145,16 @@ pub struct Ran {
     pub cycles: u32,
 }
 
-/// Numbers 1, 2, 3, 4, 5 and 9. "The host lends its running controller and has it stepped where it lies."
+/// Numbers 1, 2, 10, 3, 4, 5 and 9. "The host lends its running controller and has it stepped where it lies."
 pub fn run(
     controller: &mut Controller,
+    expected: u16,
     table: &[u8],
     list: &[Transaction],
     count: u32,
     room: &mut [u8],
 ) -> Result<Ran, Refusal> {
-    let table = read_table(table)?;
+    let table = admit(expected, table)?;
     let run = scheduler::run(controller, &table, list, count, room.len())?;
     write_commands(&run.commands, room);
     *controller = run.state;
@@ -145,31 +168,34 @@ pub fn run(
 /// The same from the transactions' bytes.
 pub fn run_bytes(
     controller: &mut Controller,
+    expected: u16,
     table: &[u8],
     bytes: &[u8],
     count: u32,
     room: &mut [u8],
 ) -> Result<Ran, Refusal> {
-    let list = scheduler::decode(&read_table(table)?, bytes)?;
-    run(controller, table, &list, count, room)
+    let list = scheduler::decode(&admit(expected, table)?, bytes)?;
+    run(controller, expected, table, &list, count, room)
 }
 
 /// One cycle.
 pub fn step(
     controller: &mut Controller,
+    expected: u16,
     table: &[u8],
     list: &[Transaction],
     room: &mut [u8],
 ) -> Result<Ran, Refusal> {
-    run(controller, table, list, 1, room)
+    run(controller, expected, table, list, 1, room)
 }
 
 /// The same from the transactions' bytes.
 pub fn step_bytes(
     controller: &mut Controller,
+    expected: u16,
     table: &[u8],
     bytes: &[u8],
     room: &mut [u8],
 ) -> Result<Ran, Refusal> {
-    run_bytes(controller, table, bytes, 1, room)
+    run_bytes(controller, expected, table, bytes, 1, room)
 }

@@ -1,4 +1,5 @@
-//! The example files: a table and transactions as the listing reads them, with a text beside each that says what it holds.
+//! The example files: an expected edition, a table and transactions as the listing reads them, with a text beside each that says what
+//! it holds.
 
 mod text;
 
@@ -13,6 +14,7 @@ pub struct Example {
     pub name: &'static str,
     /// What it is there for.
     title: &'static str,
+    expected: u16,
     /// The table's name, and what sets it apart.
     table_title: &'static str,
     table: Table,
@@ -22,7 +24,8 @@ pub struct Example {
 impl Example {
     /// The file itself.
     pub fn bytes(&self) -> Vec<u8> {
-        [bytes_of(&self.table), self.list.concat()].concat()
+        let expected = self.expected.to_le_bytes();
+        [&expected[..], &bytes_of(&self.table), &self.list.concat()].concat()
     }
 }
 
@@ -42,6 +45,7 @@ pub fn all() -> Vec<Example> {
     let of_a = |name, title, list: &[[u8; 4]]| Example {
         name,
         title,
+        expected: 7,
         table_title: "house table A",
         table: TABLE_A,
         list: list.to_vec(),
@@ -92,6 +96,7 @@ pub fn all() -> Vec<Example> {
         Example {
             name: "bad-table",
             title: "example 3 with CCD 1, which is below 2",
+            expected: 7,
             table_title: "house table A with CCD 1",
             table: with(&[(CCD, 1)]),
             list: vec![WRITE, READ],
@@ -101,6 +106,14 @@ pub fn all() -> Vec<Example> {
             "start 7, BI 1, which fits in 8 banks, and start 7, BI 2, which doesn't",
             &[[0, 7, 1, 1], [0, 7, 2, 1]],
         ),
+        Example {
+            expected: 8,
+            ..of_a(
+                "other-edition",
+                "example 3 for a caller who expects edition 8, where the table's is 7",
+                &[WRITE, READ],
+            )
+        },
     ]
 }
 
@@ -142,6 +155,19 @@ mod tests {
         }
     }
 
+    /// The listing program is run on it.
+    #[test]
+    fn example_3_is_stored_with_the_program() {
+        let folder = Path::new(env!("CARGO_MANIFEST_DIR")).join("../crates/listing");
+        let stored = |name| fs::read(folder.join(name)).expect("it's stored");
+        let example = all()
+            .into_iter()
+            .find(|example| example.name == "example-3");
+        let bytes = example.expect("it's an example").bytes();
+        assert!(stored("stdin") == bytes);
+        assert!(stored("stdout") == listing(&bytes).as_bytes());
+    }
+
     /// "Example 3 prints, whole."
     #[test]
     fn the_listing_of_example_3() {
@@ -154,6 +180,7 @@ mod tests {
         assert_eq!(of("too-long"), "refused 5 at 0 edition 7\n");
         assert_eq!(of("bad-table"), "refused 2 at 0 edition 0\n");
         assert_eq!(of("bad-transaction"), "refused 4 at 1 edition 7\n");
+        assert_eq!(of("other-edition"), "refused 10 at 7 edition 7\n");
     }
 
     #[test]

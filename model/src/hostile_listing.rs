@@ -1,6 +1,7 @@
 //! Inputs of the listing program, good and hostile, and what it must print for each.
 
 mod accepted;
+mod editions;
 mod refused;
 
 use std::fs;
@@ -26,12 +27,22 @@ impl Cases {
         self.inputs.push(input.to_vec());
     }
 
+    /// A table's bytes and more, or what stands for them, behind the edition that they begin with; behind 7 where there is none.
+    fn own(&mut self, input: &[u8]) {
+        let edition = input.first_chunk().map_or(7, |e| u16::from_le_bytes(*e));
+        self.expecting(edition, input);
+    }
+
+    fn expecting(&mut self, expected: u16, input: &[u8]) {
+        self.put(&[&expected.to_le_bytes(), input].concat());
+    }
+
     fn list(&mut self, table: &Table, list: &[[u8; 4]]) {
         self.bytes(table, &list.concat());
     }
 
     fn bytes(&mut self, table: &Table, bytes: &[u8]) {
-        self.put(&[&bytes_of(table), bytes].concat());
+        self.own(&[&bytes_of(table), bytes].concat());
     }
 }
 
@@ -46,6 +57,7 @@ fn cases() -> Cases {
     };
     accepted::put(&mut cases);
     refused::put(&mut cases);
+    editions::put(&mut cases);
     cases
 }
 
@@ -75,12 +87,12 @@ mod tests {
         let inputs = cases().inputs;
         assert!((300..1000).contains(&inputs.len()));
         let longest = inputs.iter().map(Vec::len).max();
-        assert_eq!(longest, Some(200_000));
+        assert_eq!(longest, Some(200_002));
         let printed: Vec<String> = inputs.iter().map(|input| listing(input)).collect();
         let starting = |start: &str| printed.iter().filter(|out| out.starts_with(start)).count();
-        for number in 1..=9 {
+        for number in 1..=10 {
             let met = starting(&format!("refused {number} at ")) > 0;
-            assert_eq!(met, number <= 5, "{number}");
+            assert_eq!(met, number <= 5 || number == 10, "{number}");
         }
         assert!(starting("refused") > 200 && starting("edition") > 200);
         assert!(starting("edition 7 commands 8192\n") > 0);

@@ -1,7 +1,7 @@
 //! The house tables, tables in which one number outgrows the others, and what else the cases are made from.
 
 use crate::desk::schedule_bytes;
-use crate::records::Table;
+use crate::records::{Table, EDITION};
 
 pub const RC: usize = 7;
 pub const FAW: usize = 9;
@@ -34,6 +34,24 @@ pub const ODD: [Table; 12] = [
     [
         311, 13, 5, 11, 13, 17, 19, 23, 29, 31, 37, 41, 43, 47, 53, 0,
     ],
+];
+
+/// A table's edition and an expected one that differs: 0, a neighbour, the two bytes swapped, one of them alike, the least and the
+/// greatest.
+pub const OTHER_EDITIONS: [(u16, u16); 13] = [
+    (7, 8),
+    (7, 0),
+    (7, 0x0700),
+    (7, 0x0107),
+    (0x012c, 0x2c01),
+    (65535, 0),
+    (0x012c, 0x002c),
+    (0x012c, 0x0100),
+    (7, 6),
+    (1, 65535),
+    (256, 0),
+    (256, 1),
+    (65535, 65534),
 ];
 
 /// Table A with some numbers changed.
@@ -70,7 +88,8 @@ pub fn room_for(list: &[[u8; 4]]) -> usize {
 pub fn built(table: &Table, list: &[[u8; 4]]) -> (Vec<u8>, Vec<u32>) {
     let mut room = vec![0; room_for(list)];
     let mut finishes = vec![0; list.len()];
-    schedule_bytes(&bytes_of(table), &list.concat(), &mut room, &mut finishes)
+    let (edition, bytes) = (table[EDITION], list.concat());
+    schedule_bytes(edition, &bytes_of(table), &bytes, &mut room, &mut finishes)
         .expect("the list is accepted");
     (room, finishes)
 }

@@ -1,4 +1,5 @@
-//! What document 01 says, once more in plain Rust and from the paper alone, to hold the proved programs against.
+//! What document 01 and the customer's requests say, once more in plain Rust and from the papers alone, to hold the proved programs
+//! against.
 //!
 //! The public calls are in `desk`, and the house tables in `house`. What the calls rest on is in `records`, `rules` and `scheduler`;
 //! the other modules make the stored cases of the programs, the example files, and what must be printed for each.

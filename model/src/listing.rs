@@ -1,4 +1,5 @@
-//! "The listing program reads standard input, table first and transactions after, with 64 KiB of command room."
+//! "The listing program reads standard input, table first and transactions after, with 64 KiB of command room." It takes the expected
+//! edition "as two bytes before the table".
 
 use std::fmt::Write;
 
@@ -8,14 +9,29 @@ use crate::scheduler::MOST_TRANSACTIONS;
 /// "64 KiB of command room", in bytes.
 pub const ROOM: usize = 65_536;
 
-/// The first 32 bytes are the table, or all where there are fewer; the rest are the transactions.
 pub fn listing(input: &[u8]) -> String {
-    let (table, list) = input.split_at(input.len().min(32));
-    schedule_lines(table, list, ROOM, MOST_TRANSACTIONS).unwrap_or_else(|r| format!("{r}\n"))
+    lines(input).unwrap_or_else(|r| format!("{r}\n"))
+}
+
+/// "Fewer than two get number 1." After them the first 32 bytes are the table, or all where there are fewer; the rest are the
+/// transactions.
+fn lines(input: &[u8]) -> Result<String, Refusal> {
+    if input.len() < 2 {
+        return Err(Refusal {
+            number: 1,
+            position: 0,
+            edition: 0,
+        });
+    }
+    let expected = u16::from_le_bytes([input[0], input[1]]);
+    let rest = &input[2..];
+    let (table, list) = rest.split_at(rest.len().min(32));
+    schedule_lines(expected, table, list, ROOM, MOST_TRANSACTIONS)
 }
 
 /// The lines of a schedule built into so much room, with so many places for finishing cycles.
 pub fn schedule_lines(
+    expected: u16,
     table: &[u8],
     list: &[u8],
     room: usize,
@@ -23,7 +39,7 @@ pub fn schedule_lines(
 ) -> Result<String, Refusal> {
     let mut commands = vec![0; room];
     let mut finishes = vec![0; slots];
-    let told = schedule_bytes(table, list, &mut commands, &mut finishes)?;
+    let told = schedule_bytes(expected, table, list, &mut commands, &mut finishes)?;
     let (edition, count) = (told.edition, told.commands);
     let mut out = format!("edition {edition} commands {count}\n");
     out.push_str(&command_lines(&commands, count));
@@ -47,4 +63,34 @@ pub fn command_lines(room: &[u8], count: u32) -> String {
         format!("{} {kind} {} {}\n", c.cycle, c.bank, c.transaction)
     };
     commands(room, count).iter().map(line).collect()
+}
+
+#[cfg(test)]
+mod tests {
+    use super::*;
+    use crate::house::*;
+    use crate::records::CCD;
+
+    /// "Fewer than two get number 1", and so does a table that is cut short; then 2, 10, and the others.
+    #[test]
+    fn the_order_of_the_refusals() {
+        let a = bytes_of(&TABLE_A);
+        let ccd_1 = bytes_of(&with(&[(CCD, 1)]));
+        let faulty = [&a[..], &[9]].concat();
+        for (expected, rest, told) in [
+            (&[][..], &[][..], "refused 1 at 0 edition 0\n"),
+            (&[7], &[], "refused 1 at 0 edition 0\n"),
+            (&[7, 0], &[], "refused 1 at 0 edition 0\n"),
+            (&[8, 0], &a[..31], "refused 1 at 0 edition 0\n"),
+            (&[8, 0], &ccd_1, "refused 2 at 0 edition 0\n"),
+            (&[0, 0], &ccd_1, "refused 2 at 0 edition 0\n"),
+            (&[8, 0], &faulty, "refused 10 at 7 edition 7\n"),
+            (&[0, 0], &a, "refused 10 at 7 edition 7\n"),
+            (&[0, 7], &a, "refused 10 at 7 edition 7\n"),
+            (&[7, 0], &faulty, "refused 3 at 0 edition 7\n"),
+            (&[7, 0], &a, "edition 7 commands 0\n"),
+        ] {
+            assert_eq!(listing(&[expected, rest].concat()), told);
+        }
+    }
 }

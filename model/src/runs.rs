@@ -1,10 +1,11 @@
 //! The cases of the program `runs`, and the lines of each.
 //!
-//! A case is `[call][table: 32 bytes]` and then, for call 1, a build, `[room: u16][slots: u16][n: u16][n bytes]`; for call 2, a run,
-//! `[count: u32][room: u16][state: 246 bytes][n: u16][n bytes]`; for call 3, a bound, `[BI][BC]`. The rooms are in bytes, the n bytes
-//! are the transactions. A case of any other call has no end, so nothing after it is read.
+//! A case is `[call][expected: u16][table: 32 bytes]` and then, for call 1, a build, `[room: u16][slots: u16][n: u16][n bytes]`; for
+//! call 2, a run, `[count: u32][room: u16][state: 246 bytes][n: u16][n bytes]`; for call 3, a bound, `[BI][BC]`. The rooms are in
+//! bytes, the n bytes are the transactions. A case of any other call has no end, so nothing after it is read.
 
 mod cases;
+mod editions;
 mod states;
 
 pub use cases::cases;
@@ -91,23 +92,24 @@ impl<'a> Bytes<'a> {
 /// The call's name, and the rest of its first line with all that follow, or its refusal. None for no call and for a case cut short.
 fn case_lines(rest: &mut Bytes) -> Option<(&'static str, Result<String, Refusal>)> {
     let call = rest.u8()?;
+    let expected = rest.u16()?;
     let table = rest.take(32)?;
     match call {
         BUILD => {
             let (room, slots) = (rest.u16()?.into(), rest.u16()?.into());
             let list = rest.list()?;
-            Some(("build", schedule_lines(table, list, room, slots)))
+            Some(("build", schedule_lines(expected, table, list, room, slots)))
         }
         RUN => {
             let (count, room) = (rest.u32()?, rest.u16()?.into());
             let state = rest.state()?;
             let list = rest.list()?;
-            Some(("run", run_lines(state, table, list, count, room)))
+            Some(("run", run_lines(state, expected, table, list, count, room)))
         }
         BOUND => {
             let (bi, bc) = (rest.u8()?, rest.u8()?);
             let line = |(edition, cycles)| format!("edition {edition} {cycles}\n");
-            Some(("bound", bound(table, bi, bc).map(line)))
+            Some(("bound", bound(expected, table, bi, bc).map(line)))
         }
         _ => None,
     }
@@ -116,13 +118,14 @@ fn case_lines(rest: &mut Bytes) -> Option<(&'static str, Result<String, Refusal>
 /// The controller's numbers stand in the last line, in the order of its bytes.
 fn run_lines(
     mut s: Controller,
+    expected: u16,
     table: &[u8],
     list: &[u8],
     count: u32,
     room: usize,
 ) -> Result<String, Refusal> {
     let mut commands = vec![0; room];
-    let told = run_bytes(&mut s, table, list, count, &mut commands)?;
+    let told = run_bytes(&mut s, expected, table, list, count, &mut commands)?;
     let (edition, count, cycles) = (told.edition, told.commands, told.cycles);
     let mut out = format!("edition {edition} commands {count} cycles {cycles}\n");
     out.push_str(&command_lines(&commands, count));
@@ -140,11 +143,17 @@ fn run_lines(
 mod tests {
     use super::*;
     use crate::house::*;
+    use crate::records::EDITION;
 
     /// What the paper prints for example 3.
     #[test]
     fn the_listing() {
-        let head = [&[BUILD][..], &bytes_of(&TABLE_A), &[32, 0, 2, 0, 8, 0]].concat();
+        let head = [
+            &[BUILD, 7, 0][..],
+            &bytes_of(&TABLE_A),
+            &[32, 0, 2, 0, 8, 0],
+        ]
+        .concat();
         let lists = lines(&[&head[..], &[1, 0, 1, 1, 0, 0, 1, 1]].concat());
         let told = "build edition 7 commands 4\n0 ACT 0 0\n10 WRA 0 0\n44 ACT 0 1\n54 RDA 0 1\nfinish 0 10\nfinish 1 54\n";
         assert_eq!(lists, told);
@@ -152,18 +161,44 @@ mod tests {
         assert_eq!(lines(&[&[4], &head[..]].concat()), "case\n");
     }
 
+    /// Exactly where the table is accepted and its edition is not the expected one.
+    #[test]
+    fn number_10() {
+        let input = cases();
+        let mut rest = Bytes(&input);
+        let mut told = [0; 4];
+        loop {
+            let mut head = Bytes(rest.0);
+            let answer = match case_lines(&mut rest) {
+                Some((_, answer)) => answer,
+                None => break,
+            };
+            let (call, expected) = (head.u8().unwrap(), head.u16().unwrap());
+            let edition = read_table(head.take(32).unwrap()).map_or(expected, |t| t[EDITION]);
+            let differ = edition != expected;
+            let refusal = Refusal {
+                number: 10,
+                position: edition.into(),
+                edition,
+            };
+            assert_eq!(answer == Err(refusal), differ);
+            told[usize::from(call)] += usize::from(differ);
+        }
+        assert!(told[1..].iter().all(|&count| count > 10), "{told:?}");
+    }
+
     #[test]
     fn every_refusal() {
         let input = cases();
-        assert!(input.len() < 65_000);
+        assert!(input.len() < 65_536);
         let told = lines(&input);
         assert!(told.ends_with("\ncase\n"));
         for (name, numbers) in [
-            ("build", &[1, 2, 3, 4, 5, 6][..]),
-            ("run", &[1, 2, 3, 4, 5, 9]),
-            ("bound", &[1, 2, 4]),
+            ("build", &[1, 2, 3, 4, 5, 6, 10][..]),
+            ("run", &[1, 2, 3, 4, 5, 9, 10]),
+            ("bound", &[1, 2, 4, 10]),
         ] {
-            for number in 1..=9 {
+            for number in 1..=10 {
                 let start = format!("\n{name} refused {number} at ");
                 assert_eq!(told.contains(&start), numbers.contains(&number), "{start}");
             }

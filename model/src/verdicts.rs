@@ -1,10 +1,11 @@
 //! The cases of the program `verdicts`, and the line of each.
 //!
-//! A case is `[call][table: 32 bytes][length: u32][n: u16][n bytes]`. Call 1 judges the bytes as a schedule and has no use for the
-//! length, call 2 judges them as a pattern of that length.
+//! A case is `[call][expected: u16][table: 32 bytes][length: u32][n: u16][n bytes]`. Call 1 judges the bytes as a schedule and has no
+//! use for the length, call 2 judges them as a pattern of that length.
 
 mod broken;
 mod cases;
+mod editions;
 mod search;
 
 pub use cases::cases;
@@ -17,6 +18,7 @@ const JUDGE_PATTERN: u8 = 2;
 
 struct Case<'a> {
     call: u8,
+    expected: u16,
     table: &'a [u8],
     length: u32,
     bytes: &'a [u8],
@@ -43,6 +45,7 @@ pub fn lines(input: &[u8]) -> String {
 /// The first case and what follows it, unless the input is cut short within the case.
 fn first_case(input: &[u8]) -> Option<(Case<'_>, &[u8])> {
     let (call, rest) = input.split_first()?;
+    let (expected, rest) = split(rest, 2)?;
     let (table, rest) = split(rest, 32)?;
     let (length, rest) = split(rest, 4)?;
     let (n, rest) = split(rest, 2)?;
@@ -50,6 +53,7 @@ fn first_case(input: &[u8]) -> Option<(Case<'_>, &[u8])> {
     let (bytes, after) = split(rest, n.into())?;
     let case = Case {
         call: *call,
+        expected: u16::from_le_bytes(expected.try_into().ok()?),
         table,
         length: u32::from_le_bytes(length.try_into().ok()?),
         bytes,
@@ -66,7 +70,7 @@ fn line(case: &Case) -> String {
 }
 
 fn schedule_line(case: &Case) -> Result<String, Refusal> {
-    let (edition, verdict) = judge(case.table, case.bytes)?;
+    let (edition, verdict) = judge(case.expected, case.table, case.bytes)?;
     let verdict = match verdict {
         Verdict::Accepted => "accepted".to_string(),
         Verdict::Broken { rule, record } => format!("rule {rule} record {record}"),
@@ -75,7 +79,7 @@ fn schedule_line(case: &Case) -> Result<String, Refusal> {
 }
 
 fn pattern_line(case: &Case) -> Result<String, Refusal> {
-    let (edition, verdict) = judge_pattern(case.table, case.bytes, case.length)?;
+    let (edition, verdict) = judge_pattern(case.expected, case.table, case.bytes, case.length)?;
     let verdict = match verdict {
         PatternVerdict::Accepted => "accepted".to_string(),
         PatternVerdict::Broken { rule, copy, record } => {
@@ -95,12 +99,14 @@ fn told(name: &str, answer: Result<String, Refusal>) -> String {
 #[cfg(test)]
 mod tests {
     use super::*;
+    use crate::desk::read_table;
+    use crate::records::EDITION;
     use std::collections::BTreeSet;
 
     /// Each case with its line.
     fn all() -> Vec<(u8, usize, String)> {
         let input = cases();
-        assert!(input.len() < 65_000);
+        assert!(input.len() < 65_536);
         let mut all = Vec::new();
         let mut rest = &input[..];
         while let Some((case, after)) = first_case(rest) {
@@ -109,6 +115,25 @@ mod tests {
         }
         assert_eq!(lines(rest), "case\n");
         all
+    }
+
+    /// Exactly where the table is accepted and its edition is not the expected one.
+    #[test]
+    fn number_10() {
+        let input = cases();
+        let mut told = [0; 3];
+        let mut rest = &input[..];
+        while let Some((case, after)) = first_case(rest) {
+            let edition = read_table(case.table).map_or(case.expected, |t| t[EDITION]);
+            let differ = edition != case.expected;
+            let end = format!(" refused 10 at {edition} edition {edition}");
+            assert_eq!(line(&case).ends_with(&end), differ);
+            if differ {
+                told[usize::from(case.call)] += 1;
+            }
+            rest = after;
+        }
+        assert!(told[0] == 0 && told[1] > 15 && told[2] > 15, "{told:?}");
     }
 
     /// The numbers in a line's words, the edition left out.

@@ -8,6 +8,7 @@ use mathlib.Core.List.{List, [], _∷_}
 use native.Mathlib.Omega.{arith}
 use lib.Dec.{eqb, leb}
 use lib.ListN.{length}
+use borrow.Author.Tests.{eqb-false}
 use Rattle.records.specs.declared.table.Table.{Table}
 use Rattle.records.specs.declared.table.TableRead.{TableRead}
 use Rattle.records.specs.declared.table.TableRead.the-variants.{Read, Refused}
@@ -42,22 +43,22 @@ use Rattle.controller.specs.Controller.{tells}
 use Rattle.refusals.specs.Refused.{runRefusal}
 use Rattle.controller.specs.Run.{RunLeft, ranLeft, refusedLeft, runController}
 use Rattle.controller.proofs.Halves.{refused}
-use Rattle.desk.specs.Admit.{admitted}
+use Rattle.desk.specs.Admit.{expecting, admitted}
 use Rattle.desk.specs.Judging.{judging, PatternTold}
 use Rattle.desk.specs.Bounds.{bounding}
 use Rattle.desk.specs.Transactions.{reading}
 use Rattle.desk.specs.Schedules.{BuildsChecked, Schedules}
 use Rattle.desk.specs.Running.{starting, runsChecked, running}
 use Rattle.desk.specs.Named.{editionOf, judgedNames, patternNames, boundNames, readNames, buildNames, startNames, runNames}
-use Rattle.desk.specs.Demands.{Demand1}
-use Rattle.desk.proofs.Laws.{read-accepted}
+use Rattle.desk.specs.Demands.{NotAdmitted, Demand1}
+use Rattle.desk.proofs.Laws.{expected-read, read-accepted}
 
 -- ---- the table
 
 -- a table is refused by the first of numbers 1 and 2 that fails
-refused-by : (s : List ℕ) (x : Refusal) → admitted s ≡ Refused x → (x ≡ refusal 1 0 0) ⊎ (x ≡ refusal 2 0 0)
+read-refused : (s : List ℕ) (x : Refusal) → readTable s ≡ Refused x → (x ≡ refusal 1 0 0) ⊎ (x ≡ refusal 2 0 0)
 unfolding readTable
-refused-by s x r = on (not (eqb (length s) 32 && eqb (tableAt s .last) 0)) (not (inRange (tableAt s))) r
+read-refused s x r = on (not (eqb (length s) 32 && eqb (tableAt s .last) 0)) (not (inRange (tableAt s))) r
   where
     by : Bool → Bool → ℕ
     by one two = firstFailed ((1, one) ∷ (2, two) ∷ [])
@@ -68,16 +69,45 @@ refused-by s x r = on (not (eqb (length s) 32 && eqb (tableAt s .last) 0)) (not 
     on false true e = inr (cc)
     on false false e = let z : _≡_ {A = ℕ} 0 1 = cc in absurd (omega arith)
 
--- "Refusals 1 and 2 name edition 0"
-names-none : (s : List ℕ) (x : Refusal) → admitted s ≡ Refused x → x .edition ≡ 0
-names-none s x r = ⊎-elim (λ e. ap (λ (y : Refusal). y .edition) e) (λ e. ap (λ (y : Refusal). y .edition) e) (refused-by s x r)
+-- the three ways in which a table is not admitted
+refused-by : (e : ℕ) (s : List ℕ) (x : Refusal) → admitted e s ≡ Refused x → NotAdmitted e s x
+unfolding admitted
+refused-by e s x h = on (readTable s) refl h
+  where
+    other : (τ : Table) → readTable s ≡ Read τ → (b : Bool) → eqb (τ .edition) e ≡ b
+        → pick b (Read τ) (Refused (refusal 10 (τ .edition) (τ .edition))) ≡ Refused x → NotAdmitted e s x
+    other τ q true t h = let z : _≡_ {A = ℕ} 0 1 = cc in absurd (omega arith)
+    other τ q false t h = let w : refusal 10 (τ .edition) (τ .edition) ≡ x = cc in inr (τ, q, eqb-false (τ .edition) e t, sym w)
 
-admits : (s : List ℕ) (τ : Table) → admitted s ≡ Read τ → (length s ≡ 32) × (τ ≡ tableAt s) × Accepted τ
+    on : (a : TableRead) → readTable s ≡ a → expecting e a ≡ Refused x → NotAdmitted e s x
+    on (Read τ) q h = other τ q (eqb (τ .edition) e) refl h
+    on (Refused y) q h = inl (read-refused s x (q ∙ h))
+
+-- what a refusal by the table, or an answer, names: the table's own edition
+abbrev told : TableRead → ℕ
+told (Read τ) = τ .edition
+told (Refused x) = x .edition
+
+own : (e : ℕ) (s : List ℕ) → told (admitted e s) ≡ editionOf (readTable s)
+unfolding admitted
+own e s = on (readTable s) refl
+  where
+    same : (τ : Table) (b : Bool) → told (pick b (Read τ) (Refused (refusal 10 (τ .edition) (τ .edition)))) ≡ τ .edition
+    same τ true = refl
+    same τ false = refl
+
+    -- "Refusals 1 and 2 name edition 0"
+    on : (a : TableRead) → readTable s ≡ a → told (expecting e a) ≡ editionOf a
+    on (Read τ) q = same τ (eqb (τ .edition) e)
+    on (Refused x) q = ⊎-elim (λ k. ap (λ (y : Refusal). y .edition) k) (λ k. ap (λ (y : Refusal). y .edition) k) (read-refused s x q)
+
+admits : (e : ℕ) (s : List ℕ) (τ : Table) → admitted e s ≡ Read τ → (length s ≡ 32) × (τ ≡ tableAt s) × Accepted τ × (τ .edition ≡ e)
 unfolding readTable
-admits s τ r =
-    let w = read-was tableRefusal tableAt Read (λ n. Refused (refusal n 0 0)) s τ (λ n k. let y : _≡_ {A = ℕ} 0 1 = cc in omega arith) r in
-    let e : tableAt s ≡ τ = let k = w .1 in cc in
-    (table-size (length s) (tableAt s) (w .0), sym e, read-accepted s τ r)
+admits e s τ r =
+    let p = expected-read e s τ r in
+    let w = read-was tableRefusal tableAt Read (λ n. Refused (refusal n 0 0)) s τ (λ n k. let y : _≡_ {A = ℕ} 0 1 = cc in omega arith) (p .0) in
+    let q : tableAt s ≡ τ = let k = w .1 in cc in
+    (table-size (length s) (tableAt s) (w .0), sym q, read-accepted e s τ r, p .1)
 
 -- ---- the check of a list names the table's edition
 
@@ -143,43 +173,39 @@ module _ (c : Controller) (l : List Transaction) (n : ℕ) (b : List ℕ) (x : R
 
 -- ---- what each answer names, by what `admit` answered
 
--- where `admit` refused, it named edition 0
-abbrev NamesNone : TableRead → Type 0
-NamesNone a = (x : Refusal) → a ≡ Refused x → x .edition ≡ 0
-
 -- an answer and a refusal that name the same
 either : {A : Type 0} (names : A → ℕ) (b : Bool) (x y : A) (e : ℕ) → names x ≡ e → names y ≡ e → names (pick b x y) ≡ e
 either names true x y e p q = p
 either names false x y e p q = q
 
-judge-names : (a : TableRead) → NamesNone a → (s : List ℕ) → judgedNames (judging a s) ≡ editionOf a
+judge-names : (a : TableRead) → (s : List ℕ) → judgedNames (judging a s) ≡ told a
 unfolding judging judged
-judge-names (Read τ) h s =
+judge-names (Read τ) s =
     let z = scheduleRefusal (length s) in
     either judgedNames (eqb z 0) (Verdict (τ .edition) (judge τ (commandsIn s))) (NotJudged (refusal z 0 (τ .edition))) (τ .edition) refl refl
-judge-names (Refused x) h s = h x refl
+judge-names (Refused x) s = refl
 
-pattern-names : (a : TableRead) → NamesNone a → (s : List ℕ) (L : ℕ) (r : PatternJudged) → PatternTold a s L r → patternNames r ≡ editionOf a
+pattern-names : (a : TableRead) → (s : List ℕ) (L : ℕ) (r : PatternJudged) → PatternTold a s L r → patternNames r ≡ told a
 unfolding PatternTold
-pattern-names (Read τ) h s L (PatternVerdict e v) p = p .1
-pattern-names (Read τ) h s L (PatternNotJudged x) p = ap (λ (y : Refusal). y .edition) (p .1)
-pattern-names (Refused x) h s L r p = ap patternNames p ∙ h x refl
+pattern-names (Read τ) s L (PatternVerdict e v) p = p .1
+pattern-names (Read τ) s L (PatternNotJudged x) p = ap (λ (y : Refusal). y .edition) (p .1)
+pattern-names (Refused x) s L r p = ap patternNames p
 
-bound-names : (a : TableRead) → NamesNone a → (bi bc : ℕ) → boundNames (bounding a bi bc) ≡ editionOf a
+bound-names : (a : TableRead) → (bi bc : ℕ) → boundNames (bounding a bi bc) ≡ told a
 unfolding bounding boundTold
-bound-names (Read τ) h bi bc =
+bound-names (Read τ) bi bc =
     let z = boundRefusal (τ .banks) bi bc in
     either boundNames (eqb z 0) (Bound (τ .edition) (bound τ bi bc)) (NoBound (refusal z 0 (τ .edition))) (τ .edition) refl refl
-bound-names (Refused x) h bi bc = h x refl
+bound-names (Refused x) bi bc = refl
 
-read-names : (a : TableRead) → NamesNone a → (s : List ℕ) (l : List Transaction) → readNames (reading a s l .answer) ≡ editionOf a
+read-names : (a : TableRead) → (s : List ℕ) (l : List Transaction) → readNames (reading a s l .answer) ≡ told a
 unfolding reading decoding
-read-names (Read τ) h s l = on (checkInto τ s (length l)) (λ x. into-names τ x s (length l))
+read-names (Read τ) s l = on (checkInto τ s (length l)) (λ x. into-names τ x s (length l))
   where
     on : (c : Checked) → ((x : Refusal) → c ≡ NotFine x → x .edition ≡ τ .edition) → readNames (decodedBy c τ s l .answer) ≡ τ .edition
     on Fine n = refl
     on (NotFine x) n = n x refl
-read-names (Refused x) h s l = h x refl
+read-names (Refused x) s l = refl
 
 -- the check of the list names the table's edition where it refuses
 abbrev NamesIts : (Table → Checked) → Type 0
@@ -193,16 +219,16 @@ module _ (l : List Transaction) (b₀ b f₀ f : List ℕ) where
   builds-names τ Fine n (NotBuilt x) p = ap (λ (y : Refusal). y .edition) (p .1)
   builds-names τ (NotFine x) n r p = ap buildNames (p .0) ∙ n x refl
 
-  schedule-names : (check : Table → Checked) → NamesIts check → (a : TableRead) → NamesNone a
-      → (r : BuildAnswer) → Schedules check a l b₀ b f₀ f r → buildNames r ≡ editionOf a
+  schedule-names : (check : Table → Checked) → NamesIts check → (a : TableRead)
+      → (r : BuildAnswer) → Schedules check a l b₀ b f₀ f r → buildNames r ≡ told a
   unfolding Schedules
-  schedule-names check n (Read τ) h r p = builds-names τ (check τ) (n τ) r p
-  schedule-names check n (Refused x) h r p = ap buildNames (p .0) ∙ h x refl
+  schedule-names check n (Read τ) r p = builds-names τ (check τ) (n τ) r p
+  schedule-names check n (Refused x) r p = ap buildNames (p .0)
 
-start-names : (a : TableRead) → NamesNone a → startNames (starting a .answer) ≡ editionOf a
+start-names : (a : TableRead) → startNames (starting a .answer) ≡ told a
 unfolding starting
-start-names (Read τ) h = refl
-start-names (Refused x) h = h x refl
+start-names (Read τ) = refl
+start-names (Refused x) = refl
 
 module _ (c : Controller) (l : List Transaction) (n : ℕ) (b : List ℕ) where
   -- what a run's answer names
@@ -216,28 +242,30 @@ module _ (c : Controller) (l : List Transaction) (n : ℕ) (b : List ℕ) where
       either leftNames (eqb z 0) (ranLeft (τ .edition) (run n τ l (tells c) []) b) (refusedLeft (τ .edition) z c b) (τ .edition) refl refl
   runs-names τ (NotFine x) k = k x refl
 
-  run-names : (check : Table → Checked) → NamesIts check → (a : TableRead) → NamesNone a → leftNames (running check a c l n b) ≡ editionOf a
+  run-names : (check : Table → Checked) → NamesIts check → (a : TableRead) → leftNames (running check a c l n b) ≡ told a
   unfolding running
-  run-names check k (Read τ) h = runs-names τ (check τ) (k τ)
-  run-names check k (Refused x) h = h x refl
+  run-names check k (Read τ) = runs-names τ (check τ) (k τ)
+  run-names check k (Refused x) = refl
 
 -- ---- the demand
 
-pub demand-1 : (table : List ℕ) → Demand1 table
-demand-1 table =
+pub demand-1 : (expected : ℕ) (table : List ℕ) → Demand1 expected table
+demand-1 expected table =
+    let a = admitted expected table in
+    let e = own expected table in
     record {
-      refused = refused-by table;
-      admits = admits table;
-      unread = unread (admitted table);
-      unbuilt = λ check l b₀ b f₀ f x. unbuilt l b₀ b f₀ f x check (admitted table);
-      unrun = λ check c l n b x. unrun c l n b x check (admitted table);
-      judge = judge-names (admitted table) (names-none table);
-      pattern = pattern-names (admitted table) (names-none table);
-      bound = bound-names (admitted table) (names-none table);
-      read = read-names (admitted table) (names-none table);
-      schedule = λ l b₀ b f₀ f. schedule-names l b₀ b f₀ f (λ τ. checkList τ l) (λ τ x. list-names τ x l) (admitted table) (names-none table);
-      scheduleBytes = λ s b₀ b f₀ f. schedule-names (transactionsIn s) b₀ b f₀ f (λ τ. checkBytes τ s) (λ τ x. bytes-names τ x s) (admitted table) (names-none table);
-      start = start-names (admitted table) (names-none table);
-      run = λ c l n b. run-names c l n b (λ τ. checkList τ l) (λ τ x. list-names τ x l) (admitted table) (names-none table);
-      runBytes = λ c s n b. run-names c (transactionsIn s) n b (λ τ. checkBytes τ s) (λ τ x. bytes-names τ x s) (admitted table) (names-none table);
+      refused = refused-by expected table;
+      admits = admits expected table;
+      unread = unread a;
+      unbuilt = λ check l b₀ b f₀ f x. unbuilt l b₀ b f₀ f x check a;
+      unrun = λ check c l n b x. unrun c l n b x check a;
+      judge = λ s. judge-names a s ∙ e;
+      pattern = λ s L r p. pattern-names a s L r p ∙ e;
+      bound = λ bi bc. bound-names a bi bc ∙ e;
+      read = λ s l. read-names a s l ∙ e;
+      schedule = λ l b₀ b f₀ f r p. schedule-names l b₀ b f₀ f (λ τ. checkList τ l) (λ τ x. list-names τ x l) a r p ∙ e;
+      scheduleBytes = λ s b₀ b f₀ f r p. schedule-names (transactionsIn s) b₀ b f₀ f (λ τ. checkBytes τ s) (λ τ x. bytes-names τ x s) a r p ∙ e;
+      start = start-names a ∙ e;
+      run = λ c l n b. run-names c l n b (λ τ. checkList τ l) (λ τ x. list-names τ x l) a ∙ e;
+      runBytes = λ c s n b. run-names c (transactionsIn s) n b (λ τ. checkBytes τ s) (λ τ x. bytes-names τ x s) a ∙ e;
     }

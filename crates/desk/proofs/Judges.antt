@@ -88,8 +88,8 @@ module _ (τ : Table) (s : List ℕ) where
 
 -- ---- the demand
 
-pub demand-2 : (table : List ℕ) (τ : Table) → admitted table ≡ Read τ → Demand2 table τ
-demand-2 table τ read =
+pub demand-2 : (expected : ℕ) (table : List ℕ) (τ : Table) → admitted expected table ≡ Read τ → Demand2 expected table τ
+demand-2 expected table τ read =
     record {
       built = λ check l b₀ b f₀ f e n h.
           let k = stands τ l b₀ b f₀ f e n check (subst (λ (a : TableRead). Schedules check a l b₀ b f₀ f (Built e n)) read h) in

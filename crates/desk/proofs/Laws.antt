@@ -1,18 +1,19 @@
 -- What the calls below ask for, of a table that is admitted and a list that is checked; and each definition, by what the checks find.
 -- Assumes nothing.
 use Prim.Native.Nat.{ℕ, _*_, _/_, _%_, _≤_, _<_}
-use mathlib.Core.Bool.{not, _&&_}
+use mathlib.Core.Bool.{Bool, true, false, not, _&&_}
 use mathlib.Core.Path.{_≡_, refl, sym, ap, _∙_, subst}
 use mathlib.Core.List.{List, [], _∷_}
 use native.Mathlib.Omega.{arith}
 use lib.Dec.{eqb}
 use lib.ListN.{length, take, length-take}
-use borrow.Author.Tests.{not-false}
+use borrow.Author.Tests.{not-false, eqb-true}
 use Rattle.records.specs.declared.table.Table.{Table}
 use Rattle.records.specs.declared.table.TableRead.{TableRead}
 use Rattle.records.specs.declared.table.TableRead.the-variants.{Read, Refused}
 use Rattle.records.specs.declared.transaction.Transaction.{Transaction}
 use Rattle.records.specs.declared.refusal.Refusal.{Refusal}
+use Rattle.records.specs.Tests.{pick}
 use Rattle.records.specs.Told.{refusal}
 use Rattle.records.specs.Table.{tableAt, inRange, tableRefusal, readTable, Accepted}
 use Rattle.records.specs.Transaction.{transactionsIn}
@@ -33,15 +34,16 @@ use Rattle.controller.specs.declared.controller.Controller.{Controller}
 use Rattle.controller.specs.declared.run.RunTold.{RunTold}
 use Rattle.controller.specs.declared.run.RunAnswer.the-variants.{Refused as NotRun}
 use Rattle.controller.specs.Run.{RunLeft, runController, LeavesRun}
-use Rattle.desk.specs.Admit.{admitted, tooMany}
+use Rattle.desk.specs.Admit.{expects, expecting, admitted, tooMany}
 use Rattle.desk.specs.Schedules.{BuildsChecked, Schedules}
 use Rattle.desk.specs.Running.{runsChecked, running}
 
 -- ---- the table
 
-pub read-accepted : (s : List ℕ) (τ : Table) → admitted s ≡ Read τ → Accepted τ
+-- a table that is read is accepted
+accepted-read : (s : List ℕ) (τ : Table) → readTable s ≡ Read τ → Accepted τ
 unfolding readTable
-read-accepted s τ r =
+accepted-read s τ r =
     let w = read-was tableRefusal tableAt Read (λ n. Refused (refusal n 0 0)) s τ (λ n k. let y : _≡_ {A = ℕ} 0 1 = cc in omega arith) r in
     let e : tableAt s ≡ τ = let k = w .1 in cc in
     subst (λ (t : Table). Accepted t) e (taken (length s) (tableAt s) (w .0))
@@ -52,16 +54,41 @@ read-accepted s τ r =
         let q = passes 2 (not (inRange t)) [] (λ k. omega arith) (p .1) in
         rw (and-right (eqb size 32) (eqb (t .last) 0) (not-false _ (p .0)), not-false (inRange t) (q .0)) refl
 
--- a is what `admit` answered
-pub told-accepted : (s : List ℕ) (a : TableRead) (τ : Table) → a ≡ admitted s → a ≡ Read τ → Accepted τ
-told-accepted s a τ e t = read-accepted s τ (sym e ∙ t)
+-- a table that is admitted is read, and is of the expected edition
+pub expected-read : (e : ℕ) (s : List ℕ) (τ : Table) → admitted e s ≡ Read τ → (readTable s ≡ Read τ) × (τ .edition ≡ e)
+unfolding admitted
+expected-read e s τ h = on (readTable s) h
+  where
+    one : (t : Table) (b : Bool) → eqb (t .edition) e ≡ b → pick b (Read t) (Refused (refusal 10 (t .edition) (t .edition))) ≡ Read τ → (Read t ≡ Read τ) × (τ .edition ≡ e)
+    one t true q h = let k : t ≡ τ = cc in (h, ap (λ (z : Table). z .edition) (sym k) ∙ eqb-true (t .edition) e q)
+    one t false q h = let z : _≡_ {A = ℕ} 0 1 = cc in absurd (omega arith)
 
-pub told-banks : (s : List ℕ) (a : TableRead) (τ : Table) → a ≡ admitted s → a ≡ Read τ → τ .banks ≤ 16
-told-banks s a τ e t = ranges τ (told-accepted s a τ e t) .banks .most
+    on : (a : TableRead) → expecting e a ≡ Read τ → (a ≡ Read τ) × (τ .edition ≡ e)
+    on (Read t) h = one t (eqb (t .edition) e) refl h
+    on (Refused x) h = let z : _≡_ {A = ℕ} 0 1 = cc in absurd (omega arith)
+
+pub read-accepted : (e : ℕ) (s : List ℕ) (τ : Table) → admitted e s ≡ Read τ → Accepted τ
+read-accepted e s τ r = accepted-read s τ (expected-read e s τ r .0)
+
+-- by what `read_table` answered: a, of the table's bytes s
+pub admit-read : (e : ℕ) (s : List ℕ) (a : TableRead) (t : Table) (r : TableRead) → a ≡ readTable s → a ≡ Read t → r ≡ expects e t → r ≡ admitted e s
+unfolding admitted
+admit-read e s a t r q k h = h ∙ ap (expecting e) (sym k ∙ q)
+
+pub admit-refused : (e : ℕ) (s : List ℕ) (a : TableRead) (x : Refusal) → a ≡ readTable s → a ≡ Refused x → Refused x ≡ admitted e s
+unfolding admitted
+admit-refused e s a x q k = ap (expecting e) (sym k ∙ q)
+
+-- a is what `admit` answered
+pub told-accepted : (w : ℕ) (s : List ℕ) (a : TableRead) (τ : Table) → a ≡ admitted w s → a ≡ Read τ → Accepted τ
+told-accepted w s a τ e t = read-accepted w s τ (sym e ∙ t)
+
+pub told-banks : (w : ℕ) (s : List ℕ) (a : TableRead) (τ : Table) → a ≡ admitted w s → a ≡ Read τ → τ .banks ≤ 16
+told-banks w s a τ e t = ranges τ (told-accepted w s a τ e t) .banks .most
 
 -- what holds of one answer of `admit` holds of the table's bytes
-pub by-admitted : (P : TableRead → Type 0) (s : List ℕ) (a b : TableRead) → a ≡ admitted s → a ≡ b → P b → P (admitted s)
-by-admitted P s a b e t p = subst P (sym t ∙ e) p
+pub by-admitted : (P : TableRead → Type 0) (w : ℕ) (s : List ℕ) (a b : TableRead) → a ≡ admitted w s → a ≡ b → P b → P (admitted w s)
+by-admitted P w s a b e t p = subst P (sym t ∙ e) p
 
 -- ---- the list
 

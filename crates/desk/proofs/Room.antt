@@ -67,11 +67,11 @@ module _ (l : List Transaction) (b₀ b f₀ f : List ℕ) (e n : ℕ) where
   fits check (Read τ) h = checked (check τ) τ h
   fits check (Refused x) h = nothing x h
 
-pub built-room : (t s b₀ b f₀ f : List ℕ) (r : BuildAnswer) (e n : ℕ)
-    → Schedules (λ τ. checkBytes τ s) (admitted t) (transactionsIn s) b₀ b f₀ f r → r ≡ Built e n → (8 * n ≤ length b) × (length s / 4 ≤ length f)
-built-room t s b₀ b f₀ f r e n h p =
-    let z = fits (transactionsIn s) b₀ b f₀ f e n (λ τ. checkBytes τ s) (admitted t)
-    (subst (λ (a : BuildAnswer). Schedules (λ τ. checkBytes τ s) (admitted t) (transactionsIn s) b₀ b f₀ f a) p h) in
+pub built-room : (w : ℕ) (t s b₀ b f₀ f : List ℕ) (r : BuildAnswer) (e n : ℕ)
+    → Schedules (λ τ. checkBytes τ s) (admitted w t) (transactionsIn s) b₀ b f₀ f r → r ≡ Built e n → (8 * n ≤ length b) × (length s / 4 ≤ length f)
+built-room w t s b₀ b f₀ f r e n h p =
+    let z = fits (transactionsIn s) b₀ b f₀ f e n (λ τ. checkBytes τ s) (admitted w t)
+    (subst (λ (a : BuildAnswer). Schedules (λ τ. checkBytes τ s) (admitted w t) (transactionsIn s) b₀ b f₀ f a) p h) in
     (z .0, omega (arith, z .1, length-from s (length s / 4) 0))
 
 -- ---- a run
@@ -110,7 +110,7 @@ module _ (c : Controller) (l : List Transaction) (count : ℕ) (b₀ : List ℕ)
   holds check (Read τ) = ran-checked (check τ) τ
   holds check (Refused y) = not-run y
 
-pub ran-room : (t : List ℕ) (check : Table → Checked) (c : Controller) (l : List Transaction) (count : ℕ) (b₀ : List ℕ) (r : RunTold) (b : List ℕ) (x : RunReport)
-    → LeavesRun (running check (admitted t) c l count b₀) r b → r .answer ≡ Ran x → 8 * x .commands ≤ length b
-ran-room t check c l count b₀ r b x h e =
-    rw (h .1) (holds c l count b₀ x check (admitted t) (sym (ap (λ (v : RunTold). v .answer) (h .0)) ∙ e))
+pub ran-room : (w : ℕ) (t : List ℕ) (check : Table → Checked) (c : Controller) (l : List Transaction) (count : ℕ) (b₀ : List ℕ) (r : RunTold) (b : List ℕ) (x : RunReport)
+    → LeavesRun (running check (admitted w t) c l count b₀) r b → r .answer ≡ Ran x → 8 * x .commands ≤ length b
+ran-room w t check c l count b₀ r b x h e =
+    rw (h .1) (holds c l count b₀ x check (admitted w t) (sym (ap (λ (v : RunTold). v .answer) (h .0)) ∙ e))

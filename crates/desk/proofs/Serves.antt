@@ -142,16 +142,16 @@ room-enough : (τ : Table) (l : List Transaction) (b₀ f₀ : List ℕ) → Roo
 room-enough τ l b₀ f₀ h =
     rw (le-ltb (length b₀) (8 * (length (actQueue τ l) + length (dataQueue τ l))) (h .commands), le-ltb (length f₀) (length l) (h .finishes))
 
-module _ (table : List ℕ) (τ : Table) (read : admitted table ≡ Read τ) (l : List Transaction) (fit : listFits τ l ≡ true)
+module _ (expected : ℕ) (table : List ℕ) (τ : Table) (read : admitted expected table ≡ Read τ) (l : List Transaction) (fit : listFits τ l ≡ true)
     (b₀ b f₀ f : List ℕ) (room : Room τ l b₀ f₀) where
   acc : Accepted τ
-  acc = read-accepted table τ read
+  acc = read-accepted expected table τ read
 
   -- what holds of the table read holds of its bytes
-  of-bytes : (P : TableRead → Type 0) → P (Read τ) → P (admitted table)
+  of-bytes : (P : TableRead → Type 0) → P (Read τ) → P (admitted expected table)
   of-bytes P p = subst P (sym read) p
 
-  serves : (r : BuildAnswer) → LeavesBuild τ l b₀ b f₀ f r → Demand3 table τ l b₀ b f₀ f r
+  serves : (r : BuildAnswer) → LeavesBuild τ l b₀ b f₀ f r → Demand3 expected table τ l b₀ b f₀ f r
   serves (NotBuilt x) h = absurd (h .0 (room-enough τ l b₀ f₀ room))
   serves (Built e n) h =
       let k = h .2 in
@@ -165,7 +165,7 @@ module _ (table : List ℕ) (τ : Table) (read : admitted table ≡ Read τ) (l 
         bytes = at;
         beyond = ap (drop (8 * length rs)) (k .buffer)
             ∙ (drop-at (bytesOfAll rs) (drop (length (bytesOfAll rs)) b₀) (8 * length rs) (length-bytes rs) ∙ ap (λ (m : ℕ). drop m b₀) (length-bytes rs));
-        passes = ap (judging (admitted table)) at
+        passes = ap (judging (admitted expected table)) at
             ∙ of-bytes (λ (a : TableRead). judging a (bytesOfAll rs) ≡ Verdict (τ .edition) Passed) (bytes-pass τ acc l fit rs q);
         finishes = finish-stands τ l rs f₀ f (k .finishes);
         later = finish-later τ l rs f₀ f (k .finishes);
@@ -184,17 +184,17 @@ fits-builds : (τ : Table) (l : List Transaction) → listFits τ l ≡ true →
 unfolding Schedules BuildsChecked
 fits-builds τ l fit b₀ b f₀ f r h = subst (λ (c : Checked). BuildsChecked c τ l b₀ b f₀ f r) (fits-fine τ l fit) h
 
-pub demand-3 : (table : List ℕ) (τ : Table) → admitted table ≡ Read τ → (l : List Transaction) → listFits τ l ≡ true → (b₀ b f₀ f : List ℕ) → Room τ l b₀ f₀
-    → (r : BuildAnswer) → Schedules (λ τ. checkList τ l) (admitted table) l b₀ b f₀ f r → Demand3 table τ l b₀ b f₀ f r
-demand-3 table τ read l fit b₀ b f₀ f room r h =
-    serves table τ read l fit b₀ b f₀ f room r
+pub demand-3 : (expected : ℕ) (table : List ℕ) (τ : Table) → admitted expected table ≡ Read τ → (l : List Transaction) → listFits τ l ≡ true → (b₀ b f₀ f : List ℕ) → Room τ l b₀ f₀
+    → (r : BuildAnswer) → Schedules (λ τ. checkList τ l) (admitted expected table) l b₀ b f₀ f r → Demand3 expected table τ l b₀ b f₀ f r
+demand-3 expected table τ read l fit b₀ b f₀ f room r h =
+    serves expected table τ read l fit b₀ b f₀ f room r
     (fits-builds τ l fit b₀ b f₀ f r (subst (λ (a : TableRead). Schedules (λ τ. checkList τ l) a l b₀ b f₀ f r) read h))
 
 -- the same of a list's bytes
-pub demand-3-bytes : (table : List ℕ) (τ : Table) → admitted table ≡ Read τ → (s : List ℕ) → length s % 4 ≡ 0 → listFits τ (transactionsIn s) ≡ true
+pub demand-3-bytes : (expected : ℕ) (table : List ℕ) (τ : Table) → admitted expected table ≡ Read τ → (s : List ℕ) → length s % 4 ≡ 0 → listFits τ (transactionsIn s) ≡ true
     → (b₀ b f₀ f : List ℕ) → Room τ (transactionsIn s) b₀ f₀
-    → (r : BuildAnswer) → Schedules (λ τ. checkBytes τ s) (admitted table) (transactionsIn s) b₀ b f₀ f r → Demand3 table τ (transactionsIn s) b₀ b f₀ f r
-demand-3-bytes table τ read s whole fit b₀ b f₀ f room r h =
-    demand-3 table τ read (transactionsIn s) fit b₀ b f₀ f room r
-    (schedules-same (λ τ. checkBytes τ s) (λ τ. checkList τ (transactionsIn s)) (admitted table) (transactionsIn s) (transactionsIn s) b₀ b f₀ f r
+    → (r : BuildAnswer) → Schedules (λ τ. checkBytes τ s) (admitted expected table) (transactionsIn s) b₀ b f₀ f r → Demand3 expected table τ (transactionsIn s) b₀ b f₀ f r
+demand-3-bytes expected table τ read s whole fit b₀ b f₀ f room r h =
+    demand-3 expected table τ read (transactionsIn s) fit b₀ b f₀ f room r
+    (schedules-same (λ τ. checkBytes τ s) (λ τ. checkList τ (transactionsIn s)) (admitted expected table) (transactionsIn s) (transactionsIn s) b₀ b f₀ f r
     (λ τ. bytes-list τ s whole) refl h)

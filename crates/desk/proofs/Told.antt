@@ -1,4 +1,4 @@
--- Each call's definition, by what `admit` answered: a, of the table's bytes s.
+-- Each call's definition, by what `admit` answered: a, of the expected edition w and the table's bytes s.
 -- Assumes nothing.
 use Prim.Native.Nat.{ℕ, _≤_}
 use mathlib.Core.Path.{_≡_, refl, subst}
@@ -47,74 +47,74 @@ use Rattle.desk.specs.Schedules.{BuildsChecked, Schedules}
 use Rattle.desk.specs.Running.{starting, runsChecked, running}
 use Rattle.desk.proofs.Laws.{by-admitted, by-checked, schedules-same, running-same}
 
-module _ (s : List ℕ) (a : TableRead) (e : a ≡ admitted s) where
+module _ (w : ℕ) (s : List ℕ) (a : TableRead) (e : a ≡ admitted w s) where
   module _ (τ : Table) (t : a ≡ Read τ) where
-    pub judge-read : (b : List ℕ) (r : Judged) → r ≡ judged τ b → r ≡ judging (admitted s) b
+    pub judge-read : (b : List ℕ) (r : Judged) → r ≡ judged τ b → r ≡ judging (admitted w s) b
     unfolding judging
-    judge-read b r h = by-admitted (λ (z : TableRead). r ≡ judging z b) s a (Read τ) e t h
+    judge-read b r h = by-admitted (λ (z : TableRead). r ≡ judging z b) w s a (Read τ) e t h
 
-    pub pattern-read : (b : List ℕ) (L : ℕ) (r : PatternJudged) → PatternAnswers τ b L r → PatternTold (admitted s) b L r
+    pub pattern-read : (b : List ℕ) (L : ℕ) (r : PatternJudged) → PatternAnswers τ b L r → PatternTold (admitted w s) b L r
     unfolding PatternTold
-    pattern-read b L r h = by-admitted (λ (z : TableRead). PatternTold z b L r) s a (Read τ) e t h
+    pattern-read b L r h = by-admitted (λ (z : TableRead). PatternTold z b L r) w s a (Read τ) e t h
 
-    pub bound-read : (bi bc : ℕ) (r : BoundAnswer) → r ≡ boundTold τ bi bc → r ≡ bounding (admitted s) bi bc
+    pub bound-read : (bi bc : ℕ) (r : BoundAnswer) → r ≡ boundTold τ bi bc → r ≡ bounding (admitted w s) bi bc
     unfolding bounding
-    bound-read bi bc r h = by-admitted (λ (z : TableRead). r ≡ bounding z bi bc) s a (Read τ) e t h
+    bound-read bi bc r h = by-admitted (λ (z : TableRead). r ≡ bounding z bi bc) w s a (Read τ) e t h
 
-    pub plan-read : (b : List ℕ) (places : ℕ) (r : Plan) → r ≡ plan τ b places → r ≡ readingPlan (admitted s) b places
+    pub plan-read : (b : List ℕ) (places : ℕ) (r : Plan) → r ≡ plan τ b places → r ≡ readingPlan (admitted w s) b places
     unfolding readingPlan
-    plan-read b places r h = by-admitted (λ (z : TableRead). r ≡ readingPlan z b places) s a (Read τ) e t h
+    plan-read b places r h = by-admitted (λ (z : TableRead). r ≡ readingPlan z b places) w s a (Read τ) e t h
 
-    pub many-read : (x : Refusal) → x ≡ refusal 3 0 (τ .edition) → x ≡ tooMany (admitted s)
-    many-read x h = by-admitted (λ (z : TableRead). x ≡ tooMany z) s a (Read τ) e t h
+    pub many-read : (x : Refusal) → x ≡ refusal 3 0 (τ .edition) → x ≡ tooMany (admitted w s)
+    many-read x h = by-admitted (λ (z : TableRead). x ≡ tooMany z) w s a (Read τ) e t h
 
-    pub start-read : (c : Controller) → c ≡ freshController τ → record { controller = c; answer = Started (τ .edition) } ≡ starting (admitted s)
+    pub start-read : (c : Controller) → c ≡ freshController τ → record { controller = c; answer = Started (τ .edition) } ≡ starting (admitted w s)
     unfolding starting
-    start-read c h = by-admitted (λ (z : TableRead). record { controller = c; answer = Started (τ .edition) } ≡ starting z) s a (Read τ) e t (rw h refl)
+    start-read c h = by-admitted (λ (z : TableRead). record { controller = c; answer = Started (τ .edition) } ≡ starting z) w s a (Read τ) e t (rw h refl)
 
     pub schedule-read : (check : Table → Checked) (l : List Transaction) (b₀ b f₀ f : List ℕ) (r : BuildAnswer) → BuildsChecked (check τ) τ l b₀ b f₀ f r
-        → Schedules check (admitted s) l b₀ b f₀ f r
+        → Schedules check (admitted w s) l b₀ b f₀ f r
     unfolding Schedules
-    schedule-read check l b₀ b f₀ f r h = by-admitted (λ (z : TableRead). Schedules check z l b₀ b f₀ f r) s a (Read τ) e t h
+    schedule-read check l b₀ b f₀ f r h = by-admitted (λ (z : TableRead). Schedules check z l b₀ b f₀ f r) w s a (Read τ) e t h
 
     pub run-read : (check : Table → Checked) (c : Controller) (l : List Transaction) (count : ℕ) (b₀ b : List ℕ) (r : RunTold)
-        → LeavesRun (runsChecked (check τ) c τ l count b₀) r b → LeavesRun (running check (admitted s) c l count b₀) r b
+        → LeavesRun (runsChecked (check τ) c τ l count b₀) r b → LeavesRun (running check (admitted w s) c l count b₀) r b
     unfolding running
-    run-read check c l count b₀ b r h = by-admitted (λ (z : TableRead). LeavesRun (running check z c l count b₀) r b) s a (Read τ) e t h
+    run-read check c l count b₀ b r h = by-admitted (λ (z : TableRead). LeavesRun (running check z c l count b₀) r b) w s a (Read τ) e t h
 
   module _ (x : Refusal) (t : a ≡ Refused x) where
-    pub judge-refused : (b : List ℕ) → NotJudged x ≡ judging (admitted s) b
+    pub judge-refused : (b : List ℕ) → NotJudged x ≡ judging (admitted w s) b
     unfolding judging
-    judge-refused b = by-admitted (λ (z : TableRead). NotJudged x ≡ judging z b) s a (Refused x) e t refl
+    judge-refused b = by-admitted (λ (z : TableRead). NotJudged x ≡ judging z b) w s a (Refused x) e t refl
 
-    pub pattern-refused : (b : List ℕ) (L : ℕ) → PatternTold (admitted s) b L (PatternNotJudged x)
+    pub pattern-refused : (b : List ℕ) (L : ℕ) → PatternTold (admitted w s) b L (PatternNotJudged x)
     unfolding PatternTold
-    pattern-refused b L = by-admitted (λ (z : TableRead). PatternTold z b L (PatternNotJudged x)) s a (Refused x) e t refl
+    pattern-refused b L = by-admitted (λ (z : TableRead). PatternTold z b L (PatternNotJudged x)) w s a (Refused x) e t refl
 
-    pub bound-refused : (bi bc : ℕ) → NoBound x ≡ bounding (admitted s) bi bc
+    pub bound-refused : (bi bc : ℕ) → NoBound x ≡ bounding (admitted w s) bi bc
     unfolding bounding
-    bound-refused bi bc = by-admitted (λ (z : TableRead). NoBound x ≡ bounding z bi bc) s a (Refused x) e t refl
+    bound-refused bi bc = by-admitted (λ (z : TableRead). NoBound x ≡ bounding z bi bc) w s a (Refused x) e t refl
 
-    pub plan-refused : (b : List ℕ) (places : ℕ) → record { n = 0; answer = NotDone x } ≡ readingPlan (admitted s) b places
+    pub plan-refused : (b : List ℕ) (places : ℕ) → record { n = 0; answer = NotDone x } ≡ readingPlan (admitted w s) b places
     unfolding readingPlan
-    plan-refused b places = by-admitted (λ (z : TableRead). record { n = 0; answer = NotDone x } ≡ readingPlan z b places) s a (Refused x) e t refl
+    plan-refused b places = by-admitted (λ (z : TableRead). record { n = 0; answer = NotDone x } ≡ readingPlan z b places) w s a (Refused x) e t refl
 
-    pub many-refused : x ≡ tooMany (admitted s)
-    many-refused = by-admitted (λ (z : TableRead). x ≡ tooMany z) s a (Refused x) e t refl
+    pub many-refused : x ≡ tooMany (admitted w s)
+    many-refused = by-admitted (λ (z : TableRead). x ≡ tooMany z) w s a (Refused x) e t refl
 
-    pub start-refused : (c : Controller) (n : Table) → n ≡ tableOf (replicate 16 0) → c ≡ freshController n → record { controller = c; answer = NotStarted x } ≡ starting (admitted s)
+    pub start-refused : (c : Controller) (n : Table) → n ≡ tableOf (replicate 16 0) → c ≡ freshController n → record { controller = c; answer = NotStarted x } ≡ starting (admitted w s)
     unfolding starting
-    start-refused c n k h = by-admitted (λ (z : TableRead). record { controller = c; answer = NotStarted x } ≡ starting z) s a (Refused x) e t (rw (h, k) refl)
+    start-refused c n k h = by-admitted (λ (z : TableRead). record { controller = c; answer = NotStarted x } ≡ starting z) w s a (Refused x) e t (rw (h, k) refl)
 
-    pub schedule-refused : (check : Table → Checked) (l : List Transaction) (b f : List ℕ) → Schedules check (admitted s) l b b f f (NotBuilt x)
+    pub schedule-refused : (check : Table → Checked) (l : List Transaction) (b f : List ℕ) → Schedules check (admitted w s) l b b f f (NotBuilt x)
     unfolding Schedules
-    schedule-refused check l b f = by-admitted (λ (z : TableRead). Schedules check z l b b f f (NotBuilt x)) s a (Refused x) e t (refl, refl, refl)
+    schedule-refused check l b f = by-admitted (λ (z : TableRead). Schedules check z l b b f f (NotBuilt x)) w s a (Refused x) e t (refl, refl, refl)
 
     pub run-refused : (check : Table → Checked) (c : Controller) (l : List Transaction) (count : ℕ) (b : List ℕ)
-        → LeavesRun (running check (admitted s) c l count b) (record { controller = c; answer = NotRun x }) b
+        → LeavesRun (running check (admitted w s) c l count b) (record { controller = c; answer = NotRun x }) b
     unfolding running
     run-refused check c l count b =
-        by-admitted (λ (z : TableRead). LeavesRun (running check z c l count b) (record { controller = c; answer = NotRun x }) b) s a (Refused x) e t (refl, refl)
+        by-admitted (λ (z : TableRead). LeavesRun (running check z c l count b) (record { controller = c; answer = NotRun x }) b) w s a (Refused x) e t (refl, refl)
 
 -- by what `check_bytes` answered: d, of the list's bytes s
 module _ (τ : Table) (s : List ℕ) (d : Checked) (e : d ≡ checkBytes τ s) where

@@ -59,25 +59,25 @@ module _ (l : List Transaction) (b₀ f₀ : List ℕ) (x y : BuildAnswer) (b d 
 
 -- ---- all of them
 
-pub only : (table : List ℕ) → Only table
-only table =
+pub only : (expected : ℕ) (table : List ℕ) → Only expected table
+only expected table =
     record {
-      judge = λ s. one-answer (judging (admitted table) s);
-      judgePattern = pattern-only (admitted table);
-      bound = λ bi bc. one-answer (bounding (admitted table) bi bc);
+      judge = λ s. one-answer (judging (admitted expected table) s);
+      judgePattern = pattern-only (admitted expected table);
+      bound = λ bi bc. one-answer (bounding (admitted expected table) bi bc);
       readTransactions = λ s l x y b d p q.
-          let w = reading (admitted table) s l in
+          let w = reading (admitted expected table) s l in
           (one-answer (w .answer) x y (p .0) (q .0), one-answer (w .list) b d (p .1) (q .1));
       schedule = λ l b₀ f₀ x y b d f g.
-          schedules-only l b₀ f₀ x y b d f g (λ τ. checkList τ l) (λ τ. fine-fits τ l) (admitted table) (read-accepted table);
+          schedules-only l b₀ f₀ x y b d f g (λ τ. checkList τ l) (λ τ. fine-fits τ l) (admitted expected table) (read-accepted expected table);
       scheduleBytes = λ s b₀ f₀ x y b d f g.
-          schedules-only (transactionsIn s) b₀ f₀ x y b d f g (λ τ. checkBytes τ s) (bytes-fit s) (admitted table) (read-accepted table);
-      start = one-answer (starting (admitted table));
+          schedules-only (transactionsIn s) b₀ f₀ x y b d f g (λ τ. checkBytes τ s) (bytes-fit s) (admitted expected table) (read-accepted expected table);
+      start = one-answer (starting (admitted expected table));
       run = λ c₀ l n b₀ x y c e b d p q.
-          let w = running (λ τ. checkList τ l) (admitted table) c₀ l n b₀ in
+          let w = running (λ τ. checkList τ l) (admitted expected table) c₀ l n b₀ in
           (one-answer (w .told .answer) x y (p .0) (q .0), one-answer (w .told .controller) c e (p .1) (q .1), one-answer (w .buffer) b d (p .2) (q .2));
       runBytes = λ c₀ s n b₀ x y b d p q.
-          let w = running (λ τ. checkBytes τ s) (admitted table) c₀ (transactionsIn s) n b₀ in
+          let w = running (λ τ. checkBytes τ s) (admitted expected table) c₀ (transactionsIn s) n b₀ in
           (one-answer (w .told) x y (p .0) (q .0), one-answer (w .buffer) b d (p .1) (q .1));
     }
   where

@@ -15,7 +15,7 @@ use Rattle.records.specs.declared.command.Command.{Command}
 use Rattle.records.specs.declared.refusal.Refusal.{Refusal}
 use Rattle.records.specs.Tests.{pick}
 use Rattle.records.specs.Told.{refusal}
-use Rattle.records.specs.Table.{tableAt, Accepted}
+use Rattle.records.specs.Table.{tableAt, readTable, Accepted}
 use Rattle.records.specs.Transaction.{transactionsIn}
 use Rattle.records.specs.Command.{commandsIn, bytesOfAll}
 use Rattle.rules.specs.declared.state.Stamp.the-variants.{At}
@@ -50,53 +50,59 @@ use Rattle.desk.specs.Schedules.{Schedules}
 use Rattle.desk.specs.Running.{starting, running}
 use Rattle.desk.specs.Named.{editionOf, judgedNames, patternNames, boundNames, readNames, buildNames, startNames, runNames}
 
+-- why a table is not admitted: its bytes are refused, or its edition is not the expected one
+abbrev pub NotAdmitted : ℕ → List ℕ → Refusal → Type 0
+NotAdmitted expected table x =
+    ((x ≡ refusal 1 0 0) ⊎ (x ≡ refusal 2 0 0))
+    ⊎ ((τ : Table) × (readTable table ≡ Read τ) × (τ .edition ≡ expected → ⊥) × (x ≡ refusal 10 (τ .edition) (τ .edition)))
+
 -- Demand 1: "Any bytes at all can be handed in" (no call requires anything), "A refused call writes no byte", "Every answer worked out from a
 -- table names that table's edition".
-pub record Demand1 (table : List ℕ) : Type 0 where
-  -- a table is refused by number 1 or 2, or it is the 32 bytes' own and accepted
-  pub refused : (x : Refusal) → admitted table ≡ Refused x → (x ≡ refusal 1 0 0) ⊎ (x ≡ refusal 2 0 0)
-  pub admits : (τ : Table) → admitted table ≡ Read τ → (length table ≡ 32) × (τ ≡ tableAt table) × Accepted τ
+pub record Demand1 (expected : ℕ) (table : List ℕ) : Type 0 where
+  -- a table is refused by number 1, 2 or 10, or it is the 32 bytes' own, accepted, and of the expected edition
+  pub refused : (x : Refusal) → admitted expected table ≡ Refused x → NotAdmitted expected table x
+  pub admits : (τ : Table) → admitted expected table ≡ Read τ → (length table ≡ 32) × (τ ≡ tableAt table) × Accepted τ × (τ .edition ≡ expected)
   -- no byte, no place of a run of records, and nothing of a controller changes; by either check of a list, of its records or of its bytes
-  pub unread : (s : List ℕ) (l : List Transaction) (x : Refusal) → reading (admitted table) s l .answer ≡ NotDone x → reading (admitted table) s l .list ≡ l
-  pub unbuilt : (check : Table → Checked) (l : List Transaction) (b₀ b f₀ f : List ℕ) (x : Refusal) → Schedules check (admitted table) l b₀ b f₀ f (NotBuilt x)
+  pub unread : (s : List ℕ) (l : List Transaction) (x : Refusal) → reading (admitted expected table) s l .answer ≡ NotDone x → reading (admitted expected table) s l .list ≡ l
+  pub unbuilt : (check : Table → Checked) (l : List Transaction) (b₀ b f₀ f : List ℕ) (x : Refusal) → Schedules check (admitted expected table) l b₀ b f₀ f (NotBuilt x)
       → (b ≡ b₀) × (f ≡ f₀)
   pub unrun : (check : Table → Checked) (c : Controller) (l : List Transaction) (n : ℕ) (b : List ℕ) (x : Refusal)
-      → running check (admitted table) c l n b .told .answer ≡ NotRun x
-      → (running check (admitted table) c l n b .told .controller ≡ c) × (running check (admitted table) c l n b .buffer ≡ b)
-  -- the edition, in every answer and every refusal
-  pub judge : (s : List ℕ) → judgedNames (judging (admitted table) s) ≡ editionOf (admitted table)
-  pub pattern : (s : List ℕ) (L : ℕ) (r : PatternJudged) → PatternTold (admitted table) s L r → patternNames r ≡ editionOf (admitted table)
-  pub bound : (bi bc : ℕ) → boundNames (bounding (admitted table) bi bc) ≡ editionOf (admitted table)
-  pub read : (s : List ℕ) (l : List Transaction) → readNames (reading (admitted table) s l .answer) ≡ editionOf (admitted table)
-  pub schedule : (l : List Transaction) (b₀ b f₀ f : List ℕ) (r : BuildAnswer) → Schedules (λ τ. checkList τ l) (admitted table) l b₀ b f₀ f r
-      → buildNames r ≡ editionOf (admitted table)
-  pub scheduleBytes : (s b₀ b f₀ f : List ℕ) (r : BuildAnswer) → Schedules (λ τ. checkBytes τ s) (admitted table) (transactionsIn s) b₀ b f₀ f r
-      → buildNames r ≡ editionOf (admitted table)
-  pub start : startNames (starting (admitted table) .answer) ≡ editionOf (admitted table)
+      → running check (admitted expected table) c l n b .told .answer ≡ NotRun x
+      → (running check (admitted expected table) c l n b .told .controller ≡ c) × (running check (admitted expected table) c l n b .buffer ≡ b)
+  -- the table's edition, in every answer and every refusal, whichever was expected
+  pub judge : (s : List ℕ) → judgedNames (judging (admitted expected table) s) ≡ editionOf (readTable table)
+  pub pattern : (s : List ℕ) (L : ℕ) (r : PatternJudged) → PatternTold (admitted expected table) s L r → patternNames r ≡ editionOf (readTable table)
+  pub bound : (bi bc : ℕ) → boundNames (bounding (admitted expected table) bi bc) ≡ editionOf (readTable table)
+  pub read : (s : List ℕ) (l : List Transaction) → readNames (reading (admitted expected table) s l .answer) ≡ editionOf (readTable table)
+  pub schedule : (l : List Transaction) (b₀ b f₀ f : List ℕ) (r : BuildAnswer) → Schedules (λ τ. checkList τ l) (admitted expected table) l b₀ b f₀ f r
+      → buildNames r ≡ editionOf (readTable table)
+  pub scheduleBytes : (s b₀ b f₀ f : List ℕ) (r : BuildAnswer) → Schedules (λ τ. checkBytes τ s) (admitted expected table) (transactionsIn s) b₀ b f₀ f r
+      → buildNames r ≡ editionOf (readTable table)
+  pub start : startNames (starting (admitted expected table) .answer) ≡ editionOf (readTable table)
   pub run : (c : Controller) (l : List Transaction) (n : ℕ) (b : List ℕ)
-      → runNames (running (λ τ. checkList τ l) (admitted table) c l n b .told .answer) ≡ editionOf (admitted table)
+      → runNames (running (λ τ. checkList τ l) (admitted expected table) c l n b .told .answer) ≡ editionOf (readTable table)
   pub runBytes : (c : Controller) (s : List ℕ) (n : ℕ) (b : List ℕ)
-      → runNames (running (λ τ. checkBytes τ s) (admitted table) c (transactionsIn s) n b .told .answer) ≡ editionOf (admitted table)
+      → runNames (running (λ τ. checkBytes τ s) (admitted expected table) c (transactionsIn s) n b .told .answer) ≡ editionOf (readTable table)
 
--- Demand 2, of a table that is admitted.
-pub record Demand2 (table : List ℕ) (τ : Table) : Type 0 where
+-- Demand 2, of a table that is admitted: "calls whose editions agree" (document 02, request 1).
+pub record Demand2 (expected : ℕ) (table : List ℕ) (τ : Table) : Type 0 where
   -- "The schedule built is exactly the one the cycle rule of document 01 gives", by either check of a list
-  pub built : (check : Table → Checked) (l : List Transaction) (b₀ b f₀ f : List ℕ) (e n : ℕ) → Schedules check (admitted table) l b₀ b f₀ f (Built e n)
+  pub built : (check : Table → Checked) (l : List Transaction) (b₀ b f₀ f : List ℕ) (e n : ℕ) → Schedules check (admitted expected table) l b₀ b f₀ f (Built e n)
       → (rs : List Command) × IsBuilt τ l rs × (n ≡ length rs) × (take (8 * n) b ≡ bytesOfAll rs)
   -- "The judge accepts a schedule exactly when every timing rule there holds, and otherwise names the first broken record and rule."
   pub accepts : (s : List ℕ) → scheduleRefusal (length s) ≡ 0
-      → (judging (admitted table) s ≡ Verdict (τ .edition) Passed)
+      → (judging (admitted expected table) s ≡ Verdict (τ .edition) Passed)
       ↔ (FineTo τ [] (commandsIn s) (length (commandsIn s)) × (allShut (τ .banks) (onto (commandsIn s) []) ≡ true))
-  pub names : (s : List ℕ) (e : ℕ) (x : Rule) (i : ℕ) → judging (admitted table) s ≡ Verdict e (Broken x i) → FirstBroken τ [] (commandsIn s) x i
+  pub names : (s : List ℕ) (e : ℕ) (x : Rule) (i : ℕ) → judging (admitted expected table) s ≡ Verdict e (Broken x i) → FirstBroken τ [] (commandsIn s) x i
   -- "It accepts a repeated pattern exactly when every number of copies, set end to end, is a legal schedule."
-  pub pattern : (s : List ℕ) (L : ℕ) (r : PatternJudged) → patternRefusal (length s) L ≡ 0 → PatternTold (admitted table) s L r
+  pub pattern : (s : List ℕ) (L : ℕ) (r : PatternJudged) → patternRefusal (length s) L ≡ 0 → PatternTold (admitted expected table) s L r
       → (r ≡ PatternVerdict (τ .edition) AllPassed) ↔ EveryNumberLegal τ L (commandsIn s)
   -- and a refusal names the lowest copy: fewer copies are accepted, and from that copy on all are refused alike
-  pub lowest : (s : List ℕ) (L e : ℕ) (x : Rule) (c i : ℕ) → PatternTold (admitted table) s L (PatternVerdict e (BrokenAt x c i))
+  pub lowest : (s : List ℕ) (L e : ℕ) (x : Rule) (c i : ℕ) → PatternTold (admitted expected table) s L (PatternVerdict e (BrokenAt x c i))
       → (n : ℕ) → copies τ L (commandsIn s) n ≡ pick (ltb n c) AllPassed (BrokenAt x c i)
 
 -- Demand 3: "For every accepted table and transaction list with room for the result". b and f are what the two buffers hold after the call.
-pub record Demand3 (table : List ℕ) (τ : Table) (l : List Transaction) (b₀ b f₀ f : List ℕ) (r : BuildAnswer) : Type 0 where
+pub record Demand3 (expected : ℕ) (table : List ℕ) (τ : Table) (l : List Transaction) (b₀ b f₀ f : List ℕ) (r : BuildAnswer) : Type 0 where
   pub schedule : List Command
   pub built : IsBuilt τ l schedule
   -- it is answered, it stands in the buffer, and all beyond it is as it stood
@@ -104,7 +110,7 @@ pub record Demand3 (table : List ℕ) (τ : Table) (l : List Transaction) (b₀ 
   pub bytes : take (8 * length schedule) b ≡ bytesOfAll schedule
   pub beyond : drop (8 * length schedule) b ≡ drop (8 * length schedule) b₀
   -- "the built schedule passes the judge": the call `judge`, on those bytes
-  pub passes : judging (admitted table) (take (8 * length schedule) b) ≡ Verdict (τ .edition) Passed
+  pub passes : judging (admitted expected table) (take (8 * length schedule) b) ≡ Verdict (τ .edition) Passed
   -- the finishing cycles stand in the slice, and all beyond them is as it stood
   pub finishes : (k : ℕ) (x : Transaction) → getElem? l k ≡ some x → getD f k 0 ≡ cycleOf (finish τ x k schedule)
   pub later : drop (length l) f ≡ drop (length l) f₀
@@ -114,7 +120,7 @@ pub record Demand3 (table : List ℕ) (τ : Table) (l : List Transaction) (b₀ 
   -- cycle 0)", which is what the call `bound` tells
   pub first : (x : Transaction) → getElem? l 0 ≡ some x → lastDataCycle 0 schedule ≤ bound τ (x .bi) (x .bc)
   pub next : (k : ℕ) (x : Transaction) → getElem? l (suc k) ≡ some x → lastDataCycle (suc k) schedule ≤ lastDataCycle k schedule + bound τ (x .bi) (x .bc)
-  pub told : (k : ℕ) (x : Transaction) → getElem? l k ≡ some x → bounding (admitted table) (x .bi) (x .bc) ≡ Bound (τ .edition) (bound τ (x .bi) (x .bc))
+  pub told : (k : ℕ) (x : Transaction) → getElem? l k ≡ some x → bounding (admitted expected table) (x .bi) (x .bc) ≡ Bound (τ .edition) (bound τ (x .bi) (x .bc))
   -- "Transactions added at the end move no command of the earlier ones by a cycle": the schedule of the first j alone
   pub unmoved : (j : ℕ) → IsBuilt τ (take j l) (ofFirst (length (take j l)) schedule)
 

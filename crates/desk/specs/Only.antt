@@ -24,22 +24,22 @@ use Rattle.desk.specs.Schedules.{Schedules}
 use Rattle.desk.specs.Running.{starting, running, Runs}
 
 -- x and y are two results that keep the promise; each other letter that comes twice is a buffer or a controller as either leaves it
-pub record Only (table : List ℕ) : Type 0 where
-  pub judge : (s : List ℕ) (x y : Judged) → x ≡ judging (admitted table) s → y ≡ judging (admitted table) s → x ≡ y
-  pub judgePattern : (s : List ℕ) (L : ℕ) (x y : PatternJudged) → PatternTold (admitted table) s L x → PatternTold (admitted table) s L y → x ≡ y
-  pub bound : (bi bc : ℕ) (x y : BoundAnswer) → x ≡ bounding (admitted table) bi bc → y ≡ bounding (admitted table) bi bc → x ≡ y
+pub record Only (expected : ℕ) (table : List ℕ) : Type 0 where
+  pub judge : (s : List ℕ) (x y : Judged) → x ≡ judging (admitted expected table) s → y ≡ judging (admitted expected table) s → x ≡ y
+  pub judgePattern : (s : List ℕ) (L : ℕ) (x y : PatternJudged) → PatternTold (admitted expected table) s L x → PatternTold (admitted expected table) s L y → x ≡ y
+  pub bound : (bi bc : ℕ) (x y : BoundAnswer) → x ≡ bounding (admitted expected table) bi bc → y ≡ bounding (admitted expected table) bi bc → x ≡ y
   pub readTransactions : (s : List ℕ) (l : List Transaction) (x y : Decoded) (b d : List Transaction)
-      → Decodes (reading (admitted table) s l) x b → Decodes (reading (admitted table) s l) y d → (x ≡ y) × (b ≡ d)
+      → Decodes (reading (admitted expected table) s l) x b → Decodes (reading (admitted expected table) s l) y d → (x ≡ y) × (b ≡ d)
   pub schedule : (l : List Transaction) (b₀ f₀ : List ℕ) (x y : BuildAnswer) (b d f g : List ℕ)
-      → Schedules (λ τ. checkList τ l) (admitted table) l b₀ b f₀ f x → Schedules (λ τ. checkList τ l) (admitted table) l b₀ d f₀ g y
+      → Schedules (λ τ. checkList τ l) (admitted expected table) l b₀ b f₀ f x → Schedules (λ τ. checkList τ l) (admitted expected table) l b₀ d f₀ g y
       → (x ≡ y) × (b ≡ d) × (f ≡ g)
   pub scheduleBytes : (s b₀ f₀ : List ℕ) (x y : BuildAnswer) (b d f g : List ℕ)
-      → Schedules (λ τ. checkBytes τ s) (admitted table) (transactionsIn s) b₀ b f₀ f x
-      → Schedules (λ τ. checkBytes τ s) (admitted table) (transactionsIn s) b₀ d f₀ g y → (x ≡ y) × (b ≡ d) × (f ≡ g)
-  pub start : (x y : StartTold) → x ≡ starting (admitted table) → y ≡ starting (admitted table) → x ≡ y
+      → Schedules (λ τ. checkBytes τ s) (admitted expected table) (transactionsIn s) b₀ b f₀ f x
+      → Schedules (λ τ. checkBytes τ s) (admitted expected table) (transactionsIn s) b₀ d f₀ g y → (x ≡ y) × (b ≡ d) × (f ≡ g)
+  pub start : (x y : StartTold) → x ≡ starting (admitted expected table) → y ≡ starting (admitted expected table) → x ≡ y
   pub run : (c₀ : Controller) (l : List Transaction) (n : ℕ) (b₀ : List ℕ) (x y : RunAnswer) (c e : Controller) (b d : List ℕ)
-      → Runs (running (λ τ. checkList τ l) (admitted table) c₀ l n b₀) x c b → Runs (running (λ τ. checkList τ l) (admitted table) c₀ l n b₀) y e d
+      → Runs (running (λ τ. checkList τ l) (admitted expected table) c₀ l n b₀) x c b → Runs (running (λ τ. checkList τ l) (admitted expected table) c₀ l n b₀) y e d
       → (x ≡ y) × (c ≡ e) × (b ≡ d)
   pub runBytes : (c₀ : Controller) (s : List ℕ) (n : ℕ) (b₀ : List ℕ) (x y : RunTold) (b d : List ℕ)
-      → LeavesRun (running (λ τ. checkBytes τ s) (admitted table) c₀ (transactionsIn s) n b₀) x b
-      → LeavesRun (running (λ τ. checkBytes τ s) (admitted table) c₀ (transactionsIn s) n b₀) y d → (x ≡ y) × (b ≡ d)
+      → LeavesRun (running (λ τ. checkBytes τ s) (admitted expected table) c₀ (transactionsIn s) n b₀) x b
+      → LeavesRun (running (λ τ. checkBytes τ s) (admitted expected table) c₀ (transactionsIn s) n b₀) y d → (x ≡ y) × (b ≡ d)

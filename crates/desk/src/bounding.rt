@@ -8,10 +8,10 @@ ghost use Rattle.desk.specs.Admit.{admitted};
 ghost use Rattle.desk.specs.Bounds.{bounding};
 
 // Numbers 1, 2, 4; then the bound for (BI, BC) with the table's edition.
-pub fn bound(table: &[u8], bi: u8, bc: u8) -> BoundAnswer
-    ensures { λ r. ⌜ r ≡ bounding (admitted (now (table .entry))) bi bc ⌝ }
+pub fn bound(expected: u16, table: &[u8], bi: u8, bc: u8) -> BoundAnswer
+    ensures { λ r. ⌜ r ≡ bounding (admitted expected (now (table .entry))) bi bc ⌝ }
 {
-    match admit(table) {
+    match admit(expected, table) {
         TableRead::Read(t) => tell_bound(t, bi, bc),
         TableRead::Refused(r) => BoundAnswer::Refused(r),
     }

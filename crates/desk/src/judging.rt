@@ -9,20 +9,20 @@ ghost use Rattle.desk.specs.Admit.{admitted};
 ghost use Rattle.desk.specs.Judging.{judging, PatternTold};
 
 // Numbers 1, 2, 7; then the verdict with the table's edition.
-pub fn judge(table: &[u8], schedule: &[u8]) -> Judged
-    ensures { λ r. ⌜ r ≡ judging (admitted (now (table .entry))) (now (schedule .entry)) ⌝ }
+pub fn judge(expected: u16, table: &[u8], schedule: &[u8]) -> Judged
+    ensures { λ r. ⌜ r ≡ judging (admitted expected (now (table .entry))) (now (schedule .entry)) ⌝ }
 {
-    match admit(table) {
+    match admit(expected, table) {
         TableRead::Read(t) => judge_schedule(t, schedule),
         TableRead::Refused(r) => Judged::Refused(r),
     }
 }
 
 // Numbers 1, 2, 7, 8; then a verdict on every number of copies, with the table's edition.
-pub fn judge_pattern(table: &[u8], pattern: &[u8], length: u32) -> PatternJudged
-    ensures { λ r. ⌜ PatternTold (admitted (now (table .entry))) (now (pattern .entry)) length r ⌝ }
+pub fn judge_pattern(expected: u16, table: &[u8], pattern: &[u8], length: u32) -> PatternJudged
+    ensures { λ r. ⌜ PatternTold (admitted expected (now (table .entry))) (now (pattern .entry)) length r ⌝ }
 {
-    match admit(table) {
+    match admit(expected, table) {
         TableRead::Read(t) => judge::pattern::judge_pattern(t, pattern, length),
         TableRead::Refused(r) => PatternJudged::Refused(r),
     }

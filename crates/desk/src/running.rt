@@ -37,10 +37,10 @@ pub struct StartTold {
 }
 
 // Numbers 1 and 2; then a fresh controller.
-pub fn start(table: &[u8]) -> StartTold
-    ensures { λ r. ⌜ r ≡ starting (admitted (now (table .entry))) ⌝ }
+pub fn start(expected: u16, table: &[u8]) -> StartTold
+    ensures { λ r. ⌜ r ≡ starting (admitted expected (now (table .entry))) ⌝ }
 {
-    match admit(table) {
+    match admit(expected, table) {
         TableRead::Read(t) => {
             let controller = start_of(t);
             StartTold {
@@ -73,10 +73,17 @@ fn run_by(c: Controller, t: Table, list: &[u8], count: u32, room: &mut [u8]) -> 
 }
 
 // Numbers 1 to 5 and 9; then the run of a controller handed in and back, over the list's bytes.
-pub fn run_bytes(c: Controller, table: &[u8], list: &[u8], count: u32, room: &mut [u8]) -> RunTold
-    ensures { λ r. ⌜ LeavesRun (running (λ τ. checkBytes τ (now (list .entry))) (admitted (now (table .entry))) c (transactionsIn (now (list .entry))) count (now (room .entry))) r (now (room .exit)) ⌝ }
+pub fn run_bytes(
+    c: Controller,
+    expected: u16,
+    table: &[u8],
+    list: &[u8],
+    count: u32,
+    room: &mut [u8],
+) -> RunTold
+    ensures { λ r. ⌜ LeavesRun (running (λ τ. checkBytes τ (now (list .entry))) (admitted expected (now (table .entry))) c (transactionsIn (now (list .entry))) count (now (room .entry))) r (now (room .exit)) ⌝ }
 {
-    match admit(table) {
+    match admit(expected, table) {
         TableRead::Read(t) => run_by(c, t, list, count, room),
         TableRead::Refused(r) => RunTold {
             controller: c,
@@ -86,16 +93,23 @@ pub fn run_bytes(c: Controller, table: &[u8], list: &[u8], count: u32, room: &mu
 }
 
 // The same of a list by value.
-pub fn run_held(c: Controller, table: &[u8], p: Packed, count: u32, room: &mut [u8]) -> RunTold
-    ensures { λ r. ⌜ LeavesRun (running (λ τ. checkList τ (held p)) (admitted (now (table .entry))) c (held p) count (now (room .entry))) r (now (room .exit)) ⌝ }
+pub fn run_held(
+    c: Controller,
+    expected: u16,
+    table: &[u8],
+    p: Packed,
+    count: u32,
+    room: &mut [u8],
+) -> RunTold
+    ensures { λ r. ⌜ LeavesRun (running (λ τ. checkList τ (held p)) (admitted expected (now (table .entry))) c (held p) count (now (room .entry))) r (now (room .exit)) ⌝ }
 {
     let n = p.n;
     if n <= 256 {
         let bytes = p.bytes;
         let end = 4 * n;
-        return run_bytes(c, table, &bytes[..end], count, room);
+        return run_bytes(c, expected, table, &bytes[..end], count, room);
     }
-    let refusal = too_many(table);
+    let refusal = too_many(expected, table);
     RunTold {
         controller: c,
         answer: RunAnswer::Refused(refusal),
@@ -105,25 +119,32 @@ pub fn run_held(c: Controller, table: &[u8], p: Packed, count: u32, room: &mut [
 // The host's form: the controller is run where it lies, over a lent run of records.
 pub fn run(
     c: &mut Controller,
+    expected: u16,
     table: &[u8],
     list: &[Transaction],
     count: u32,
     room: &mut [u8],
 ) -> RunAnswer
-    ensures { λ r. ⌜ Runs (running (λ τ. checkList τ (now (list .entry))) (admitted (now (table .entry))) (now (c .entry)) (now (list .entry)) count (now (room .entry))) r (now (c .exit)) (now (room .exit)) ⌝ }
+    ensures { λ r. ⌜ Runs (running (λ τ. checkList τ (now (list .entry))) (admitted expected (now (table .entry))) (now (c .entry)) (now (list .entry)) count (now (room .entry))) r (now (c .exit)) (now (room .exit)) ⌝ }
 {
     let p = gather(list);
-    let o = run_held(*c, table, p, count, room);
+    let o = run_held(*c, expected, table, p, count, room);
     *c = o.controller;
     o.answer
 }
 
 // One cycle.
-pub fn step(c: &mut Controller, table: &[u8], list: &[Transaction], room: &mut [u8]) -> RunAnswer
-    ensures { λ r. ⌜ Runs (running (λ τ. checkList τ (now (list .entry))) (admitted (now (table .entry))) (now (c .entry)) (now (list .entry)) 1 (now (room .entry))) r (now (c .exit)) (now (room .exit)) ⌝ }
+pub fn step(
+    c: &mut Controller,
+    expected: u16,
+    table: &[u8],
+    list: &[Transaction],
+    room: &mut [u8],
+) -> RunAnswer
+    ensures { λ r. ⌜ Runs (running (λ τ. checkList τ (now (list .entry))) (admitted expected (now (table .entry))) (now (c .entry)) (now (list .entry)) 1 (now (room .entry))) r (now (c .exit)) (now (room .exit)) ⌝ }
 {
     let p = gather(list);
-    let o = run_held(*c, table, p, 1, room);
+    let o = run_held(*c, expected, table, p, 1, room);
     *c = o.controller;
     o.answer
 }

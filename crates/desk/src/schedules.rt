@@ -35,24 +35,25 @@ fn schedule_by(t: Table, list: &[u8], commands: &mut [u8], finishes: &mut [u32])
 
 // Numbers 1 to 6; then the schedule from the start of `commands`, the finishing cycles from the start of `finishes`.
 pub fn schedule_bytes(
+    expected: u16,
     table: &[u8],
     list: &[u8],
     commands: &mut [u8],
     finishes: &mut [u32],
 ) -> BuildAnswer
-    ensures { λ r. ⌜ Schedules (λ τ. checkBytes τ (now (list .entry))) (admitted (now (table .entry))) (transactionsIn (now (list .entry))) (now (commands .entry)) (now (commands .exit)) (now (finishes .entry)) (now (finishes .exit)) r ⌝ }
+    ensures { λ r. ⌜ Schedules (λ τ. checkBytes τ (now (list .entry))) (admitted expected (now (table .entry))) (transactionsIn (now (list .entry))) (now (commands .entry)) (now (commands .exit)) (now (finishes .entry)) (now (finishes .exit)) r ⌝ }
 {
-    match admit(table) {
+    match admit(expected, table) {
         TableRead::Read(t) => schedule_by(t, list, commands, finishes),
         TableRead::Refused(r) => BuildAnswer::Refused(r),
     }
 }
 
 // How a list of more than 256 transactions is refused.
-pub fn too_many(table: &[u8]) -> Refusal
-    ensures { λ r. ⌜ r ≡ tooMany (admitted (now (table .entry))) ⌝ }
+pub fn too_many(expected: u16, table: &[u8]) -> Refusal
+    ensures { λ r. ⌜ r ≡ tooMany (admitted expected (now (table .entry))) ⌝ }
 {
-    match admit(table) {
+    match admit(expected, table) {
         TableRead::Read(t) => refuse(3, 0, t.edition),
         TableRead::Refused(r) => r,
     }
@@ -60,31 +61,33 @@ pub fn too_many(table: &[u8]) -> Refusal
 
 // The same of a list by value.
 pub fn schedule_held(
+    expected: u16,
     table: &[u8],
     p: Packed,
     commands: &mut [u8],
     finishes: &mut [u32],
 ) -> BuildAnswer
-    ensures { λ r. ⌜ Schedules (λ τ. checkList τ (held p)) (admitted (now (table .entry))) (held p) (now (commands .entry)) (now (commands .exit)) (now (finishes .entry)) (now (finishes .exit)) r ⌝ }
+    ensures { λ r. ⌜ Schedules (λ τ. checkList τ (held p)) (admitted expected (now (table .entry))) (held p) (now (commands .entry)) (now (commands .exit)) (now (finishes .entry)) (now (finishes .exit)) r ⌝ }
 {
     let n = p.n;
     if n <= 256 {
         let bytes = p.bytes;
         let end = 4 * n;
-        return schedule_bytes(table, &bytes[..end], commands, finishes);
+        return schedule_bytes(expected, table, &bytes[..end], commands, finishes);
     }
-    BuildAnswer::Refused(too_many(table))
+    BuildAnswer::Refused(too_many(expected, table))
 }
 
 // Numbers 1 to 6; then the schedule of a lent run of records.
 pub fn schedule(
+    expected: u16,
     table: &[u8],
     list: &[Transaction],
     commands: &mut [u8],
     finishes: &mut [u32],
 ) -> BuildAnswer
-    ensures { λ r. ⌜ Schedules (λ τ. checkList τ (now (list .entry))) (admitted (now (table .entry))) (now (list .entry)) (now (commands .entry)) (now (commands .exit)) (now (finishes .entry)) (now (finishes .exit)) r ⌝ }
+    ensures { λ r. ⌜ Schedules (λ τ. checkList τ (now (list .entry))) (admitted expected (now (table .entry))) (now (list .entry)) (now (commands .entry)) (now (commands .exit)) (now (finishes .entry)) (now (finishes .exit)) r ⌝ }
 {
     let p = gather(list);
-    schedule_held(table, p, commands, finishes)
+    schedule_held(expected, table, p, commands, finishes)
 }

@@ -12,10 +12,10 @@ ghost use Rattle.desk.specs.Admit.{admitted};
 ghost use Rattle.desk.specs.Transactions.{reading, readingPlan};
 
 // What is answered for so many places, and how many transactions are stored.
-pub fn plan_reading(table: &[u8], bytes: &[u8], places: usize) -> Plan
-    ensures { λ r. ⌜ r ≡ readingPlan (admitted (now (table .entry))) (now (bytes .entry)) places ⌝ }
+pub fn plan_reading(expected: u16, table: &[u8], bytes: &[u8], places: usize) -> Plan
+    ensures { λ r. ⌜ r ≡ readingPlan (admitted expected (now (table .entry))) (now (bytes .entry)) places ⌝ }
 {
-    match admit(table) {
+    match admit(expected, table) {
         TableRead::Read(t) => planned(t, bytes, places),
         TableRead::Refused(r) => {
             let answer = Decoded::Refused(r);
@@ -25,10 +25,15 @@ pub fn plan_reading(table: &[u8], bytes: &[u8], places: usize) -> Plan
 }
 
 // Numbers 1 to 4; then the transactions from the run's start, all places beyond as they stood.
-pub fn read_transactions(table: &[u8], bytes: &[u8], list: &mut [Transaction]) -> Decoded
-    ensures { λ r. ⌜ Decodes (reading (admitted (now (table .entry))) (now (bytes .entry)) (now (list .entry))) r (now (list .exit)) ⌝ }
+pub fn read_transactions(
+    expected: u16,
+    table: &[u8],
+    bytes: &[u8],
+    list: &mut [Transaction],
+) -> Decoded
+    ensures { λ r. ⌜ Decodes (reading (admitted expected (now (table .entry))) (now (bytes .entry)) (now (list .entry))) r (now (list .exit)) ⌝ }
 {
-    let p = plan_reading(table, bytes, list.len());
+    let p = plan_reading(expected, table, bytes, list.len());
     store(bytes, p.n, list);
     p.answer
 }

@@ -38,11 +38,11 @@ fn written(answer: Written) {
 
 fn example_7(table: &[u8]) {
     text(b"7 bounds\n");
-    told_bound(bound(table, 2, 1));
-    told_bound(bound(table, 1, 4));
-    told_bound(bound(table, 4, 2));
-    told_bound(bound(table, 5, 1));
-    told_bound(bound(table, 8, 1));
+    told_bound(bound(7, table, 2, 1));
+    told_bound(bound(7, table, 1, 4));
+    told_bound(bound(7, table, 4, 2));
+    told_bound(bound(7, table, 5, 1));
+    told_bound(bound(7, table, 8, 1));
 }
 
 fn told_bound(answer: BoundAnswer) {
@@ -68,7 +68,7 @@ fn example_12(table: &[u8]) {
     text(b"12 256 transactions, then 257\n");
     many(table);
     text(b"12 empty schedule\n");
-    told_verdict(judge(table, &[]));
+    told_verdict(judge(7, table, &[]));
 }
 
 fn list(table: &[u8], bytes: &[u8]) {
@@ -76,7 +76,7 @@ fn list(table: &[u8], bytes: &[u8]) {
     let mut places = [0u32; 256];
     let commands = &mut room[..];
     let finishes = &mut places[..];
-    told_build(schedule_bytes(table, bytes, commands, finishes));
+    told_build(schedule_bytes(7, table, bytes, commands, finishes));
 }
 
 fn told_build(answer: BuildAnswer) {

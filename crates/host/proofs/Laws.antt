@@ -61,14 +61,14 @@ module _ (l : List Transaction) (b₀ b f₀ f : List ℕ) where
   schedules-few check fit (Refused x) acc v h = nothing-few x v h
 
 -- of the list's bytes s, and of a list l
-module _ (table b₀ b f₀ f : List ℕ) (v : BuildAnswer) where
-  pub few-of-bytes : (s : List ℕ) → Schedules (λ τ. checkBytes τ s) (admitted table) (transactionsIn s) b₀ b f₀ f v → countOf v < 4294967296
+module _ (expected : ℕ) (table b₀ b f₀ f : List ℕ) (v : BuildAnswer) where
+  pub few-of-bytes : (s : List ℕ) → Schedules (λ τ. checkBytes τ s) (admitted expected table) (transactionsIn s) b₀ b f₀ f v → countOf v < 4294967296
   few-of-bytes s h =
       let few = schedules-few (transactionsIn s) b₀ b f₀ f (λ τ. checkBytes τ s)
-      (λ τ e. fine-fits τ (transactionsIn s) (into-list τ s 256 (into-256 τ s ∙ e))) (admitted table) (read-accepted table) v h in
+      (λ τ e. fine-fits τ (transactionsIn s) (into-list τ s 256 (into-256 τ s ∙ e))) (admitted expected table) (read-accepted expected table) v h in
       omega (arith, few)
 
-  pub few-of-list : (l : List Transaction) → Schedules (λ τ. checkList τ l) (admitted table) l b₀ b f₀ f v → countOf v < 4294967296
+  pub few-of-list : (l : List Transaction) → Schedules (λ τ. checkList τ l) (admitted expected table) l b₀ b f₀ f v → countOf v < 4294967296
   few-of-list l h =
-      let few = schedules-few l b₀ b f₀ f (λ τ. checkList τ l) (λ τ. fine-fits τ l) (admitted table) (read-accepted table) v h in
+      let few = schedules-few l b₀ b f₀ f (λ τ. checkList τ l) (λ τ. fine-fits τ l) (admitted expected table) (read-accepted expected table) v h in
       omega (arith, few)

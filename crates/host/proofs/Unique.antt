@@ -39,26 +39,26 @@ only-record s =
       commandWritten = λ cycle kind bank number. one-written (writeCommand (command cycle (kindOf kind) bank number) s);
     }
 
-pub only : (table : List ℕ) → Only table
-only table =
+pub only : (expected : ℕ) (table : List ℕ) → Only expected table
+only expected table =
     record {
-      judge = λ s. one-answer (verdictOf (judging (admitted table) s));
-      judgePattern = λ s L x y p q. made patternOf (p .0) (q .0) x y (desk-only table .judgePattern s L (p .0) (q .0) (p .1) (q .1)) (p .2) (q .2);
-      bound = λ bi bc. one-answer (ofBound (bounding (admitted table) bi bc));
+      judge = λ s. one-answer (verdictOf (judging (admitted expected table) s));
+      judgePattern = λ s L x y p q. made patternOf (p .0) (q .0) x y (desk-only expected table .judgePattern s L (p .0) (q .0) (p .1) (q .1)) (p .2) (q .2);
+      bound = λ bi bc. one-answer (ofBound (bounding (admitted expected table) bi bc));
       readTransactions = λ s l x y b d p q.
-          let w = reading (admitted table) s l in
+          let w = reading (admitted expected table) s l in
           (one-answer (ofRead (w .answer)) x y (p .0) (q .0), one-answer (w .list) b d (p .1) (q .1));
       schedule = λ l b₀ f₀ x y b d f g p q.
-          let k = desk-only table .schedule l b₀ f₀ (p .0) (q .0) b d f g (p .1) (q .1) in
+          let k = desk-only expected table .schedule l b₀ f₀ (p .0) (q .0) b d f g (p .1) (q .1) in
           (made ofBuild (p .0) (q .0) x y (k .0) (p .2) (q .2), k .1, k .2);
       scheduleBytes = λ s b₀ f₀ x y b d f g p q.
-          let k = desk-only table .scheduleBytes s b₀ f₀ (p .0) (q .0) b d f g (p .1) (q .1) in
+          let k = desk-only expected table .scheduleBytes s b₀ f₀ (p .0) (q .0) b d f g (p .1) (q .1) in
           (made ofBuild (p .0) (q .0) x y (k .0) (p .2) (q .2), k .1, k .2);
-      start = one-answer (startOf (starting (admitted table)));
+      start = one-answer (startOf (starting (admitted expected table)));
       run = λ c₀ l n b₀ x y c e b d p q.
-          let w = running (λ τ. checkList τ l) (admitted table) c₀ l n b₀ in
+          let w = running (λ τ. checkList τ l) (admitted expected table) c₀ l n b₀ in
           (one-answer (ofRun (w .told .answer)) x y (p .0) (q .0), one-answer (w .told .controller) c e (p .1) (q .1), one-answer (w .buffer) b d (p .2) (q .2));
       runBytes = λ c₀ s n b₀ x y b d p q.
-          let w = running (λ τ. checkBytes τ s) (admitted table) c₀ (transactionsIn s) n b₀ in
+          let w = running (λ τ. checkBytes τ s) (admitted expected table) c₀ (transactionsIn s) n b₀ in
           (one-answer (runOf (w .told)) x y (p .0) (q .0), one-answer (w .buffer) b d (p .1) (q .1));
     }

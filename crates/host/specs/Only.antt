@@ -40,23 +40,23 @@ pub record OnlyRecord (s : List ℕ) : Type 0 where
       → (x ≡ y) × (b ≡ d)
 
 -- the calls that take a table
-pub record Only (table : List ℕ) : Type 0 where
-  pub judge : (s : List ℕ) (x y : VerdictAnswer) → x ≡ verdictOf (judging (admitted table) s) → y ≡ verdictOf (judging (admitted table) s) → x ≡ y
-  pub judgePattern : (s : List ℕ) (L : ℕ) (x y : VerdictAnswer) → PatternSaid (admitted table) s L x → PatternSaid (admitted table) s L y → x ≡ y
-  pub bound : (bi bc : ℕ) (x y : Answer) → x ≡ ofBound (bounding (admitted table) bi bc) → y ≡ ofBound (bounding (admitted table) bi bc) → x ≡ y
+pub record Only (expected : ℕ) (table : List ℕ) : Type 0 where
+  pub judge : (s : List ℕ) (x y : VerdictAnswer) → x ≡ verdictOf (judging (admitted expected table) s) → y ≡ verdictOf (judging (admitted expected table) s) → x ≡ y
+  pub judgePattern : (s : List ℕ) (L : ℕ) (x y : VerdictAnswer) → PatternSaid (admitted expected table) s L x → PatternSaid (admitted expected table) s L y → x ≡ y
+  pub bound : (bi bc : ℕ) (x y : Answer) → x ≡ ofBound (bounding (admitted expected table) bi bc) → y ≡ ofBound (bounding (admitted expected table) bi bc) → x ≡ y
   pub readTransactions : (s : List ℕ) (l : List Transaction) (x y : Answer) (b d : List Transaction)
-      → ReadsInto (reading (admitted table) s l) x b → ReadsInto (reading (admitted table) s l) y d → (x ≡ y) × (b ≡ d)
+      → ReadsInto (reading (admitted expected table) s l) x b → ReadsInto (reading (admitted expected table) s l) y d → (x ≡ y) × (b ≡ d)
   pub schedule : (l : List Transaction) (b₀ f₀ : List ℕ) (x y : Answer) (b d f g : List ℕ)
-      → Scheduled (λ τ. checkList τ l) (admitted table) l b₀ b f₀ f x → Scheduled (λ τ. checkList τ l) (admitted table) l b₀ d f₀ g y
+      → Scheduled (λ τ. checkList τ l) (admitted expected table) l b₀ b f₀ f x → Scheduled (λ τ. checkList τ l) (admitted expected table) l b₀ d f₀ g y
       → (x ≡ y) × (b ≡ d) × (f ≡ g)
   pub scheduleBytes : (s b₀ f₀ : List ℕ) (x y : Answer) (b d f g : List ℕ)
-      → Scheduled (λ τ. checkBytes τ s) (admitted table) (transactionsIn s) b₀ b f₀ f x
-      → Scheduled (λ τ. checkBytes τ s) (admitted table) (transactionsIn s) b₀ d f₀ g y → (x ≡ y) × (b ≡ d) × (f ≡ g)
-  pub start : (x y : StartAnswer) → x ≡ startOf (starting (admitted table)) → y ≡ startOf (starting (admitted table)) → x ≡ y
+      → Scheduled (λ τ. checkBytes τ s) (admitted expected table) (transactionsIn s) b₀ b f₀ f x
+      → Scheduled (λ τ. checkBytes τ s) (admitted expected table) (transactionsIn s) b₀ d f₀ g y → (x ≡ y) × (b ≡ d) × (f ≡ g)
+  pub start : (x y : StartAnswer) → x ≡ startOf (starting (admitted expected table)) → y ≡ startOf (starting (admitted expected table)) → x ≡ y
   -- `skv_step` is the run of one cycle
   pub run : (c₀ : Controller) (l : List Transaction) (n : ℕ) (b₀ : List ℕ) (x y : Answer) (c e : Controller) (b d : List ℕ)
-      → RunsIn (running (λ τ. checkList τ l) (admitted table) c₀ l n b₀) x c b → RunsIn (running (λ τ. checkList τ l) (admitted table) c₀ l n b₀) y e d
+      → RunsIn (running (λ τ. checkList τ l) (admitted expected table) c₀ l n b₀) x c b → RunsIn (running (λ τ. checkList τ l) (admitted expected table) c₀ l n b₀) y e d
       → (x ≡ y) × (c ≡ e) × (b ≡ d)
   pub runBytes : (c₀ : Controller) (s : List ℕ) (n : ℕ) (b₀ : List ℕ) (x y : RunAnswer) (b d : List ℕ)
-      → RunsBack (running (λ τ. checkBytes τ s) (admitted table) c₀ (transactionsIn s) n b₀) x b
-      → RunsBack (running (λ τ. checkBytes τ s) (admitted table) c₀ (transactionsIn s) n b₀) y d → (x ≡ y) × (b ≡ d)
+      → RunsBack (running (λ τ. checkBytes τ s) (admitted expected table) c₀ (transactionsIn s) n b₀) x b
+      → RunsBack (running (λ τ. checkBytes τ s) (admitted expected table) c₀ (transactionsIn s) n b₀) y d → (x ≡ y) × (b ≡ d)

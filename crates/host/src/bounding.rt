@@ -8,8 +8,8 @@ ghost use Rattle.desk.specs.Bounds.{bounding};
 ghost use Rattle.host.specs.Answers.{ofBound};
 
 #[no_mangle]
-pub extern "C" fn skv_bound(table: &[u8], bi: u8, bc: u8) -> Answer
-    ensures { λ r. ⌜ r ≡ ofBound (bounding (admitted (now (table .entry))) bi bc) ⌝ }
+pub extern "C" fn skv_bound(expected: u16, table: &[u8], bi: u8, bc: u8) -> Answer
+    ensures { λ r. ⌜ r ≡ ofBound (bounding (admitted expected (now (table .entry))) bi bc) ⌝ }
 {
-    of_bound(bound(table, bi, bc))
+    of_bound(bound(expected, table, bi, bc))
 }

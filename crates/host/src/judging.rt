@@ -11,15 +11,20 @@ ghost use Rattle.host.specs.Verdicts.{verdictOf};
 ghost use Rattle.host.specs.Promises.{PatternSaid};
 
 #[no_mangle]
-pub extern "C" fn skv_judge(table: &[u8], schedule: &[u8]) -> VerdictAnswer
-    ensures { λ r. ⌜ r ≡ verdictOf (judging (admitted (now (table .entry))) (now (schedule .entry))) ⌝ }
+pub extern "C" fn skv_judge(expected: u16, table: &[u8], schedule: &[u8]) -> VerdictAnswer
+    ensures { λ r. ⌜ r ≡ verdictOf (judging (admitted expected (now (table .entry))) (now (schedule .entry))) ⌝ }
 {
-    verdict_of(judge(table, schedule))
+    verdict_of(judge(expected, table, schedule))
 }
 
 #[no_mangle]
-pub extern "C" fn skv_judge_pattern(table: &[u8], pattern: &[u8], length: u32) -> VerdictAnswer
-    ensures { λ r. ⌜ PatternSaid (admitted (now (table .entry))) (now (pattern .entry)) length r ⌝ }
+pub extern "C" fn skv_judge_pattern(
+    expected: u16,
+    table: &[u8],
+    pattern: &[u8],
+    length: u32,
+) -> VerdictAnswer
+    ensures { λ r. ⌜ PatternSaid (admitted expected (now (table .entry))) (now (pattern .entry)) length r ⌝ }
 {
-    pattern_of(judge_pattern(table, pattern, length))
+    pattern_of(judge_pattern(expected, table, pattern, length))
 }

@@ -22,46 +22,55 @@ ghost use Rattle.host.specs.Promises.{RunsIn, RunsBack};
 
 // A refused start hands out a controller of edition 0, which no table has.
 #[no_mangle]
-pub extern "C" fn skv_start(table: &[u8]) -> StartAnswer
-    ensures { λ r. ⌜ r ≡ startOf (starting (admitted (now (table .entry)))) ⌝ }
+pub extern "C" fn skv_start(expected: u16, table: &[u8]) -> StartAnswer
+    ensures { λ r. ⌜ r ≡ startOf (starting (admitted expected (now (table .entry)))) ⌝ }
 {
-    start_of(start(table))
+    start_of(start(expected, table))
 }
 
 // The controller handed in and back.
 #[no_mangle]
 pub extern "C" fn skv_run_bytes(
     c: Controller,
+    expected: u16,
     table: &[u8],
     list: &[u8],
     count: u32,
     room: &mut [u8],
 ) -> RunAnswer
-    ensures { λ r. ⌜ RunsBack (running (λ τ. checkBytes τ (now (list .entry))) (admitted (now (table .entry))) c (transactionsIn (now (list .entry))) count (now (room .entry))) r (now (room .exit)) ⌝ }
+    ensures { λ r. ⌜ RunsBack (running (λ τ. checkBytes τ (now (list .entry))) (admitted expected (now (table .entry))) c (transactionsIn (now (list .entry))) count (now (room .entry))) r (now (room .exit)) ⌝ }
 {
-    run_of(run_bytes(c, table, list, count, room))
+    run_of(run_bytes(c, expected, table, list, count, room))
 }
 
 // The same of a list by value.
-pub fn run_told(c: Controller, table: &[u8], p: Packed, count: u32, room: &mut [u8]) -> RunAnswer
-    ensures { λ r. ⌜ RunsBack (running (λ τ. checkList τ (held p)) (admitted (now (table .entry))) c (held p) count (now (room .entry))) r (now (room .exit)) ⌝ }
+pub fn run_told(
+    c: Controller,
+    expected: u16,
+    table: &[u8],
+    p: Packed,
+    count: u32,
+    room: &mut [u8],
+) -> RunAnswer
+    ensures { λ r. ⌜ RunsBack (running (λ τ. checkList τ (held p)) (admitted expected (now (table .entry))) c (held p) count (now (room .entry))) r (now (room .exit)) ⌝ }
 {
-    run_of(run_held(c, table, p, count, room))
+    run_of(run_held(c, expected, table, p, count, room))
 }
 
 // "The host lends its running controller": it is run where it lies, over a lent run of records.
 #[no_mangle]
 pub extern "C" fn skv_run(
     c: &mut Controller,
+    expected: u16,
     table: &[u8],
     list: &[Transaction],
     count: u32,
     room: &mut [u8],
 ) -> Answer
-    ensures { λ r. ⌜ RunsIn (running (λ τ. checkList τ (now (list .entry))) (admitted (now (table .entry))) (now (c .entry)) (now (list .entry)) count (now (room .entry))) r (now (c .exit)) (now (room .exit)) ⌝ }
+    ensures { λ r. ⌜ RunsIn (running (λ τ. checkList τ (now (list .entry))) (admitted expected (now (table .entry))) (now (c .entry)) (now (list .entry)) count (now (room .entry))) r (now (c .exit)) (now (room .exit)) ⌝ }
 {
     let p = gather(list);
-    let o = run_told(*c, table, p, count, room);
+    let o = run_told(*c, expected, table, p, count, room);
     *c = o.controller;
     o.answer
 }
@@ -70,14 +79,15 @@ pub extern "C" fn skv_run(
 #[no_mangle]
 pub extern "C" fn skv_step(
     c: &mut Controller,
+    expected: u16,
     table: &[u8],
     list: &[Transaction],
     room: &mut [u8],
 ) -> Answer
-    ensures { λ r. ⌜ RunsIn (running (λ τ. checkList τ (now (list .entry))) (admitted (now (table .entry))) (now (c .entry)) (now (list .entry)) 1 (now (room .entry))) r (now (c .exit)) (now (room .exit)) ⌝ }
+    ensures { λ r. ⌜ RunsIn (running (λ τ. checkList τ (now (list .entry))) (admitted expected (now (table .entry))) (now (c .entry)) (now (list .entry)) 1 (now (room .entry))) r (now (c .exit)) (now (room .exit)) ⌝ }
 {
     let p = gather(list);
-    let o = run_told(*c, table, p, 1, room);
+    let o = run_told(*c, expected, table, p, 1, room);
     *c = o.controller;
     o.answer
 }

@@ -14,33 +14,41 @@ ghost use Rattle.host.specs.Promises.{Scheduled};
 
 #[no_mangle]
 pub extern "C" fn skv_schedule_bytes(
+    expected: u16,
     table: &[u8],
     list: &[u8],
     commands: &mut [u8],
     finishes: &mut [u32],
 ) -> Answer
-    ensures { λ r. ⌜ Scheduled (λ τ. checkBytes τ (now (list .entry))) (admitted (now (table .entry))) (transactionsIn (now (list .entry))) (now (commands .entry)) (now (commands .exit)) (now (finishes .entry)) (now (finishes .exit)) r ⌝ }
+    ensures { λ r. ⌜ Scheduled (λ τ. checkBytes τ (now (list .entry))) (admitted expected (now (table .entry))) (transactionsIn (now (list .entry))) (now (commands .entry)) (now (commands .exit)) (now (finishes .entry)) (now (finishes .exit)) r ⌝ }
 {
-    of_build(schedule_bytes(table, list, commands, finishes))
+    of_build(schedule_bytes(expected, table, list, commands, finishes))
 }
 
 // The same of a list by value.
-pub fn schedule_told(table: &[u8], p: Packed, commands: &mut [u8], finishes: &mut [u32]) -> Answer
-    ensures { λ r. ⌜ Scheduled (λ τ. checkList τ (held p)) (admitted (now (table .entry))) (held p) (now (commands .entry)) (now (commands .exit)) (now (finishes .entry)) (now (finishes .exit)) r ⌝ }
+pub fn schedule_told(
+    expected: u16,
+    table: &[u8],
+    p: Packed,
+    commands: &mut [u8],
+    finishes: &mut [u32],
+) -> Answer
+    ensures { λ r. ⌜ Scheduled (λ τ. checkList τ (held p)) (admitted expected (now (table .entry))) (held p) (now (commands .entry)) (now (commands .exit)) (now (finishes .entry)) (now (finishes .exit)) r ⌝ }
 {
-    of_build(schedule_held(table, p, commands, finishes))
+    of_build(schedule_held(expected, table, p, commands, finishes))
 }
 
 // Of a lent run of records.
 #[no_mangle]
 pub extern "C" fn skv_schedule(
+    expected: u16,
     table: &[u8],
     list: &[Transaction],
     commands: &mut [u8],
     finishes: &mut [u32],
 ) -> Answer
-    ensures { λ r. ⌜ Scheduled (λ τ. checkList τ (now (list .entry))) (admitted (now (table .entry))) (now (list .entry)) (now (commands .entry)) (now (commands .exit)) (now (finishes .entry)) (now (finishes .exit)) r ⌝ }
+    ensures { λ r. ⌜ Scheduled (λ τ. checkList τ (now (list .entry))) (admitted expected (now (table .entry))) (now (list .entry)) (now (commands .entry)) (now (commands .exit)) (now (finishes .entry)) (now (finishes .exit)) r ⌝ }
 {
     let p = gather(list);
-    schedule_told(table, p, commands, finishes)
+    schedule_told(expected, table, p, commands, finishes)
 }

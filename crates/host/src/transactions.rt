@@ -16,10 +16,10 @@ pub struct PlanTold {
     pub answer: Answer,
 }
 
-pub fn plan_told(table: &[u8], bytes: &[u8], places: usize) -> PlanTold
-    ensures { λ r. ⌜ r ≡ planOf (readingPlan (admitted (now (table .entry))) (now (bytes .entry)) places) ⌝ }
+pub fn plan_told(expected: u16, table: &[u8], bytes: &[u8], places: usize) -> PlanTold
+    ensures { λ r. ⌜ r ≡ planOf (readingPlan (admitted expected (now (table .entry))) (now (bytes .entry)) places) ⌝ }
 {
-    let p = plan_reading(table, bytes, places);
+    let p = plan_reading(expected, table, bytes, places);
     let d = p.answer;
     PlanTold {
         n: p.n,
@@ -30,13 +30,14 @@ pub fn plan_told(table: &[u8], bytes: &[u8], places: usize) -> PlanTold
 // The transactions go to the run's start.
 #[no_mangle]
 pub extern "C" fn skv_read_transactions(
+    expected: u16,
     table: &[u8],
     bytes: &[u8],
     list: &mut [Transaction],
 ) -> Answer
-    ensures { λ r. ⌜ ReadsInto (reading (admitted (now (table .entry))) (now (bytes .entry)) (now (list .entry))) r (now (list .exit)) ⌝ }
+    ensures { λ r. ⌜ ReadsInto (reading (admitted expected (now (table .entry))) (now (bytes .entry)) (now (list .entry))) r (now (list .exit)) ⌝ }
 {
-    let p = plan_told(table, bytes, list.len());
+    let p = plan_told(expected, table, bytes, list.len());
     store(bytes, p.n, list);
     p.answer
 }

@@ -13,7 +13,7 @@ ghost use lib.ListN.{length};
 ghost use Rattle.io.specs.Counts.{Counts};
 
 // A list that fits has at most 256 transactions, so that more slots than 256 are as good as 256.
-pub(crate) fn lines(table: &[u8], room: u16, slots: u16, list: &[u8]) {
+pub(crate) fn lines(expected: u16, table: &[u8], room: u16, slots: u16, list: &[u8]) {
     text(b"build");
     let mut bytes = io::large_buffer();
     let mut places = [0u32; 256];
@@ -22,7 +22,7 @@ pub(crate) fn lines(table: &[u8], room: u16, slots: u16, list: &[u8]) {
     let commands = &mut bytes[..k];
     let finishes = &mut places[..m];
     let n = list.len() / 4;
-    let answer = schedule_bytes(table, list, commands, finishes);
+    let answer = schedule_bytes(expected, table, list, commands, finishes);
     match answer {
         BuildAnswer::Built(edition, written) => built(edition, commands, written, finishes, n),
         BuildAnswer::Refused(r) => refused(r),

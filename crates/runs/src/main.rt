@@ -1,6 +1,6 @@
 // Hands hostile lists, states and buffers to the calls that build, run and tell the bound, and writes lines on what each answers.
 //
-// Standard input, of which 65,536 bytes are read at most, is a sequence of cases, `[call][table: 32 bytes]` and then, for call 1, a build,
+// Standard input, of which 65,536 bytes are read at most, is a sequence of cases, `[call][expected: u16][table: 32 bytes]` and then, for call 1, a build,
 // `[room: u16][slots: u16][n: u16][n bytes]`; for call 2, a run, `[count: u32][room: u16][state: 246 bytes][n: u16][n bytes]`; for call 3,
 // a bound, `[BI][BC]`. The rooms are in bytes, the n bytes are the transactions. The line is `case` for any other call, and for a case that
 // the input cuts short: nothing after it is read.
@@ -63,53 +63,53 @@ fn size(n: u16) -> usize
 fn build_case(s: &[u8]) -> usize
     ensures { λ r. ⌜ r ≤ length (now (s .entry)) ⌝ }
 {
-    let from = 39;
+    let from = 41;
     if s.len() < from {
         return 0;
     }
-    let n = size(num_at(s, 37));
+    let n = size(num_at(s, 39));
     if s.len() - from < n {
         return 0;
     }
     let end = from + n;
-    let room = num_at(s, 33);
-    let slots = num_at(s, 35);
-    build::lines(&s[1..33], room, slots, &s[from..end]);
+    let room = num_at(s, 35);
+    let slots = num_at(s, 37);
+    build::lines(num_at(s, 1), &s[3..35], room, slots, &s[from..end]);
     end
 }
 
 fn run_case(s: &[u8]) -> usize
     ensures { λ r. ⌜ r ≤ length (now (s .entry)) ⌝ }
 {
-    let from = 287;
+    let from = 289;
     if s.len() < from {
         return 0;
     }
-    let n = size(num_at(s, 285));
+    let n = size(num_at(s, 287));
     if s.len() - from < n {
         return 0;
     }
     let end = from + n;
-    let count = long_at(s, 33);
-    let room = num_at(s, 37);
-    let state = controller_at(&s[39..285]);
-    run::lines(&s[1..33], count, room, state, &s[from..end]);
+    let count = long_at(s, 35);
+    let room = num_at(s, 39);
+    let state = controller_at(&s[41..287]);
+    run::lines(num_at(s, 1), &s[3..35], count, room, state, &s[from..end]);
     end
 }
 
 fn bound_case(s: &[u8]) -> usize
     ensures { λ r. ⌜ r ≤ length (now (s .entry)) ⌝ }
 {
-    if s.len() < 35 {
+    if s.len() < 37 {
         return 0;
     }
-    bound_line(&s[1..33], s[33], s[34]);
-    35
+    bound_line(num_at(s, 1), &s[3..35], s[35], s[36]);
+    37
 }
 
-fn bound_line(table: &[u8], bi: u8, bc: u8) {
+fn bound_line(expected: u16, table: &[u8], bi: u8, bc: u8) {
     text(b"bound");
-    bound_told(bound(table, bi, bc));
+    bound_told(bound(expected, table, bi, bc));
 }
 
 fn bound_told(answer: BoundAnswer) {

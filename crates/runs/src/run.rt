@@ -13,12 +13,12 @@ use desk::run_bytes;
 ghost use Prim.Native.Nat.{_*_, _≤_};
 ghost use lib.ListN.{length};
 
-pub(crate) fn lines(table: &[u8], most: u32, room: u16, c: Controller, list: &[u8]) {
+pub(crate) fn lines(expected: u16, table: &[u8], most: u32, room: u16, c: Controller, list: &[u8]) {
     text(b"run");
     let mut bytes = io::large_buffer();
     let k = room_in(room, &bytes);
     let commands = &mut bytes[..k];
-    let told = run_bytes(c, table, list, most, commands);
+    let told = run_bytes(c, expected, table, list, most, commands);
     let answer = told.answer;
     let after = told.controller;
     match answer {

@@ -1,6 +1,6 @@
 // Hands hostile schedules and patterns to the judges of the desk, and writes a line on what each answers.
 //
-// Standard input, of which 65,536 bytes are read at most, is a sequence of cases, `[call][table: 32 bytes][length: u32][n: u16][n bytes]`.
+// Standard input, of which 65,536 bytes are read at most, is a sequence of cases, `[call][expected: u16][table: 32 bytes][length: u32][n: u16][n bytes]`.
 // Call 1 judges the n bytes as a schedule and has no use for the length, call 2 judges them as a pattern of that length. The line is
 // `case` for any other call, and for a case that the input cuts short, which is the last.
 use desk::judge;
@@ -28,16 +28,22 @@ fn main() {
 
 fn all_cases(s: &[u8]) {
     let mut at = 0;
-    while 39 <= s.len() - at {
-        let from = at + 39;
-        let n = size(num_at(s, at + 37));
+    while 41 <= s.len() - at {
+        let from = at + 41;
+        let n = size(num_at(s, at + 39));
         if s.len() - from < n {
             break;
         }
-        let table = at + 1;
-        let length = at + 33;
+        let table = at + 3;
+        let length = at + 35;
         let end = from + n;
-        one_case(s[at], &s[table..length], long_at(s, length), &s[from..end]);
+        one_case(
+            s[at],
+            num_at(s, at + 1),
+            &s[table..length],
+            long_at(s, length),
+            &s[from..end],
+        );
         at = end;
     }
     if at < s.len() {
@@ -58,10 +64,10 @@ fn long_at(s: &[u8], at: usize) -> u32
     from_le32(s[at], s[at + 1], s[at + 2], s[at + 3])
 }
 
-fn one_case(call: u8, table: &[u8], length: u32, s: &[u8]) {
+fn one_case(call: u8, expected: u16, table: &[u8], length: u32, s: &[u8]) {
     match call {
-        1 => schedule_line(table, s),
-        2 => pattern_line(table, s, length),
+        1 => schedule_line(expected, table, s),
+        2 => pattern_line(expected, table, s, length),
         _ => no_case(),
     }
 }
@@ -70,15 +76,15 @@ fn no_case() {
     text(b"case\n");
 }
 
-fn schedule_line(table: &[u8], s: &[u8]) {
+fn schedule_line(expected: u16, table: &[u8], s: &[u8]) {
     text(b"judge");
-    judged(judge(table, s));
+    judged(judge(expected, table, s));
     text(b"\n");
 }
 
-fn pattern_line(table: &[u8], s: &[u8], length: u32) {
+fn pattern_line(expected: u16, table: &[u8], s: &[u8], length: u32) {
     text(b"pattern");
-    pattern_judged(judge_pattern(table, s, length));
+    pattern_judged(judge_pattern(expected, table, s, length));
     text(b"\n");
 }
 

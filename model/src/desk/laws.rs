@@ -2,7 +2,7 @@
 
 use crate::desk::*;
 use crate::house::*;
-use crate::records::BANKS;
+use crate::records::{BANKS, EDITION};
 
 /// Lists of every shape, each under every table.
 fn lists_and_tables() -> Vec<(Table, Vec<[u8; 4]>)> {
@@ -22,9 +22,9 @@ fn lists_and_tables() -> Vec<(Table, Vec<[u8; 4]>)> {
     all
 }
 
-fn decoded(table: &[u8], list: &[[u8; 4]]) -> Vec<Transaction> {
+fn decoded(edition: u16, table: &[u8], list: &[[u8; 4]]) -> Vec<Transaction> {
     let mut places = vec![transaction(0, 0, 0, 0); list.len()];
-    read_transactions(table, &list.concat(), &mut places).expect("the list is accepted");
+    read_transactions(edition, table, &list.concat(), &mut places).expect("the list is accepted");
     places
 }
 
@@ -40,7 +40,8 @@ pub fn transaction(kind: u8, start: u8, bi: u8, bc: u8) -> Transaction {
 /// A run into room for all: what is told and the commands' bytes.
 fn ran(c: &mut Controller, table: &[u8], list: &[Transaction], count: u32) -> (Ran, Vec<u8>) {
     let mut room = vec![0; 1 << 16];
-    let told = run(c, table, list, count, &mut room).expect("nothing is refused");
+    let edition = c.edition;
+    let told = run(c, edition, table, list, count, &mut room).expect("nothing is refused");
     room.truncate(8 * told.commands as usize);
     (told, room)
 }
@@ -49,12 +50,12 @@ fn ran(c: &mut Controller, table: &[u8], list: &[Transaction], count: u32) -> (R
 fn built_schedules_pass_and_meet_the_bound() {
     for (table, list) in lists_and_tables() {
         let (room, finishes) = built(&table, &list);
-        let table = bytes_of(&table);
-        let (_, verdict) = judge(&table, &room).expect("whole records");
+        let (edition, table) = (table[EDITION], bytes_of(&table));
+        let (_, verdict) = judge(edition, &table, &room).expect("whole records");
         assert_eq!(verdict, Verdict::Accepted);
         let mut before = 0;
         for (x, finish) in list.iter().zip(finishes) {
-            let (_, cycles) = bound(&table, x[2], x[3]).expect("it's in the list");
+            let (_, cycles) = bound(edition, &table, x[2], x[3]).expect("it's in the list");
             assert!(u64::from(finish) <= before + cycles);
             before = finish.into();
         }
@@ -65,11 +66,11 @@ fn built_schedules_pass_and_meet_the_bound() {
 fn decoded_or_as_bytes() {
     for (table, list) in lists_and_tables() {
         let (room, finishes) = built(&table, &list);
-        let table = bytes_of(&table);
-        let list = decoded(&table, &list);
+        let (edition, table) = (table[EDITION], bytes_of(&table));
+        let list = decoded(edition, &table, &list);
         let mut own_room = vec![0; room.len()];
         let mut own_finishes = vec![0; finishes.len()];
-        let told = schedule(&table, &list, &mut own_room, &mut own_finishes);
+        let told = schedule(edition, &table, &list, &mut own_room, &mut own_finishes);
         let count = told.map(|told| 8 * told.commands as usize);
         assert_eq!((count, own_room), (Ok(room.len()), room));
         assert_eq!(own_finishes, finishes);
@@ -81,9 +82,9 @@ fn decoded_or_as_bytes() {
 fn a_run_to_the_end_is_the_build() {
     for (table, list) in lists_and_tables() {
         let (room, finishes) = built(&table, &list);
-        let table = bytes_of(&table);
-        let (_, mut c) = start(&table);
-        let (told, bytes) = ran(&mut c, &table, &decoded(&table, &list), u32::MAX);
+        let (edition, table) = (table[EDITION], bytes_of(&table));
+        let (_, mut c) = start(edition, &table);
+        let (told, bytes) = ran(&mut c, &table, &decoded(edition, &table, &list), u32::MAX);
         assert_eq!(bytes, room);
         assert_eq!(told.cycles, finishes.last().map_or(0, |last| last + 1));
         assert_eq!(c.cycle, told.cycles);
@@ -96,12 +97,12 @@ fn so_is_a_run_of_256_transactions() {
     let examples = crate::examples::all();
     let longest = examples.iter().find(|example| example.name == "all-256");
     let input = longest.expect("it's an example").bytes();
-    let (table, bytes) = input.split_at(32);
+    let (table, bytes) = input[2..].split_at(32);
     let (mut schedule, mut commands) = (vec![0; 1 << 16], vec![0; 1 << 16]);
     let mut finishes = [0; 256];
-    schedule_bytes(table, bytes, &mut schedule, &mut finishes).expect("nothing is refused");
-    let (_, mut c) = start(table);
-    let told = run_bytes(&mut c, table, bytes, u32::MAX, &mut commands);
+    schedule_bytes(7, table, bytes, &mut schedule, &mut finishes).expect("nothing is refused");
+    let (_, mut c) = start(7, table);
+    let told = run_bytes(&mut c, 7, table, bytes, u32::MAX, &mut commands);
     assert_eq!(told.map(|told| told.cycles), Ok(finishes[255] + 1));
     assert!(commands == schedule);
 }
@@ -110,12 +111,12 @@ fn so_is_a_run_of_256_transactions() {
 #[test]
 fn a_run_cut_in_two_gives_the_whole() {
     for (table, list) in lists_and_tables() {
-        let table = bytes_of(&table);
-        let list = decoded(&table, &list);
-        let (_, mut at_once) = start(&table);
+        let (edition, table) = (table[EDITION], bytes_of(&table));
+        let list = decoded(edition, &table, &list);
+        let (_, mut at_once) = start(edition, &table);
         let (whole, all) = ran(&mut at_once, &table, &list, u32::MAX);
         for count in 0..=whole.cycles {
-            let (_, mut c) = start(&table);
+            let (_, mut c) = start(edition, &table);
             let (first, start) = ran(&mut c, &table, &list, count);
             let (then, end) = ran(&mut c, &table, &list, u32::MAX - count);
             assert_eq!([start, end].concat(), all);
@@ -130,24 +131,24 @@ fn a_run_cut_in_two_gives_the_whole() {
 #[test]
 fn steps_give_the_whole() {
     for (table, list) in lists_and_tables() {
-        let table = bytes_of(&table);
+        let (edition, table) = (table[EDITION], bytes_of(&table));
         let bytes = list.concat();
-        let list = decoded(&table, &list);
-        let (_, mut at_once) = start(&table);
+        let list = decoded(edition, &table, &list);
+        let (_, mut at_once) = start(edition, &table);
         let (whole, all) = ran(&mut at_once, &table, &list, u32::MAX);
-        let (_, mut c) = start(&table);
-        let (_, mut by_bytes) = start(&table);
+        let (_, mut c) = start(edition, &table);
+        let (_, mut by_bytes) = start(edition, &table);
         let mut gone = Vec::new();
         for _ in 0..whole.cycles {
             let mut room = [0; 8];
-            let told = step(&mut c, &table, &list, &mut room).expect("nothing is refused");
+            let told = step(&mut c, edition, &table, &list, &mut room).expect("nothing is refused");
             assert_eq!((told.cycles, told.commands < 2), (1, true));
             gone.extend_from_slice(&room[..8 * told.commands as usize]);
-            let same = step_bytes(&mut by_bytes, &table, &bytes, &mut [0; 8]);
+            let same = step_bytes(&mut by_bytes, edition, &table, &bytes, &mut [0; 8]);
             assert_eq!((same, &by_bytes), (Ok(told), &c));
         }
         assert_eq!((gone, &c), (all, &at_once));
-        let told = step(&mut c, &table, &list, &mut []).expect("it's served");
+        let told = step(&mut c, edition, &table, &list, &mut []).expect("it's served");
         assert_eq!((told.cycles, told.commands), (0, 0));
         assert_eq!(c, at_once);
     }

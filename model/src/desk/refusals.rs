@@ -6,9 +6,9 @@ use crate::house::*;
 use crate::records::{BANKS, CCD, LAST};
 
 /// Number, position, edition.
-type Told = (u8, u32, u16);
+pub type Told = (u8, u32, u16);
 
-fn told<T>(answer: Result<T, Refusal>) -> Told {
+pub fn told<T>(answer: Result<T, Refusal>) -> Told {
     let r = answer.err().expect("it's refused");
     (r.number, r.position, r.edition)
 }
@@ -24,15 +24,15 @@ fn tables() -> [(Vec<u8>, Option<Told>); 4] {
     ]
 }
 
-const ROOM: [u8; 48] = [0xa5; 48];
+pub const ROOM: [u8; 48] = [0xa5; 48];
 
 /// Four commands: room for 32 bytes.
-fn two() -> [Transaction; 2] {
+pub fn two() -> [Transaction; 2] {
     [transaction(1, 0, 1, 1), transaction(0, 0, 1, 1)]
 }
 
 /// The second and the third are out of range.
-fn bad() -> [Transaction; 3] {
+pub fn bad() -> [Transaction; 3] {
     [
         transaction(0, 7, 1, 1),
         transaction(0, 7, 2, 1),
@@ -40,7 +40,7 @@ fn bad() -> [Transaction; 3] {
     ]
 }
 
-fn bytes(list: &[Transaction]) -> Vec<u8> {
+pub fn bytes(list: &[Transaction]) -> Vec<u8> {
     list.iter()
         .flat_map(|x| [x.kind, x.start, x.bi, x.bc])
         .collect()
@@ -52,10 +52,11 @@ fn schedules() {
         let refused = |list: &[Transaction], size: usize, slots: usize, number: Told| {
             let (mut room, mut finishes) = (ROOM, [9; 4]);
             let number = of_table.unwrap_or(number);
-            let as_list = schedule(&table, list, &mut room[..size], &mut finishes[..slots]);
+            let as_list = schedule(7, &table, list, &mut room[..size], &mut finishes[..slots]);
             assert_eq!(told(as_list), number);
             let list = bytes(list);
-            let as_bytes = schedule_bytes(&table, &list, &mut room[..size], &mut finishes[..slots]);
+            let as_bytes =
+                schedule_bytes(7, &table, &list, &mut room[..size], &mut finishes[..slots]);
             assert_eq!(told(as_bytes), number);
             assert_eq!((room, finishes), (ROOM, [9; 4]));
         };
@@ -63,12 +64,12 @@ fn schedules() {
         refused(&bad(), 0, 0, (4, 1, 7));
         refused(&two(), 31, 1, (5, 0, 7));
         refused(&two(), 32, 1, (6, 0, 7));
-        let odd = schedule_bytes(&table, &[9; 7], &mut [], &mut []);
+        let odd = schedule_bytes(7, &table, &[9; 7], &mut [], &mut []);
         assert_eq!(told(odd), of_table.unwrap_or((3, 0, 7)));
     }
     let (mut room, mut finishes) = (ROOM, [9; 4]);
     let a = bytes_of(&TABLE_A);
-    let commands = schedule(&a, &two(), &mut room, &mut finishes).map(|told| told.commands);
+    let commands = schedule(7, &a, &two(), &mut room, &mut finishes).map(|told| told.commands);
     assert_eq!((commands, finishes), (Ok(4), [10, 54, 9, 9]));
     assert_eq!(room[32..], ROOM[32..]);
     assert_eq!(room[..32], built(&TABLE_A, &[[1, 0, 1, 1], [0, 0, 1, 1]]).0);
@@ -85,13 +86,13 @@ fn lists() {
             (&bytes(&bad()), 3, (4, 1, 7)),
         ] {
             let mut into = vec![blank; places];
-            let answer = read_transactions(&table, list, &mut into);
+            let answer = read_transactions(7, &table, list, &mut into);
             assert_eq!(told(answer), of_table.unwrap_or(number));
             assert_eq!(into, vec![blank; places]);
         }
     }
     let mut into = [blank; 4];
-    let answer = read_transactions(&bytes_of(&TABLE_A), &bytes(&two()), &mut into);
+    let answer = read_transactions(7, &bytes_of(&TABLE_A), &bytes(&two()), &mut into);
     let (edition, transactions) = (7, 2);
     let decoded = Decoded {
         edition,
@@ -105,11 +106,11 @@ fn lists() {
 fn judges_and_bounds() {
     for (table, of_table) in tables() {
         let first = |number| of_table.unwrap_or(number);
-        assert_eq!(told(judge(&table, &[0; 9])), first((7, 0, 7)));
-        assert_eq!(told(judge_pattern(&table, &[0; 9], 0)), first((7, 0, 7)));
-        assert_eq!(told(judge_pattern(&table, &[0; 8], 0)), first((8, 0, 7)));
+        assert_eq!(told(judge(7, &table, &[0; 9])), first((7, 0, 7)));
+        assert_eq!(told(judge_pattern(7, &table, &[0; 9], 0)), first((7, 0, 7)));
+        assert_eq!(told(judge_pattern(7, &table, &[0; 8], 0)), first((8, 0, 7)));
         for (bi, bc) in [(0, 1), (9, 1), (17, 1), (1, 0), (1, 17)] {
-            assert_eq!(told(bound(&table, bi, bc)), first((4, 0, 7)));
+            assert_eq!(told(bound(7, &table, bi, bc)), first((4, 0, 7)));
         }
     }
 }
@@ -117,7 +118,7 @@ fn judges_and_bounds() {
 #[test]
 fn starts() {
     for (table, of_table) in tables() {
-        let (answer, c) = start(&table);
+        let (answer, c) = start(7, &table);
         let edition = of_table.map_or(7, |_| 0);
         assert_eq!(
             answer.map_err(|r| (r.number, r.position, r.edition)),
@@ -145,10 +146,10 @@ fn runs() {
         let refused = |c: &Controller, list: &[Transaction], count, size: usize, number| {
             let (mut same, mut room) = (c.clone(), ROOM);
             let number = of_table.unwrap_or(number);
-            let as_list = run(&mut same, &table, list, count, &mut room[..size]);
+            let as_list = run(&mut same, 7, &table, list, count, &mut room[..size]);
             assert_eq!(told(as_list), number);
             let list = bytes(list);
-            let as_bytes = run_bytes(&mut same, &table, &list, count, &mut room[..size]);
+            let as_bytes = run_bytes(&mut same, 7, &table, &list, count, &mut room[..size]);
             assert_eq!(told(as_bytes), number);
             assert_eq!((&same, room), (c, ROOM));
         };
@@ -162,7 +163,7 @@ fn runs() {
         refused(&too_many, &two(), 9, 15, (5, 0, 7));
         refused(&too_many, &two(), 9, 16, (9, 0, 7));
         let mut same = other.clone();
-        let answer = step(&mut same, &table, &two(), &mut []);
+        let answer = step(&mut same, 7, &table, &two(), &mut []);
         assert_eq!(told(answer), of_table.unwrap_or((5, 0, 7)));
         assert_eq!(same, other);
     }

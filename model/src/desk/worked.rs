@@ -43,7 +43,7 @@ fn example_2() {
 #[test]
 fn example_3() {
     assert_eq!(finishes(&[WRITE, READ]), [10, 54]);
-    assert_eq!(bound(&bytes_of(&TABLE_A), 1, 1), Ok((7, 44)));
+    assert_eq!(bound(7, &bytes_of(&TABLE_A), 1, 1), Ok((7, 44)));
 }
 
 #[test]
@@ -83,7 +83,7 @@ fn example_6() {
 #[test]
 fn example_7() {
     for (bi, bc, cycles) in [(2, 1, 53), (1, 4, 56), (4, 2, 75), (5, 1, 80), (8, 1, 107)] {
-        assert_eq!(bound(&bytes_of(&TABLE_A), bi, bc), Ok((7, cycles)));
+        assert_eq!(bound(7, &bytes_of(&TABLE_A), bi, bc), Ok((7, cycles)));
     }
 }
 
@@ -97,12 +97,12 @@ fn examples_8_to_10() {
     let (a, b) = (bytes_of(&TABLE_A), bytes_of(&TABLE_B));
     let one = bytes(&[(0, ACT, 0), (10, RDA, 0)]);
     let five = bytes(&EXAMPLE_5);
-    assert_eq!(judge_pattern(&a, &one, 38), accepted);
-    assert_eq!(judge_pattern(&a, &one, 37), broken(4, 2));
-    assert_eq!(judge_pattern(&a, &five, 39), accepted);
-    assert_eq!(judge_pattern(&a, &five, 38), broken(2, 2));
-    assert_eq!(judge_pattern(&b, &one, 39), accepted);
-    assert_eq!(judge_pattern(&b, &one, 38), broken(7, 5));
+    assert_eq!(judge_pattern(7, &a, &one, 38), accepted);
+    assert_eq!(judge_pattern(7, &a, &one, 37), broken(4, 2));
+    assert_eq!(judge_pattern(7, &a, &five, 39), accepted);
+    assert_eq!(judge_pattern(7, &a, &five, 38), broken(2, 2));
+    assert_eq!(judge_pattern(7, &b, &one, 39), accepted);
+    assert_eq!(judge_pattern(7, &b, &one, 38), broken(7, 5));
 }
 
 #[test]
@@ -112,10 +112,10 @@ fn example_11() {
         let end = [(act, ACT, 0), (act + 10, RDA, 0)];
         bytes(&[&[(0, ACT, 0), (10, WR, 0), (28, RDA, 0)], &end[..]].concat())
     };
-    assert_eq!(judge(&c, &with_act(44)), Ok((7, Verdict::Accepted)));
+    assert_eq!(judge(7, &c, &with_act(44)), Ok((7, Verdict::Accepted)));
     let (rule, record) = (4, 3);
     let broken = Verdict::Broken { rule, record };
-    assert_eq!(judge(&c, &with_act(43)), Ok((7, broken)));
+    assert_eq!(judge(7, &c, &with_act(43)), Ok((7, broken)));
 }
 
 #[test]
@@ -123,7 +123,7 @@ fn example_12() {
     let a = bytes_of(&TABLE_A);
     let listed = |list: &[u8]| {
         let mut room = vec![0; 1 << 16];
-        refusal(schedule_bytes(&a, list, &mut room, &mut [0; 256]))
+        refusal(schedule_bytes(7, &a, list, &mut room, &mut [0; 256]))
     };
     assert_eq!(listed(&[0, 7, 1, 1]), None);
     assert_eq!(listed(&[0, 7, 2, 1]), Some((4, 0, 7)));
@@ -131,7 +131,7 @@ fn example_12() {
     assert_eq!(listed(&READ.repeat(257)), Some((3, 0, 7)));
     let ccd_1 = bytes_of(&with(&[(CCD, 1)]));
     assert_eq!(refusal(read_table(&ccd_1)), Some((2, 0, 0)));
-    assert_eq!(judge(&a, &[]), Ok((7, Verdict::Accepted)));
+    assert_eq!(judge(7, &a, &[]), Ok((7, Verdict::Accepted)));
 }
 
 #[test]
@@ -140,9 +140,9 @@ fn sizes_of_schedules() {
     let most = vec![0; 8 * MOST_RECORDS];
     let (rule, record) = (2, 1);
     let broken = Verdict::Broken { rule, record };
-    assert_eq!(judge(&a, &most), Ok((7, broken)));
+    assert_eq!(judge(7, &a, &most), Ok((7, broken)));
     let over = vec![0; 8 * MOST_RECORDS + 8];
-    assert_eq!(refusal(judge(&a, &over)), Some((7, 0, 7)));
-    assert_eq!(refusal(judge_pattern(&a, &over, 0)), Some((7, 0, 7)));
-    assert_eq!(refusal(judge_pattern(&a, &[], 0)), Some((8, 0, 7)));
+    assert_eq!(refusal(judge(7, &a, &over)), Some((7, 0, 7)));
+    assert_eq!(refusal(judge_pattern(7, &a, &over, 0)), Some((7, 0, 7)));
+    assert_eq!(refusal(judge_pattern(7, &a, &[], 0)), Some((8, 0, 7)));
 }

@@ -35,9 +35,11 @@ const FIELDS: [(&str, &str); 16] = [
 impl Example {
     pub fn text(&self) -> String {
         let (name, title, size) = (self.name, self.title, self.bytes().len());
+        let expected = self.expected;
         let printed = listing(&self.bytes());
         [
             format!("{name}.bin, {size} bytes: {title}.\n"),
+            format!("Bytes 0 and 1, the expected edition, low byte first: {expected}.\n"),
             self.table_text(),
             self.list_text(),
             format!("The listing prints:\n\n{}", printed_text(&printed)),
@@ -48,7 +50,7 @@ impl Example {
     fn table_text(&self) -> String {
         let title = self.table_title;
         let mut out =
-            format!("Bytes 0 to 31, the table ({title}): 16-bit numbers, low byte first.\n\n");
+            format!("Bytes 2 to 33, the table ({title}): 16-bit numbers, low byte first.\n\n");
         for ((field, words), number) in FIELDS.iter().zip(self.table) {
             writeln!(out, "    {field:<8}{number:<6}{words}").expect("a string takes it");
         }
@@ -59,7 +61,7 @@ impl Example {
     fn list_text(&self) -> String {
         let count = self.list.len();
         let end = self.bytes().len() - 1;
-        let mut out = format!("Bytes 32 to {end}, the transactions, 4 bytes each: {count}.\n\n");
+        let mut out = format!("Bytes 34 to {end}, the transactions, 4 bytes each: {count}.\n\n");
         let mut first = 0;
         while first < count {
             let rest = &self.list[first..];

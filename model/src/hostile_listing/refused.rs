@@ -15,16 +15,16 @@ pub fn put(cases: &mut Cases) {
 }
 
 fn short(cases: &mut Cases, numbers: &mut Numbers) {
-    cases.group("example 3 cut to 0 to 39 bytes");
-    let whole = [bytes_of(&TABLE_A), EXAMPLE_3.concat()].concat();
+    cases.group("example 3 cut to 0 to 41 bytes");
+    let whole = [&[7, 0], &bytes_of(&TABLE_A)[..], &EXAMPLE_3.concat()].concat();
     for size in 0..whole.len() {
         cases.put(&whole[..size]);
     }
     cases.group("short inputs of any bytes");
     for size in [1, 2, 16, 31, 32, 33] {
-        cases.put(&numbers.bytes(size));
-        cases.put(&vec![0; size]);
-        cases.put(&vec![255; size]);
+        cases.own(&numbers.bytes(size));
+        cases.own(&vec![0; size]);
+        cases.own(&vec![255; size]);
     }
 }
 
@@ -69,7 +69,7 @@ fn flipped(cases: &mut Cases) {
             for bits in [1, 255] {
                 let mut bytes = whole.clone();
                 bytes[place] ^= bits;
-                cases.put(&bytes);
+                cases.own(&bytes);
             }
         }
     }
@@ -91,8 +91,8 @@ fn sizes(cases: &mut Cases, numbers: &mut Numbers) {
         cases.bytes(&with(&[(FAW, 0)]), &numbers.bytes(size));
     }
     for size in [2000, 65_536, 65_568, 200_000] {
-        cases.put(&vec![0; size]);
-        cases.put(&numbers.bytes(size));
+        cases.own(&vec![0; size]);
+        cases.own(&numbers.bytes(size));
     }
 }
 
@@ -134,7 +134,7 @@ fn meaningless(cases: &mut Cases, numbers: &mut Numbers) {
     cases.group("bytes of no meaning");
     for _ in 0..30 {
         let size = numbers.below(120);
-        cases.put(&numbers.bytes(size));
+        cases.own(&numbers.bytes(size));
     }
     cases.group("a good table and bytes of no meaning behind it");
     for table in [TABLE_A, LEAST, GREATEST] {

@@ -1,5 +1,7 @@
-//! The cases themselves: builds and bounds under every table, runs cut at every count, and rooms and lists one off.
+//! The cases themselves: builds and bounds under every table, runs cut at many counts, rooms and lists one off, and editions that are
+//! not expected.
 
+use super::editions::editions;
 use super::states::*;
 use super::*;
 use crate::house::*;
@@ -8,9 +10,18 @@ use crate::records::{BANKS, CCD, EDITION, LAST};
 pub struct Cases(Vec<u8>);
 
 impl Cases {
+    /// The expected edition is the table's own.
     fn head(&mut self, call: u8, table: &Table) {
         self.0.push(call);
+        self.0.extend(table[EDITION].to_le_bytes());
         self.0.extend(bytes_of(table));
+    }
+
+    /// What is put is one case, and this its expected edition.
+    pub fn expecting(&mut self, expected: u16, put: impl FnOnce(&mut Cases)) {
+        let place = self.0.len() + 1;
+        put(self);
+        self.0[place..place + 2].copy_from_slice(&expected.to_le_bytes());
     }
 
     fn list(&mut self, list: &[u8]) {
@@ -19,7 +30,7 @@ impl Cases {
         self.0.extend_from_slice(list);
     }
 
-    fn build(&mut self, table: &Table, room: usize, slots: usize, list: &[u8]) {
+    pub fn build(&mut self, table: &Table, room: usize, slots: usize, list: &[u8]) {
         self.head(BUILD, table);
         self.0.extend((room as u16).to_le_bytes());
         self.0.extend((slots as u16).to_le_bytes());
@@ -39,7 +50,7 @@ impl Cases {
         self.list(list);
     }
 
-    fn bound(&mut self, table: &Table, bi: u8, bc: u8) {
+    pub fn bound(&mut self, table: &Table, bi: u8, bc: u8) {
         self.head(BOUND, table);
         self.0.extend([bi, bc]);
     }
@@ -58,6 +69,7 @@ pub fn cases() -> Vec<u8> {
     any_states(&mut cases, &mut numbers);
     bounds(&mut cases);
     refused_tables(&mut cases);
+    editions(&mut cases);
     // At the end a case that is cut short.
     cases.run(&TABLE_A, 1, 8, &Controller::fresh(&TABLE_A), &[0, 0, 1, 1]);
     cases.0.pop();
@@ -173,22 +185,25 @@ fn lists(cases: &mut Cases) {
     cases.build(&LEAST, 65_535, 1, &[0, 15, 2, 1]);
 }
 
-/// Two lists, run to every count from 1 to the end and on from there.
+/// Example 4 run to the counts just before and just after each of its commands, and another list to every count from 1 to the end.
 fn cuts(cases: &mut Cases) {
+    let example_4 = [[0, 0, 1, 1], [1, 1, 1, 1]];
+    cut(cases, &TABLE_A, &example_4, [1, 6, 7, 10, 11, 18, 19]);
     let small = [20, 3, 2, 2, 3, 3, 5, 7, 2, 9, 3, 2, 2, 2, 2, 0];
-    for (table, list) in [
-        (TABLE_A, [[0, 0, 1, 1], [1, 1, 1, 1]]),
-        (small, [[1, 0, 2, 2], [0, 1, 2, 1]]),
-    ] {
-        let (room, bytes) = (room_for(&list), list.concat());
-        let fresh = Controller::fresh(&table);
-        let (whole, _, _) = ran(&fresh, &table, &list, u32::MAX);
-        for count in 1..=whole.cycles {
-            let (first, _, state) = ran(&fresh, &table, &list, count);
-            cases.run(&table, count, room, &fresh, &bytes);
-            let left = room - 8 * first.commands as usize;
-            cases.run(&table, u32::MAX - count, left, &state, &bytes);
-        }
+    let list = [[1, 0, 2, 2], [0, 1, 2, 1]];
+    let (whole, _, _) = ran(&Controller::fresh(&small), &small, &list, u32::MAX);
+    cut(cases, &small, &list, 1..=whole.cycles);
+}
+
+/// A fresh run to each count, and on from there to the end.
+fn cut(cases: &mut Cases, table: &Table, list: &[[u8; 4]], counts: impl IntoIterator<Item = u32>) {
+    let (room, bytes) = (room_for(list), list.concat());
+    let fresh = Controller::fresh(table);
+    for count in counts {
+        let (first, _, state) = ran(&fresh, table, list, count);
+        cases.run(table, count, room, &fresh, &bytes);
+        let left = room - 8 * first.commands as usize;
+        cases.run(table, u32::MAX - count, left, &state, &bytes);
     }
 }
 

@@ -4,7 +4,7 @@ use super::cases::{any_list, Cases};
 use super::*;
 use crate::house::*;
 use crate::listing::commands;
-use crate::records::BANKS;
+use crate::records::{BANKS, EDITION};
 
 pub fn bytes_of_state(s: &Controller) -> Vec<u8> {
     let four = |n: u32| n.to_le_bytes();
@@ -37,8 +37,9 @@ pub fn ran(
 ) -> (Ran, Vec<Command>, Controller) {
     let mut state = from.clone();
     let mut room = vec![0; room_for(list)];
-    let (table, list) = (bytes_of(table), list.concat());
-    let told = run_bytes(&mut state, &table, &list, count, &mut room).expect("it's accepted");
+    let (edition, table, list) = (table[EDITION], bytes_of(table), list.concat());
+    let told =
+        run_bytes(&mut state, edition, &table, &list, count, &mut room).expect("it's accepted");
     (told, commands(&room, told.commands), state)
 }
 

@@ -8,13 +8,13 @@ use Rattle.desk.proofs.running.run_bytes.Statement.{statement}
 use Rattle.desk.proofs.running.run_bytes.Tie as tie
 
 run-by-requires : tie.Need-run-by-requires
-run-by-requires c κs = told-accepted _ _ _ (c .before .before .before .before .admit .ensures) (c .before .before .t .given .1)
+run-by-requires c κs = told-accepted _ _ _ _ (c .before .before .before .before .admit .ensures) (c .before .before .t .given .1)
 
 returns : tie.Need-returns
-returns c = run-read _ _ (c .before .before .before .before .before .before .before .admit .ensures) _ (c .before .before .before .before .before .t .given .1) (λ (τ : Table). checkBytes τ (now (c .before .before .before .before .before .before .before .before .before .before .before .args .list))) _ _ _ _ _ _ (c .before .before .run-by .ensures)
+returns c = run-read _ _ _ (c .before .before .before .before .before .before .before .admit .ensures) _ (c .before .before .before .before .before .t .given .1) (λ (τ : Table). checkBytes τ (now (c .before .before .before .before .before .before .before .before .before .before .before .args .list))) _ _ _ _ _ _ (c .before .before .run-by .ensures)
 
 returns-2 : tie.Need-returns-2
-returns-2 c = run-refused _ _ (c .before .before .before .admit .ensures) _ (c .before .r .given .1) (λ (τ : Table). checkBytes τ (now (c .before .before .before .before .before .before .before .args .list))) _ _ _ _
+returns-2 c = run-refused _ _ _ (c .before .before .before .admit .ensures) _ (c .before .r .given .1) (λ (τ : Table). checkBytes τ (now (c .before .before .before .before .before .before .before .args .list))) _ _ _ _
 
 pub run-bytes-spec : {M : Type 1} → statement M
 run-bytes-spec = tie.close (tie.spec (λ c κs. search needs) (λ c. search needs) run-by-requires (λ c. search needs) (λ c. search needs) returns returns-2)

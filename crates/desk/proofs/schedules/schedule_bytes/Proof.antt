@@ -8,13 +8,13 @@ use Rattle.desk.proofs.schedules.schedule_bytes.Statement.{statement}
 use Rattle.desk.proofs.schedules.schedule_bytes.Tie as tie
 
 schedule-by-requires : tie.Need-schedule-by-requires
-schedule-by-requires c κs = told-accepted _ _ _ (c .before .before .before .before .before .admit .ensures) (c .before .before .before .t .given .1)
+schedule-by-requires c κs = told-accepted _ _ _ _ (c .before .before .before .before .before .admit .ensures) (c .before .before .before .t .given .1)
 
 returns : tie.Need-returns
-returns c = schedule-read _ _ (c .before .before .before .before .before .before .before .before .before .before .admit .ensures) _ (c .before .before .before .before .before .before .before .before .t .given .1) (λ (τ : Table). checkBytes τ (now (c .before .before .before .before .before .before .before .before .before .before .before .before .before .before .before .args .list))) _ _ _ _ _ _ (c .before .before .before .before .schedule-by .ensures)
+returns c = schedule-read _ _ _ (c .before .before .before .before .before .before .before .before .before .before .admit .ensures) _ (c .before .before .before .before .before .before .before .before .t .given .1) (λ (τ : Table). checkBytes τ (now (c .before .before .before .before .before .before .before .before .before .before .before .before .before .before .before .args .list))) _ _ _ _ _ _ (c .before .before .before .before .schedule-by .ensures)
 
 returns-2 : tie.Need-returns-2
-returns-2 c = schedule-refused _ _ (c .before .before .before .admit .ensures) _ (c .before .r .given .1) (λ (τ : Table). checkBytes τ (now (c .before .before .before .before .before .before .before .before .args .list))) _ _ _
+returns-2 c = schedule-refused _ _ _ (c .before .before .before .admit .ensures) _ (c .before .r .given .1) (λ (τ : Table). checkBytes τ (now (c .before .before .before .before .before .before .before .before .args .list))) _ _ _
 
 pub schedule-bytes-spec : {M : Type 1} → statement M
 schedule-bytes-spec = tie.close (tie.spec (λ c κs. search needs) (λ c. search needs) schedule-by-requires (λ c. search needs) (λ c. search needs) (λ c. search needs) returns returns-2)

@@ -13,13 +13,13 @@ use Rattle.desk.proofs.schedules.schedule_held.Statement.{statement}
 use Rattle.desk.proofs.schedules.schedule_held.Tie as tie
 
 array-share-prefix-bytes : tie.Need-array-share-prefix-bytes
-array-share-prefix-bytes c = let full : length (c .before .before .before .before .before .args .p .bytes) ≡ 1024 = (rw length-map at (c .before .before .before .before .before .good .1 .0 .1 .1 .1 .0 .1 .0 .1)) in omega (arith, c .before .if1 .taken)
+array-share-prefix-bytes c = let full : length (c .before .before .before .before .before .args .p .bytes) ≡ 1024 = (rw length-map at (c .before .before .before .before .before .good .1 .1 .0 .1 .1 .1 .0 .1 .0 .1)) in omega (arith, c .before .if1 .taken)
 
 slice-aggregate-schedule-bytes : tie.Need-slice-aggregate-schedule-bytes
-slice-aggregate-schedule-bytes c = let full : length (c .before .before .before .before .before .before .args .p .bytes) ≡ 1024 = (rw length-map at (c .before .before .before .before .before .before .good .1 .0 .1 .1 .1 .0 .1 .0 .1)) in rw length-take (omega (arith, c .before .before .if1 .taken))
+slice-aggregate-schedule-bytes c = let full : length (c .before .before .before .before .before .before .args .p .bytes) ≡ 1024 = (rw length-map at (c .before .before .before .before .before .before .good .1 .1 .0 .1 .1 .1 .0 .1 .0 .1)) in rw length-take (omega (arith, c .before .before .if1 .taken))
 
 returns : tie.Need-returns
-returns c = let full : length (c .before .before .before .before .before .before .before .before .before .before .before .before .before .args .p .bytes) ≡ 1024 = (rw length-map at (c .before .before .before .before .before .before .before .before .before .before .before .before .before .good .1 .0 .1 .1 .1 .0 .1 .0 .1)) in schedule-held (c .before .before .before .before .before .before .before .before .before .before .before .before .before .args .p) (c .before .before .before .before .before .before .before .before .before .if1 .taken) full _ _ _ _ _ _ (c .before .before .before .before .schedule-bytes .ensures)
+returns c = let full : length (c .before .before .before .before .before .before .before .before .before .before .before .before .before .args .p .bytes) ≡ 1024 = (rw length-map at (c .before .before .before .before .before .before .before .before .before .before .before .before .before .good .1 .1 .0 .1 .1 .1 .0 .1 .0 .1)) in schedule-held (c .before .before .before .before .before .before .before .before .before .before .before .before .before .args .p) (c .before .before .before .before .before .before .before .before .before .if1 .taken) full _ _ _ _ _ _ (c .before .before .before .before .schedule-bytes .ensures)
 
 returns-2 : tie.Need-returns-2
 returns-2 c = schedules-over (λ (τ : Table). checkList τ (held (c .before .before .before .before .before .args .p))) _ _ _ _ _ (λ τ. over-check (c .before .before .before .before .before .args .p) τ (c .before .if1 .left)) (c .too-many .ensures)

@@ -1,0 +1,55 @@
+//! "If they differ it's refused as number 10 .. straight after number 2": what goes before it, and what after.
+
+use super::cases::{Cases, EXAMPLE_1};
+use super::{JUDGE, JUDGE_PATTERN};
+use crate::house::*;
+use crate::records::{BANKS, CCD, EDITION, LAST};
+use crate::rules::{ACT, RDA};
+
+pub fn editions(cases: &mut Cases) {
+    others(cases);
+    refused_tables(cases);
+    later_numbers(cases);
+}
+
+/// Nothing else is wrong. An edition whose low byte is 0 can be expected.
+fn others(cases: &mut Cases) {
+    for (edition, expected) in OTHER_EDITIONS.into_iter().chain([(256, 256)]) {
+        let table = with(&[(EDITION, edition)]);
+        cases.expecting(expected, |cases| cases.schedule(&table, &EXAMPLE_1));
+        cases.expecting(expected, |cases| cases.pattern(&table, &EXAMPLE_1, 38));
+    }
+}
+
+/// Numbers 1 and 2 go before it, and "expected 0 always differs": no table of edition 0 is accepted.
+fn refused_tables(cases: &mut Cases) {
+    for (table, expected) in [
+        (with(&[(LAST, 1)]), 8),
+        (with(&[(LAST, 1), (EDITION, 0)]), 0),
+        (with(&[(CCD, 1)]), 8),
+        (with(&[(BANKS, 17)]), 0),
+        (with(&[(EDITION, 0)]), 0),
+        (with(&[(EDITION, 0)]), 7),
+    ] {
+        cases.expecting(expected, |cases| cases.put(JUDGE, &table, 0, &[0; 9]));
+        cases.expecting(expected, |cases| {
+            cases.put(JUDGE_PATTERN, &table, 0, &[0; 9])
+        });
+    }
+}
+
+/// Numbers 7 and 8, and every verdict, go after it.
+fn later_numbers(cases: &mut Cases) {
+    let broken = [(0, ACT, 0), (9, RDA, 0)];
+    for expected in [8, 0] {
+        let mut put = |put: &dyn Fn(&mut Cases)| cases.expecting(expected, put);
+        put(&|cases| cases.put(JUDGE, &TABLE_A, 0, &[0; 9]));
+        put(&|cases| cases.schedule(&TABLE_A, &broken));
+        put(&|cases| cases.schedule(&TABLE_A, &[]));
+        put(&|cases| cases.put(JUDGE_PATTERN, &TABLE_A, 38, &[0; 9]));
+        put(&|cases| cases.put(JUDGE_PATTERN, &TABLE_A, 0, &[0; 9]));
+        put(&|cases| cases.pattern(&TABLE_A, &EXAMPLE_1, 0));
+        put(&|cases| cases.pattern(&TABLE_A, &EXAMPLE_1, 37));
+        put(&|cases| cases.pattern(&TABLE_A, &[], 0));
+    }
+}
