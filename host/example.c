@@ -1,5 +1,5 @@
-/* Example 3 of document 01: table A, a write and then a read of bank 0. Builds the schedule, prints its listing, and asks the other calls
- * whether they agree: what is printed is the listing alone, and a call that disagrees ends the program with status 1. */
+/* Example 3 of document 01: table A, a write and then a read of bank 0. Expects edition 7, builds the schedule, prints its listing, and asks
+ * the other calls whether they agree: what is printed is the listing alone, and a call that disagrees ends the program with status 1. */
 #include <stdio.h>
 #include <string.h>
 
@@ -8,6 +8,7 @@
 static const skv_numbers table_a = {{7, 8, 4, 4, 10, 10, 28, 38, 6, 32, 10, 8, 6, 12, 6, 0}};
 static const skv_transaction list[2] = {{1, 0, 1, 1}, {0, 0, 1, 1}};
 static const uint8_t list_bytes[8] = {1, 0, 1, 1, 0, 0, 1, 1};
+static const uint16_t expected = 7;
 static const char *const kinds[5] = {"ACT", "RD", "RDA", "WR", "WRA"};
 
 static int wrong(const char *call) {
@@ -25,7 +26,7 @@ int main(void) {
     skv_table_answer read = skv_read_table(table, sizeof table);
     if (read.refused != 0 || memcmp(read.numbers, table_a.numbers, 32) != 0) return wrong("skv_read_table");
 
-    skv_answer built = skv_schedule(table, sizeof table, list, 2, commands, sizeof commands, finishes, 2);
+    skv_answer built = skv_schedule(expected, table, sizeof table, list, 2, commands, sizeof commands, finishes, 2);
     if (built.refused != 0) {
         printf("refused %u at %u edition %u\n", built.refused, built.position, built.edition);
         return 1;
@@ -37,21 +38,23 @@ int main(void) {
     }
     for (uint32_t i = 0; i < 2; i++) printf("finish %u %u\n", i, finishes[i]);
 
-    skv_answer transactions = skv_read_transactions(table, sizeof table, list_bytes, sizeof list_bytes, decoded, 2);
+    skv_answer transactions = skv_read_transactions(expected, table, sizeof table, list_bytes, sizeof list_bytes, decoded, 2);
     if (transactions.count != 2 || memcmp(decoded, list, sizeof list) != 0) return wrong("skv_read_transactions");
-    skv_verdict_answer verdict = skv_judge(table, sizeof table, commands, sizeof commands);
+    skv_verdict_answer verdict = skv_judge(expected, table, sizeof table, commands, sizeof commands);
     if (verdict.refused != 0 || verdict.rule != 0 || verdict.edition != 7) return wrong("skv_judge");
-    skv_answer bound = skv_bound(table, sizeof table, 1, 1);
+    skv_answer bound = skv_bound(expected, table, sizeof table, 1, 1);
     if (bound.count != 44 || finishes[1] - finishes[0] != bound.count) return wrong("skv_bound");
 
-    skv_controller c = skv_start(table, sizeof table).controller;
-    skv_answer ran = skv_run(&c, table, sizeof table, list, 2, 20, again, sizeof again);
+    skv_controller c = skv_start(expected, table, sizeof table).controller;
+    skv_answer ran = skv_run(&c, expected, table, sizeof table, list, 2, 20, again, sizeof again);
     if (ran.refused != 0 || ran.count != 2 || ran.cycles != 20) return wrong("skv_run");
     skv_controller_answer rest =
-        skv_run_bytes(c, table, sizeof table, list_bytes, sizeof list_bytes, 1000, again + 16, sizeof again - 16);
+        skv_run_bytes(c, expected, table, sizeof table, list_bytes, sizeof list_bytes, 1000, again + 16, sizeof again - 16);
     if (rest.answer.count != 2 || rest.answer.cycles != 35 || rest.controller.cycle != 55) return wrong("skv_run_bytes");
     if (memcmp(again, commands, sizeof commands) != 0) return wrong("skv_run");
-    skv_answer none = skv_schedule(table, sizeof table, list, 2, commands, 31, finishes, 2);
+    skv_answer none = skv_schedule(expected, table, sizeof table, list, 2, commands, 31, finishes, 2);
     if (none.refused != 5 || none.edition != 7) return wrong("skv_schedule");
+    skv_answer other = skv_schedule(5, table, sizeof table, list, 2, commands, 31, finishes, 2);
+    if (other.refused != 10 || other.position != 7 || other.edition != 7) return wrong("skv_schedule");
     return 0;
 }

@@ -7,7 +7,8 @@
  * controller. A call that is not refused writes each result from its buffer's start and leaves all beyond as it stood. What a call is lent as
  * const it only reads.
  *
- * The checks go in the order of the numbers: the first that applies is told. A call makes only the checks that its comment names.
+ * The checks go in the order of the numbers, but for 10, which goes straight after number 2: the first that applies is told. A call makes only
+ * the checks that its comment names.
  *
  *   1  table not 32 bytes, or its last number not 0
  *   2  a table number out of range, CCD below 2 or below B
@@ -19,8 +20,12 @@
  *   8  pattern length 0
  *   9  a controller that cannot be gone on with: its cycle at 100,000,000 or more, an edition not the table's, a stored cycle not before its
  *      own cycle, more commands gone from a queue than the list puts there, or a data command gone whose ACT has not
+ *  10  the expected edition is not the table's; the position is the table's edition. Expected 0 always differs, since no table has it
  *
- * The position is 0 but for number 4. The edition of an answer is the table's; it is 0 where no table is given, and for refusals 1 and 2.
+ * Each call that is lent a table is told before it which edition the caller expects. Those that read or write one record are told none.
+ *
+ * The position is 0 but for numbers 4 and 10. The edition of an answer is the table's; it is 0 where no table is given, and for refusals 1
+ * and 2.
  *
  * What a caller owes: each pointer points to that many elements (never NULL, even where the number is 0), aligned for its type; what is lent
  * for writing overlaps nothing else that is lent in the same call; and nobody else writes to what is lent while the call runs.
@@ -153,53 +158,54 @@ skv_command_answer skv_read_command(const uint8_t *bytes, size_t bytes_len);
 /* Checks 5 (out under 8 bytes). Writes the 8 bytes of the command; any numbers are one. Bytes of out beyond the eighth stay as they stood. */
 skv_answer skv_write_command(uint32_t cycle, uint8_t kind, uint8_t bank, uint16_t number, uint8_t *out, size_t out_len);
 
-/* Checks 1, 2, 3 (bytes not a multiple of 4, over 256 transactions, or more than list has places), 4. Writes the transactions into list; places
- * beyond them stay as they stood. count is the number of transactions. */
-skv_answer skv_read_transactions(const uint8_t *table, size_t table_len, const uint8_t *bytes, size_t bytes_len,
+/* Checks 1, 2, 10, 3 (bytes not a multiple of 4, over 256 transactions, or more than list has places), 4. Writes the transactions into list;
+ * places beyond them stay as they stood. count is the number of transactions. */
+skv_answer skv_read_transactions(uint16_t expected, const uint8_t *table, size_t table_len, const uint8_t *bytes, size_t bytes_len,
                                  skv_transaction *list, size_t list_len);
 
-/* Checks 1, 2, 3 (over 256 transactions), 4, 5 (commands_len under 8 x the commands due), 6 (finishes_len under list_len).
+/* Checks 1, 2, 10, 3 (over 256 transactions), 4, 5 (commands_len under 8 x the commands due), 6 (finishes_len under list_len).
  * Writes the schedule that the cycle rule gives, 8 bytes for each command, oldest first, and into finishes, for each transaction, the cycle of
  * its last data command. Bytes and places beyond stay as they stood. count is the number of commands. */
-skv_answer skv_schedule(const uint8_t *table, size_t table_len, const skv_transaction *list, size_t list_len,
+skv_answer skv_schedule(uint16_t expected, const uint8_t *table, size_t table_len, const skv_transaction *list, size_t list_len,
                         uint8_t *commands, size_t commands_len, uint32_t *finishes, size_t finishes_len);
 
 /* As skv_schedule, with the transactions' bytes for the list: 3 also where list_len is not a multiple of 4. */
-skv_answer skv_schedule_bytes(const uint8_t *table, size_t table_len, const uint8_t *list, size_t list_len,
+skv_answer skv_schedule_bytes(uint16_t expected, const uint8_t *table, size_t table_len, const uint8_t *list, size_t list_len,
                               uint8_t *commands, size_t commands_len, uint32_t *finishes, size_t finishes_len);
 
-/* Checks 1, 2, 7. Accepts the schedule exactly when every timing rule holds of each record and at the end every bank is closed; otherwise names
- * the first record that breaks a rule, and the first rule that it breaks. The transaction numbers are not looked at. */
-skv_verdict_answer skv_judge(const uint8_t *table, size_t table_len, const uint8_t *schedule, size_t schedule_len);
+/* Checks 1, 2, 10, 7. Accepts the schedule exactly when every timing rule holds of each record and at the end every bank is closed; otherwise
+ * names the first record that breaks a rule, and the first rule that it breaks. The transaction numbers are not looked at. */
+skv_verdict_answer skv_judge(uint16_t expected, const uint8_t *table, size_t table_len, const uint8_t *schedule, size_t schedule_len);
 
-/* Checks 1, 2, 7, 8. Copy n, from 1, has length x (n - 1) added to each cycle, in numbers that never wrap. Accepts the pattern exactly when every
- * number of copies, set end to end, is a legal schedule; otherwise names the lowest copy, its first record that breaks a rule, and the rule. */
-skv_verdict_answer skv_judge_pattern(const uint8_t *table, size_t table_len, const uint8_t *pattern, size_t pattern_len,
+/* Checks 1, 2, 10, 7, 8. Copy n, from 1, has length x (n - 1) added to each cycle, in numbers that never wrap. Accepts the pattern exactly when
+ * every number of copies, set end to end, is a legal schedule; otherwise names the lowest copy, its first record that breaks a rule, and the
+ * rule. */
+skv_verdict_answer skv_judge_pattern(uint16_t expected, const uint8_t *table, size_t table_len, const uint8_t *pattern, size_t pattern_len,
                                      uint32_t length);
 
-/* Checks 1, 2, 4 (bi or bc outside 1 to 16, or bi above banks; position 0). count is the bound: a transaction of (bi, bc) finishes at most
+/* Checks 1, 2, 10, 4 (bi or bc outside 1 to 16, or bi above banks; position 0). count is the bound: a transaction of (bi, bc) finishes at most
  * so many cycles after the one before it, the first after cycle 0. */
-skv_answer skv_bound(const uint8_t *table, size_t table_len, uint8_t bi, uint8_t bc);
+skv_answer skv_bound(uint16_t expected, const uint8_t *table, size_t table_len, uint8_t bi, uint8_t bc);
 
-/* Checks 1, 2. Answers a fresh controller of the table's edition: cycle 0, all banks closed, "never" throughout. Where refused, one of edition 0,
- * which no table has. */
-skv_controller_answer skv_start(const uint8_t *table, size_t table_len);
+/* Checks 1, 2, 10. Answers a fresh controller of the table's edition: cycle 0, all banks closed, "never" throughout. Where refused, one of
+ * edition 0, which no table has. */
+skv_controller_answer skv_start(uint16_t expected, const uint8_t *table, size_t table_len);
 
-/* Checks 1, 2, 3 (over 256 transactions), 4, 5 (room_len under 8 x the lesser of count and the commands left in the two queues), 9.
+/* Checks 1, 2, 10, 3 (over 256 transactions), 4, 5 (room_len under 8 x the lesser of count and the commands left in the two queues), 9.
  * Runs the cycle rule on from what c tells, and stops after count cycles, when the list is served, or at cycle 100,000,000, whichever is first.
  * Writes the commands that go, 8 bytes each, into room, and changes c to what it then tells. Bytes beyond, and what c keeps past the table's
  * banks, stay as they stood. count is the number of commands, cycles the number of cycles run. */
-skv_answer skv_run(skv_controller *c, const uint8_t *table, size_t table_len, const skv_transaction *list, size_t list_len,
+skv_answer skv_run(skv_controller *c, uint16_t expected, const uint8_t *table, size_t table_len, const skv_transaction *list, size_t list_len,
                    uint32_t count, uint8_t *room, size_t room_len);
 
 /* As skv_run with a count of 1. */
-skv_answer skv_step(skv_controller *c, const uint8_t *table, size_t table_len, const skv_transaction *list, size_t list_len,
+skv_answer skv_step(skv_controller *c, uint16_t expected, const uint8_t *table, size_t table_len, const skv_transaction *list, size_t list_len,
                     uint8_t *room, size_t room_len);
 
 /* As skv_run, with the transactions' bytes for the list (3 also where list_len is not a multiple of 4), and with the controller handed in and
  * back by value. Where refused, it comes back as it was. */
-skv_controller_answer skv_run_bytes(skv_controller c, const uint8_t *table, size_t table_len, const uint8_t *list, size_t list_len,
-                                    uint32_t count, uint8_t *room, size_t room_len);
+skv_controller_answer skv_run_bytes(skv_controller c, uint16_t expected, const uint8_t *table, size_t table_len, const uint8_t *list,
+                                    size_t list_len, uint32_t count, uint8_t *room, size_t room_len);
 
 #ifdef __cplusplus
 }

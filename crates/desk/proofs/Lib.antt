@@ -7,3 +7,4 @@ pub mod Edition
 pub mod Judges
 pub mod Serves
 pub mod Room
+pub mod RunsOn

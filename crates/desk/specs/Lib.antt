@@ -7,3 +7,4 @@ pub mod Running
 pub mod Named
 pub mod Only
 pub mod Demands
+pub mod Runs

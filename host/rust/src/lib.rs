@@ -1,7 +1,8 @@
 //! The desk's calls for Rust: safe functions over the archive that `rt staticlib host` makes.
 //!
 //! Any bytes may be handed in. A refused call changes no buffer and no controller. A call that is not refused writes each result from its
-//! buffer's start and leaves all beyond as it stood. `skvorzhan.h` says what each call checks and writes.
+//! buffer's start and leaves all beyond as it stood. Each call that is lent a table is told before it which edition is expected.
+//! `skvorzhan.h` says what each call checks and writes.
 
 pub mod raw;
 mod records;
@@ -19,7 +20,7 @@ use std::fmt;
 /// A stored cycle of a controller that stands for "never".
 pub const NEVER: u32 = u32::MAX;
 
-/// The number and the position of document 01, and the edition of the table: 0 where none is given, and where the table is refused.
+/// The number and the position, and the edition of the table: 0 where none is given, and for numbers 1 and 2.
 #[derive(Debug, Clone, Copy, PartialEq, Eq)]
 pub struct Refusal {
     pub number: u32,

@@ -116,20 +116,21 @@ extern "C" {
     pub fn skv_write_transaction(kind: u8, start: u8, bi: u8, bc: u8, out: *mut u8, out_len: usize) -> Answer;
     pub fn skv_read_command(bytes: *const u8, bytes_len: usize) -> CommandAnswer;
     pub fn skv_write_command(cycle: u32, kind: u8, bank: u8, number: u16, out: *mut u8, out_len: usize) -> Answer;
-    pub fn skv_read_transactions(table: *const u8, table_len: usize, bytes: *const u8, bytes_len: usize,
+    pub fn skv_read_transactions(expected: u16, table: *const u8, table_len: usize, bytes: *const u8, bytes_len: usize,
         list: *mut Transaction, list_len: usize) -> Answer;
-    pub fn skv_schedule(table: *const u8, table_len: usize, list: *const Transaction, list_len: usize,
+    pub fn skv_schedule(expected: u16, table: *const u8, table_len: usize, list: *const Transaction, list_len: usize,
         commands: *mut u8, commands_len: usize, finishes: *mut u32, finishes_len: usize) -> Answer;
-    pub fn skv_schedule_bytes(table: *const u8, table_len: usize, list: *const u8, list_len: usize,
+    pub fn skv_schedule_bytes(expected: u16, table: *const u8, table_len: usize, list: *const u8, list_len: usize,
         commands: *mut u8, commands_len: usize, finishes: *mut u32, finishes_len: usize) -> Answer;
-    pub fn skv_judge(table: *const u8, table_len: usize, schedule: *const u8, schedule_len: usize) -> VerdictAnswer;
-    pub fn skv_judge_pattern(table: *const u8, table_len: usize, pattern: *const u8, pattern_len: usize, length: u32) -> VerdictAnswer;
-    pub fn skv_bound(table: *const u8, table_len: usize, bi: u8, bc: u8) -> Answer;
-    pub fn skv_start(table: *const u8, table_len: usize) -> ControllerAnswer;
-    pub fn skv_run(c: *mut Controller, table: *const u8, table_len: usize, list: *const Transaction, list_len: usize,
+    pub fn skv_judge(expected: u16, table: *const u8, table_len: usize, schedule: *const u8, schedule_len: usize) -> VerdictAnswer;
+    pub fn skv_judge_pattern(expected: u16, table: *const u8, table_len: usize, pattern: *const u8, pattern_len: usize,
+        length: u32) -> VerdictAnswer;
+    pub fn skv_bound(expected: u16, table: *const u8, table_len: usize, bi: u8, bc: u8) -> Answer;
+    pub fn skv_start(expected: u16, table: *const u8, table_len: usize) -> ControllerAnswer;
+    pub fn skv_run(c: *mut Controller, expected: u16, table: *const u8, table_len: usize, list: *const Transaction, list_len: usize,
         count: u32, room: *mut u8, room_len: usize) -> Answer;
-    pub fn skv_step(c: *mut Controller, table: *const u8, table_len: usize, list: *const Transaction, list_len: usize,
+    pub fn skv_step(c: *mut Controller, expected: u16, table: *const u8, table_len: usize, list: *const Transaction, list_len: usize,
         room: *mut u8, room_len: usize) -> Answer;
-    pub fn skv_run_bytes(c: Controller, table: *const u8, table_len: usize, list: *const u8, list_len: usize,
+    pub fn skv_run_bytes(c: Controller, expected: u16, table: *const u8, table_len: usize, list: *const u8, list_len: usize,
         count: u32, room: *mut u8, room_len: usize) -> ControllerAnswer;
 }

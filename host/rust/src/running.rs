@@ -3,9 +3,9 @@
 use crate::raw::*;
 use crate::Refusal;
 
-/// Refused with 1 and 2. A fresh controller.
-pub fn start(table: &[u8]) -> Result<Controller, Refusal> {
-    let a = unsafe { skv_start(table.as_ptr(), table.len()) };
+/// Refused with 1, 2 and 10. A fresh controller.
+pub fn start(expected: u16, table: &[u8]) -> Result<Controller, Refusal> {
+    let a = unsafe { skv_start(expected, table.as_ptr(), table.len()) };
     a.answer.told(a.controller)
 }
 
@@ -24,9 +24,10 @@ fn ran(a: Answer) -> Result<Ran, Refusal> {
     })
 }
 
-/// Refused with 1 to 5 and 9.
+/// Refused with 1, 2, 10, 3 to 5, and 9.
 pub fn run(
     c: &mut Controller,
+    expected: u16,
     table: &[u8],
     list: &[Transaction],
     count: u32,
@@ -35,6 +36,7 @@ pub fn run(
     ran(unsafe {
         skv_run(
             c,
+            expected,
             table.as_ptr(),
             table.len(),
             list.as_ptr(),
@@ -49,6 +51,7 @@ pub fn run(
 /// One cycle.
 pub fn step(
     c: &mut Controller,
+    expected: u16,
     table: &[u8],
     list: &[Transaction],
     room: &mut [u8],
@@ -56,6 +59,7 @@ pub fn step(
     ran(unsafe {
         skv_step(
             c,
+            expected,
             table.as_ptr(),
             table.len(),
             list.as_ptr(),
@@ -69,6 +73,7 @@ pub fn step(
 /// As `run`, from the transactions' bytes, with the controller handed in and back.
 pub fn run_bytes(
     c: Controller,
+    expected: u16,
     table: &[u8],
     list: &[u8],
     count: u32,
@@ -77,6 +82,7 @@ pub fn run_bytes(
     let a = unsafe {
         skv_run_bytes(
             c,
+            expected,
             table.as_ptr(),
             table.len(),
             list.as_ptr(),

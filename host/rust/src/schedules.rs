@@ -9,14 +9,16 @@ pub struct Decoded {
     pub transactions: u32,
 }
 
-/// Refused with 1 to 4.
+/// Refused with 1, 2, 10, 3 and 4.
 pub fn read_transactions(
+    expected: u16,
     table: &[u8],
     bytes: &[u8],
     list: &mut [Transaction],
 ) -> Result<Decoded, Refusal> {
     let a = unsafe {
         skv_read_transactions(
+            expected,
             table.as_ptr(),
             table.len(),
             bytes.as_ptr(),
@@ -37,8 +39,9 @@ pub struct Scheduled {
     pub commands: u32,
 }
 
-/// Refused with 1 to 6.
+/// Refused with 1, 2, 10, and 3 to 6.
 pub fn schedule(
+    expected: u16,
     table: &[u8],
     list: &[Transaction],
     commands: &mut [u8],
@@ -46,6 +49,7 @@ pub fn schedule(
 ) -> Result<Scheduled, Refusal> {
     let a = unsafe {
         skv_schedule(
+            expected,
             table.as_ptr(),
             table.len(),
             list.as_ptr(),
@@ -64,6 +68,7 @@ pub fn schedule(
 
 /// The same from the transactions' bytes.
 pub fn schedule_bytes(
+    expected: u16,
     table: &[u8],
     list: &[u8],
     commands: &mut [u8],
@@ -71,6 +76,7 @@ pub fn schedule_bytes(
 ) -> Result<Scheduled, Refusal> {
     let a = unsafe {
         skv_schedule_bytes(
+            expected,
             table.as_ptr(),
             table.len(),
             list.as_ptr(),
@@ -106,10 +112,11 @@ fn judged(a: VerdictAnswer) -> Result<(u32, Verdict), Refusal> {
     told(a.refused, a.position, a.edition, (a.edition, verdict))
 }
 
-/// Refused with 1, 2 and 7. Answers the edition and the verdict.
-pub fn judge(table: &[u8], schedule: &[u8]) -> Result<(u32, Verdict), Refusal> {
+/// Refused with 1, 2, 10 and 7. Answers the edition and the verdict.
+pub fn judge(expected: u16, table: &[u8], schedule: &[u8]) -> Result<(u32, Verdict), Refusal> {
     judged(unsafe {
         skv_judge(
+            expected,
             table.as_ptr(),
             table.len(),
             schedule.as_ptr(),
@@ -118,10 +125,16 @@ pub fn judge(table: &[u8], schedule: &[u8]) -> Result<(u32, Verdict), Refusal> {
     })
 }
 
-/// Refused with 1, 2, 7 and 8. Answers the edition and the verdict on every number of copies.
-pub fn judge_pattern(table: &[u8], pattern: &[u8], length: u32) -> Result<(u32, Verdict), Refusal> {
+/// Refused with 1, 2, 10, 7 and 8. Answers the edition and the verdict on every number of copies.
+pub fn judge_pattern(
+    expected: u16,
+    table: &[u8],
+    pattern: &[u8],
+    length: u32,
+) -> Result<(u32, Verdict), Refusal> {
     judged(unsafe {
         skv_judge_pattern(
+            expected,
             table.as_ptr(),
             table.len(),
             pattern.as_ptr(),
@@ -131,8 +144,8 @@ pub fn judge_pattern(table: &[u8], pattern: &[u8], length: u32) -> Result<(u32, 
     })
 }
 
-/// Refused with 1, 2 and 4. Answers the edition and the bound.
-pub fn bound(table: &[u8], bi: u8, bc: u8) -> Result<(u32, u32), Refusal> {
-    let a = unsafe { skv_bound(table.as_ptr(), table.len(), bi, bc) };
+/// Refused with 1, 2, 10 and 4. Answers the edition and the bound.
+pub fn bound(expected: u16, table: &[u8], bi: u8, bc: u8) -> Result<(u32, u32), Refusal> {
+    let a = unsafe { skv_bound(expected, table.as_ptr(), table.len(), bi, bc) };
     a.told((a.edition, a.count))
 }

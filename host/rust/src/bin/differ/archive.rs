@@ -134,6 +134,7 @@ impl Archive {
                 (*c).wr = before.wr;
             }
         }
+        let e = case.expected;
         let (tn, bn, rn, sn) = (case.table.len(), whole.len(), case.room, case.slots);
         let xs = list as *const Transaction;
         let finishes = slots as *mut u32;
@@ -175,6 +176,7 @@ impl Archive {
                     v0, v1 as u8, v2 as u8, v3 as u16, room, rn,
                 )),
                 Call::ReadTransactions => numbers(skv_read_transactions(
+                    e,
                     t,
                     tn,
                     list,
@@ -182,17 +184,19 @@ impl Archive {
                     slots as *mut Transaction,
                     sn,
                 )),
-                Call::Schedule => numbers(skv_schedule(t, tn, xs, bn / 4, room, rn, finishes, sn)),
-                Call::ScheduleBytes => {
-                    numbers(skv_schedule_bytes(t, tn, list, bn, room, rn, finishes, sn))
+                Call::Schedule => {
+                    numbers(skv_schedule(e, t, tn, xs, bn / 4, room, rn, finishes, sn))
                 }
-                Call::Judge => verdict(skv_judge(t, tn, list, bn)),
-                Call::JudgePattern => verdict(skv_judge_pattern(t, tn, list, bn, v0)),
-                Call::Bound => numbers(skv_bound(t, tn, v0 as u8, v1 as u8)),
-                Call::Start => keep(skv_start(t, tn)),
-                Call::Run => numbers(skv_run(c, t, tn, xs, bn / 4, v0, room, rn)),
-                Call::Step => numbers(skv_step(c, t, tn, xs, bn / 4, room, rn)),
-                Call::RunBytes => keep(skv_run_bytes(before, t, tn, list, bn, v0, room, rn)),
+                Call::ScheduleBytes => numbers(skv_schedule_bytes(
+                    e, t, tn, list, bn, room, rn, finishes, sn,
+                )),
+                Call::Judge => verdict(skv_judge(e, t, tn, list, bn)),
+                Call::JudgePattern => verdict(skv_judge_pattern(e, t, tn, list, bn, v0)),
+                Call::Bound => numbers(skv_bound(e, t, tn, v0 as u8, v1 as u8)),
+                Call::Start => keep(skv_start(e, t, tn)),
+                Call::Run => numbers(skv_run(c, e, t, tn, xs, bn / 4, v0, room, rn)),
+                Call::Step => numbers(skv_step(c, e, t, tn, xs, bn / 4, room, rn)),
+                Call::RunBytes => keep(skv_run_bytes(before, e, t, tn, list, bn, v0, room, rn)),
             }
         };
         self.untouched(case, &whole)?;

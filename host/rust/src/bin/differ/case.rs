@@ -54,6 +54,11 @@ impl Call {
         matches!(self, Run | Step | RunBytes)
     }
 
+    /// Whether a table is lent, and with it an edition expected: all but the first six, which read and write one record.
+    pub fn expects(self) -> bool {
+        self as usize >= ReadTransactions as usize
+    }
+
     /// The size of what `bytes` holds.
     pub fn record(self) -> usize {
         match self {
@@ -87,6 +92,8 @@ pub fn fresh(edition: u32) -> State {
 #[derive(Debug, Clone, PartialEq, Eq)]
 pub struct Case {
     pub call: Call,
+    /// The expected edition, for a call that is lent a table.
+    pub expected: u16,
     /// The table's bytes; for `skv_write_table` the sixteen numbers.
     pub table: Vec<u8>,
     /// The list, the schedule, the pattern, or the one record to be read.
@@ -108,6 +115,7 @@ impl Case {
     pub fn new(call: Call) -> Case {
         Case {
             call,
+            expected: 7,
             table: Vec::new(),
             bytes: Vec::new(),
             values: [0; 4],
@@ -138,13 +146,25 @@ impl Case {
         self.bytes.chunks(self.call.record()).map(record).collect()
     }
 
-    /// The sixteen numbers of `skv_write_table`.
+    /// The sixteen numbers of the table, 0 for each that its bytes don't reach.
     pub fn numbers(&self) -> [u16; 16] {
         let mut numbers = [0; 16];
         for (number, pair) in numbers.iter_mut().zip(self.table.chunks_exact(2)) {
             *number = u16::from_le_bytes([pair[0], pair[1]]);
         }
         numbers
+    }
+
+    /// The table's edition.
+    pub fn edition(&self) -> u16 {
+        self.numbers()[0]
+    }
+
+    /// The same with the table's own edition expected.
+    pub fn agreeing(&self) -> Case {
+        let mut case = self.clone();
+        case.expected = case.edition();
+        case
     }
 
     /// The cycles asked for of a call that runs.
@@ -179,6 +199,7 @@ impl fmt::Display for Case {
     fn fmt(&self, f: &mut fmt::Formatter) -> fmt::Result {
         let [a, b, c, d] = self.values;
         write!(f, "{}", self.call.name())?;
+        write!(f, " expected={}", self.expected)?;
         write!(f, " table={} bytes={}", hex(&self.table), hex(&self.bytes))?;
         write!(f, " values={a},{b},{c},{d}")?;
         write!(f, " room={} slots={}", self.room, self.slots)?;
@@ -203,6 +224,7 @@ impl FromStr for Case {
             let (key, value) = word.split_once('=').ok_or(format!("no value: `{word}`"))?;
             let number = || value.parse::<usize>().map_err(|e| format!("{word}: {e}"));
             match key {
+                "expected" => case.expected = value.parse().map_err(|e| format!("{word}: {e}"))?,
                 "table" => case.table = unhex(value)?,
                 "bytes" => case.bytes = unhex(value)?,
                 "values" => {

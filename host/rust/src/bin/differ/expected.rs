@@ -76,7 +76,7 @@ pub fn refused(answer: &[u32]) -> usize {
 }
 
 pub fn expected(case: &Case, noise: &Noise) -> Outcome {
-    let (table, bytes) = (&case.table[..], &case.bytes[..]);
+    let (e, table, bytes) = (case.expected, &case.table[..], &case.bytes[..]);
     let [a, b, c, d] = case.values;
     let mut room = noise.lent(case.filling, case.room).to_vec();
     let slots = noise.lent(case.filling, 4 * case.slots);
@@ -106,23 +106,23 @@ pub fn expected(case: &Case, noise: &Noise) -> Outcome {
             answer(desk::write_command(a, b as u8, c as u8, d as u16, &mut room).map(whole))
         }
         Call::ReadTransactions => {
-            let told = desk::read_transactions(table, bytes, &mut places);
+            let told = desk::read_transactions(e, table, bytes, &mut places);
             answer(told.map(|d| (d.edition, [d.transactions, 0])))
         }
-        Call::Schedule => answer(schedule(table, &list(), &mut room, &mut finishes).map(built)),
+        Call::Schedule => answer(schedule(e, table, &list(), &mut room, &mut finishes).map(built)),
         Call::ScheduleBytes if bytes.len() % 4 == 0 => {
-            answer(schedule(table, &list(), &mut room, &mut finishes).map(built))
+            answer(schedule(e, table, &list(), &mut room, &mut finishes).map(built))
         }
         Call::ScheduleBytes => {
-            answer(desk::schedule_bytes(table, bytes, &mut room, &mut finishes).map(built))
+            answer(desk::schedule_bytes(e, table, bytes, &mut room, &mut finishes).map(built))
         }
-        Call::Judge => answer(
-            desk::judge(table, bytes).map(|(edition, verdict)| match verdict {
+        Call::Judge => answer(desk::judge(e, table, bytes).map(
+            |(edition, verdict)| match verdict {
                 Verdict::Accepted => (edition, [0; 3]),
                 Verdict::Broken { rule, record } => (edition, [rule.into(), 0, record as u32]),
-            }),
-        ),
-        Call::JudgePattern => answer(desk::judge_pattern(table, bytes, a).map(
+            },
+        )),
+        Call::JudgePattern => answer(desk::judge_pattern(e, table, bytes, a).map(
             |(edition, verdict)| match verdict {
                 PatternVerdict::Accepted => (edition, [0; 3]),
                 PatternVerdict::Broken { rule, copy, record } => {
@@ -131,18 +131,18 @@ pub fn expected(case: &Case, noise: &Noise) -> Outcome {
             },
         )),
         Call::Bound => {
-            let told = desk::bound(table, a as u8, b as u8);
+            let told = desk::bound(e, table, a as u8, b as u8);
             answer(told.map(|(edition, bound)| (edition, [bound as u32, 0])))
         }
         Call::Start => {
-            let (told, c) = desk::start(table);
+            let (told, c) = desk::start(e, table);
             fresh = Some(c);
             answer(told.map(whole))
         }
         Call::Run | Call::Step => {
-            answer(desk::run(&mut run, table, &list(), case.count(), &mut room).map(ran))
+            answer(desk::run(&mut run, e, table, &list(), case.count(), &mut room).map(ran))
         }
-        Call::RunBytes => answer(desk::run_bytes(&mut run, table, bytes, a, &mut room).map(ran)),
+        Call::RunBytes => answer(desk::run_bytes(&mut run, e, table, bytes, a, &mut room).map(ran)),
     };
     Outcome {
         answer,
@@ -175,6 +175,7 @@ fn records(bytes: &[u8]) -> Vec<[u8; 4]> {
 }
 
 fn schedule(
+    e: u16,
     table: &[u8],
     list: &[Transaction],
     room: &mut [u8],
@@ -184,8 +185,8 @@ fn schedule(
     let due: usize = list.iter().map(due).sum();
     let refused = room.len() < 8 * due || finishes.len() < list.len();
     if due > COMMANDS_BY_HISTORY && !refused {
-        let (_, mut fresh) = desk::start(table);
-        if let Ok(told) = desk::run(&mut fresh, table, list, u32::MAX, room) {
+        let (_, mut fresh) = desk::start(e, table);
+        if let Ok(told) = desk::run(&mut fresh, e, table, list, u32::MAX, room) {
             for record in room.chunks_exact(8).take(told.commands as usize) {
                 let c = desk::read_command(record)?;
                 if c.kind != 0 {
@@ -198,5 +199,5 @@ fn schedule(
             });
         }
     }
-    desk::schedule(table, list, room, finishes)
+    desk::schedule(e, table, list, room, finishes)
 }

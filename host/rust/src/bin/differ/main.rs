@@ -112,7 +112,11 @@ fn report(archive: &mut Archive, case: &Case, wrong: &str) {
     let small = shrink::shrunk(case, |case| difference(archive, case).1.is_some());
     let (_, wrong) = difference(archive, &small);
     println!("made small:\n{small}");
-    println!("table {:?}, records {:?}", small.numbers(), small.shown());
+    let (edition, numbers) = (small.expected, small.numbers());
+    println!(
+        "expected {edition}, table {numbers:?}, records {:?}",
+        small.shown()
+    );
     println!("{}", wrong.unwrap_or_default());
     println!("again: differ again '{small}'");
 }
@@ -157,7 +161,9 @@ fn run(asked: &Asked) -> ExitCode {
     let greatest = greatest.into_iter().inspect(|_| trap::at(trap::GREATEST));
     for case in drawn.chain(greatest) {
         let (right, wrong) = difference(&mut archive, &case);
-        tally.add(case.call, &right);
+        let other = case.call.expects() && case.expected != case.edition();
+        let agreeing = other.then(|| expected(&case.agreeing(), &archive.noise));
+        tally.add(case.call, &right, agreeing.as_ref());
         if let Some(wrong) = wrong {
             report(&mut archive, &case, &wrong);
             println!(

@@ -165,6 +165,12 @@ pub fn greatest() -> Vec<Case> {
             cases.push(case);
         }
     }
+    // Each again with another edition expected: that is told before any size.
+    for at in 0..cases.len() {
+        let mut case = cases[at].clone();
+        case.expected = case.expected.swap_bytes();
+        cases.push(case);
+    }
     let mut idles = Case::new(Call::Run);
     idles.table = table(&TABLE_A);
     idles.bytes = vec![0, 0, 1, 1];

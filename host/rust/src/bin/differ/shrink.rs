@@ -84,14 +84,28 @@ fn changes(case: &Case) -> Vec<Change> {
     all.push(Box::new(|c| {
         c.table = bytes_of(&TABLE_A);
         c.state[EDITION] = 7;
+        c.expected = 7;
+    }));
+    all.push(Box::new(|c| {
+        c.table = bytes_of(&TABLE_A);
+        c.state[EDITION] = 7;
     }));
     all.push(Box::new(|c| c.table = bytes_of(&TABLE_A)));
     all.push(Box::new(|c| {
         if let Some(edition) = c.table.get_mut(..2) {
             edition.copy_from_slice(&[7, 0]);
             c.state[EDITION] = 7;
+            c.expected = 7;
         }
     }));
+    all.push(Box::new(|c| c.expected = c.edition()));
+    for less in [|n: u16| n / 2, |n: u16| n.saturating_sub(1)] {
+        all.push(Box::new(move |c| {
+            if c.expected != c.edition() {
+                c.expected = less(c.expected);
+            }
+        }));
+    }
     for (i, pair) in a.chunks(2).enumerate() {
         let pair = [pair[0], pair[1]];
         all.push(Box::new(move |c| {

@@ -1,5 +1,7 @@
 //! How often each call was made, and with what answers.
 
+use std::ops::RangeInclusive;
+
 use crate::case::{Call, CALLS};
 use crate::expected::{refused, Outcome};
 
@@ -7,18 +9,33 @@ use crate::expected::{refused, Outcome};
 pub struct Tally {
     calls: [u64; 16],
     /// By the refusal's number; 0 is accepted.
-    refused: [[u64; 10]; 16],
+    refused: [[u64; 11]; 16],
+    /// With another edition expected than the table's: those refused by what goes before it, 1 and 2, and in place of 10 what would be told
+    /// with the table's own; 0 is nothing.
+    others: [[u64; 11]; 16],
     /// By the broken rule; 0 is an accepted schedule or pattern.
     rules: [[u64; 11]; 2],
     /// Broken patterns, by the copy from 1; the last place has all later ones.
     copies: [u64; 6],
 }
 
+fn by_number(counts: &[u64; 11], numbers: RangeInclusive<usize>) -> String {
+    let by: Vec<String> = numbers
+        .filter(|&number| counts[number] > 0)
+        .map(|number| format!("{number}: {}", counts[number]))
+        .collect();
+    by.join(", ")
+}
+
 impl Tally {
-    pub fn add(&mut self, call: Call, told: &Outcome) {
+    /// `agreeing` is what the model says with the table's own edition expected, where the case expects another.
+    pub fn add(&mut self, call: Call, told: &Outcome, agreeing: Option<&Outcome>) {
         let number = refused(&told.answer);
         self.calls[call as usize] += 1;
         self.refused[call as usize][number] += 1;
+        if let Some(agreeing) = agreeing {
+            self.others[call as usize][refused(&agreeing.answer)] += 1;
+        }
         let judge = match call {
             Call::Judge => 0,
             Call::JudgePattern => 1,
@@ -43,12 +60,17 @@ impl Tally {
             "", "calls", "not ref."
         );
         for (at, (_, name)) in CALLS.iter().enumerate() {
-            let by: Vec<String> = (1..10)
-                .filter(|&number| self.refused[at][number] > 0)
-                .map(|number| format!("{number}: {}", self.refused[at][number]))
-                .collect();
+            let by = by_number(&self.refused[at], 1..=10);
             let (calls, accepted) = (self.calls[at], self.refused[at][0]);
-            println!("{name:22}{calls:>9}{accepted:>9}  {}", by.join(", "));
+            println!("{name:22}{calls:>9}{accepted:>9}  {by}");
+        }
+        println!("with another edition expected: refused as 1 and 2; as 10, by what else there was to refuse");
+        for (at, (call, name)) in CALLS.iter().enumerate() {
+            if call.expects() {
+                let [nothing, first, second, ..] = self.others[at];
+                let rest = by_number(&self.others[at], 3..=9);
+                println!("{name:22}  1: {first}, 2: {second}; 10 with nothing: {nothing}  {rest}");
+            }
         }
         for (name, rules) in ["schedules", "patterns"].iter().zip(&self.rules) {
             let by: Vec<String> = (1..=10)

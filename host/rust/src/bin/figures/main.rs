@@ -10,6 +10,9 @@ use model::desk;
 use model::house::{bytes_of, Numbers, TABLE_A};
 use skvorzhan::{judge, schedule, Transaction, Verdict};
 
+/// Table A's edition.
+const EDITION: u16 = TABLE_A[0];
+
 /// The times of both, in seconds for one call.
 struct Times {
     proved: Vec<f64>,
@@ -120,12 +123,18 @@ fn builds() {
             60,
             20,
             || {
-                let told = schedule(&table, &list, &mut room, &mut finishes);
+                let told = schedule(EDITION, &table, &list, &mut room, &mut finishes);
                 assert!(told.is_ok());
             },
             || {
-                let told =
-                    ordinary::schedule(&table, &plain, &mut own_room, &mut own_finishes, by_cycles);
+                let told = ordinary::schedule(
+                    EDITION,
+                    &table,
+                    &plain,
+                    &mut own_room,
+                    &mut own_finishes,
+                    by_cycles,
+                );
                 assert!(told.is_some());
             },
         );
@@ -156,12 +165,12 @@ fn judgements(emulated: bool) {
         let list: Vec<Transaction> = (0..size).map(one).collect();
         assert_eq!(due(&list), records);
         let (mut room, mut finishes) = (vec![0; 8 * records], vec![0; size]);
-        schedule(&table, &list, &mut room, &mut finishes).expect("the list is accepted");
+        schedule(EDITION, &table, &list, &mut room, &mut finishes).expect("the list is accepted");
         let times = beside(
             repeats,
             calls,
-            || assert_eq!(judge(&table, &room), Ok((7, Verdict::Accepted))),
-            || assert_eq!(ordinary::judge(&table, &room), Some(None)),
+            || assert_eq!(judge(EDITION, &table, &room), Ok((7, Verdict::Accepted))),
+            || assert_eq!(ordinary::judge(EDITION, &table, &room), Some(None)),
         );
         print(&format!("judge of {records} records, accepted"), &times);
     }

@@ -18,8 +18,8 @@ pub struct Times {
 }
 
 impl Times {
-    /// None for a table that is refused.
-    pub fn read(bytes: &[u8]) -> Option<Times> {
+    /// None for a table that is refused, and for one of another edition than is expected.
+    pub fn read(expected: u16, bytes: &[u8]) -> Option<Times> {
         if bytes.len() != 32 {
             return None;
         }
@@ -29,7 +29,12 @@ impl Times {
         }
         let [edition, banks, b, ccd, rcd, rp, ras, rc, rrd, faw, rl, wl, rtp, wr, wtr, last] = t;
         let in_range = t[2..15].iter().all(|n| (1..=255).contains(n));
-        if last != 0 || edition == 0 || !(1..=16).contains(&banks) || !in_range {
+        if last != 0
+            || edition == 0
+            || edition != expected.into()
+            || !(1..=16).contains(&banks)
+            || !in_range
+        {
             return None;
         }
         if ccd < 2 || ccd < b {
@@ -130,13 +135,14 @@ struct Head {
 /// The commands written, or None where the list or a buffer is refused. By cycles, each is tried in turn; otherwise those at which
 /// nothing goes are passed over at once.
 pub fn schedule(
+    expected: u16,
     table: &[u8],
     list: &[Transaction],
     room: &mut [u8],
     finishes: &mut [u32],
     by_cycles: bool,
 ) -> Option<usize> {
-    let t = &Times::read(table)?;
+    let t = &Times::read(expected, table)?;
     let counts = |n: u8| (1..=16).contains(&n);
     let legal = |x: &Transaction| {
         let end = u16::from(x.start) + u16::from(x.bi);
@@ -216,8 +222,8 @@ pub fn schedule(
 }
 
 /// The broken rule and record; None where it's accepted. The outer None is a refusal.
-pub fn judge(table: &[u8], bytes: &[u8]) -> Option<Option<(u8, usize)>> {
-    let t = &Times::read(table)?;
+pub fn judge(expected: u16, table: &[u8], bytes: &[u8]) -> Option<Option<(u8, usize)>> {
+    let t = &Times::read(expected, table)?;
     if bytes.len() % 8 != 0 || bytes.len() / 8 > 69_632 {
         return None;
     }

@@ -17,7 +17,7 @@ fn built(r: &mut Random, table: &Table, most: usize) -> Vec<[u8; 8]> {
             .saturating_sub(2 * r.below(2) as u16)
             .clamp(1, 255);
     }
-    let by = bytes_of(&by);
+    let (edition, by) = (by[0], bytes_of(&by));
     let list: Vec<[u8; 4]> = (0..20)
         .map(|_| lists::some(r, table[1] as u8))
         .filter(|list| list.len() % 4 == 0)
@@ -25,8 +25,15 @@ fn built(r: &mut Random, table: &Table, most: usize) -> Vec<[u8; 8]> {
         .find(|list: &Vec<[u8; 4]>| lists::due(list) <= most)
         .unwrap_or_default();
     let mut room = vec![0; 8 * most];
-    let mut c = desk::start(&by).1;
-    let told = desk::run(&mut c, &by, &transactions(&list), u32::MAX, &mut room);
+    let mut c = desk::start(edition, &by).1;
+    let told = desk::run(
+        &mut c,
+        edition,
+        &by,
+        &transactions(&list),
+        u32::MAX,
+        &mut room,
+    );
     let records = told.map_or(0, |told| told.commands as usize);
     room.chunks_exact(8)
         .take(records)
@@ -150,9 +157,9 @@ pub fn pattern(r: &mut Random, table: &Table, case: &mut Case) {
 
 /// A greater length only moves the copies apart, so halving finds the least.
 fn least_length(table: &Table, bytes: &[u8], most: u32) -> Option<u32> {
-    let table = bytes_of(table);
+    let (edition, table) = (table[0], bytes_of(table));
     let accepted = |length| {
-        let told = desk::judge_pattern(&table, bytes, length);
+        let told = desk::judge_pattern(edition, &table, bytes, length);
         matches!(told, Ok((_, PatternVerdict::Accepted)))
     };
     if !accepted(most) {

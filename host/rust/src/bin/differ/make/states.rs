@@ -20,12 +20,13 @@ fn stamps() -> impl Iterator<Item = usize> {
 }
 
 /// After so many cycles from a fresh start.
-fn reached(table: &[u8], case: &Case, cycles: u32) -> State {
+fn reached(table: &Table, case: &Case, cycles: u32) -> State {
+    let (edition, table) = (table[0], bytes_of(table));
     let list = transactions(&case.records());
     let mut room = vec![0; 8 * lists::due(&case.records())];
-    let mut c = desk::start(table).1;
+    let mut c = desk::start(edition, &table).1;
     // Refused for a list that is refused: then it stays fresh.
-    let _ = desk::run(&mut c, table, &list, cycles, &mut room);
+    let _ = desk::run(&mut c, edition, &table, &list, cycles, &mut room);
     state(&c)
 }
 
@@ -112,7 +113,7 @@ fn some(r: &mut Random, table: &Table, case: &Case) -> State {
     };
     let mut s = match r.below(10) {
         0 => fresh(table[0].into()),
-        1..=6 => reached(&bytes_of(table), case, cycles),
+        1..=6 => reached(table, case, cycles),
         7 | 8 => plausible(r, table, case),
         _ => arbitrary(r),
     };
@@ -148,6 +149,10 @@ fn left(case: &Case) -> usize {
 /// The state, the count and the room of a run.
 pub fn run(r: &mut Random, table: &Table, case: &mut Case) {
     case.state = some(r, table, case);
+    // The controller agrees with what is expected, and only the table doesn't.
+    if case.expected != case.edition() && r.one_in(2) {
+        case.state[EDITION] = case.expected.into();
+    }
     case.values[0] = match r.below(10) {
         0 => 0,
         1 => 1,
@@ -172,7 +177,7 @@ pub fn run(r: &mut Random, table: &Table, case: &mut Case) {
     }
 }
 
-/// Whether the run goes on for more cycles than is worth the time: it's stuck.
+/// Whether the run, were the table's edition expected, goes on for more cycles than is worth the time: it's stuck.
 pub fn too_long(case: &Case) -> bool {
     if !case.call.runs() || case.count() <= LONG {
         return false;
@@ -180,7 +185,7 @@ pub fn too_long(case: &Case) -> bool {
     let list = transactions(&case.records());
     let mut room = vec![0; case.room];
     let mut c = controller(&case.state);
-    match desk::run(&mut c, &case.table, &list, LONG, &mut room) {
+    match desk::run(&mut c, case.edition(), &case.table, &list, LONG, &mut room) {
         Ok(told) => told.cycles == LONG,
         Err(_) => false,
     }

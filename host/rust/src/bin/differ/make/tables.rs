@@ -105,12 +105,31 @@ pub fn hostile(r: &mut Random) -> Vec<u8> {
     bytes
 }
 
-/// Gives the case a table, mostly an accepted one, and answers the table that the rest of the case is made for.
+/// Another edition than the table's, mostly: 0, its bytes swapped, one off, a bit flipped, or any.
+fn other(r: &mut Random, edition: u16) -> u16 {
+    match r.below(6) {
+        0 => 0,
+        1 => edition.swap_bytes(),
+        2 => edition.wrapping_add(1),
+        3 => edition.wrapping_sub(1),
+        4 => edition ^ 1 << r.below(16),
+        _ => r.u32() as u16,
+    }
+}
+
+/// Gives the case a table, mostly an accepted one, and an expected edition, mostly its own. Answers the table that the rest of the case is
+/// made for.
 pub fn some(r: &mut Random, case: &mut Case) -> Table {
     let t = legal(r);
     case.table = bytes_of(&t);
+    let mut one_in = 8;
     if r.one_in(16) {
         case.table = hostile(r);
+        one_in = 2;
+    }
+    case.expected = case.edition();
+    if r.one_in(one_in) {
+        case.expected = other(r, case.expected);
     }
     t
 }

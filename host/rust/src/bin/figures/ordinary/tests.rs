@@ -26,29 +26,31 @@ fn as_the_model_says() {
     let mut verdicts = [0; 11];
     for round in 0..600 {
         let t = tables[round % tables.len()];
-        let table = bytes_of(&t);
+        let (edition, table) = (t[0], bytes_of(&t));
         let list = list(&mut numbers, t[1].into(), round % 7);
         let due: usize = list
             .iter()
             .map(|x| usize::from(x.bi) * (1 + usize::from(x.bc)))
             .sum();
         let mut right = (vec![9; 8 * due + 3], vec![9; list.len() + 1]);
-        let told = desk::schedule(&table, &list, &mut right.0, &mut right.1).map(|s| s.commands);
+        let told =
+            desk::schedule(edition, &table, &list, &mut right.0, &mut right.1).map(|s| s.commands);
         for by_cycles in [false, true] {
             let mut got = (vec![9; 8 * due + 3], vec![9; list.len() + 1]);
-            let commands = schedule(&table, &list, &mut got.0, &mut got.1, by_cycles);
+            let commands = schedule(edition, &table, &list, &mut got.0, &mut got.1, by_cycles);
             assert_eq!(commands, told.ok().map(|n| n as usize));
             assert!(got == right);
         }
         let mut bytes = right.0[..8 * due].to_vec();
         for _ in 0..30 {
-            let (_, verdict) = desk::judge(&table, &bytes).expect("it's judged");
+            let (_, verdict) = desk::judge(edition, &table, &bytes).expect("it's judged");
             let verdict = match verdict {
                 desk::Verdict::Accepted => None,
                 desk::Verdict::Broken { rule, record } => Some((rule, record)),
             };
             verdicts[verdict.map_or(0, |(rule, _)| usize::from(rule))] += 1;
-            assert_eq!(judge(&table, &bytes), Some(verdict));
+            assert_eq!(judge(edition, &table, &bytes), Some(verdict));
+            assert_eq!(judge(edition ^ 1, &table, &bytes), None);
             bytes.copy_from_slice(&right.0[..8 * due]);
             if due > 0 {
                 let at = numbers.below(due) * 8 + numbers.of(&[0, 0, 0, 1, 4, 4, 5]);
