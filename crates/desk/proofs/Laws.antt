@@ -7,7 +7,7 @@ use mathlib.Core.List.{List, [], _∷_}
 use native.Mathlib.Omega.{arith}
 use lib.Dec.{eqb}
 use lib.ListN.{length, take, length-take}
-use borrow.Author.Tests.{not-false, eqb-true}
+use borrow.Author.Tests.{not-false, eqb-true, eq-eqb, ne-eqb}
 use Rattle.records.specs.declared.table.Table.{Table}
 use Rattle.records.specs.declared.table.TableRead.{TableRead}
 use Rattle.records.specs.declared.table.TableRead.the-variants.{Read, Refused}
@@ -69,6 +69,13 @@ expected-read e s τ h = on (readTable s) h
 
 pub read-accepted : (e : ℕ) (s : List ℕ) (τ : Table) → admitted e s ≡ Read τ → Accepted τ
 read-accepted e s τ r = accepted-read s τ (expected-read e s τ r .0)
+
+-- a table of the expected edition, and of another
+pub expects-same : (e : ℕ) (t : Table) → t .edition ≡ e → Read t ≡ expects e t
+expects-same e t k = rw (eq-eqb (t .edition) e k) refl
+
+pub expects-other : (e : ℕ) (t : Table) (x : Refusal) → (t .edition ≡ e → ⊥) → x ≡ refusal 10 (t .edition) (t .edition) → Refused x ≡ expects e t
+expects-other e t x k r = rw (ne-eqb (t .edition) e k, r) refl
 
 -- by what `read_table` answered: a, of the table's bytes s
 pub admit-read : (e : ℕ) (s : List ℕ) (a : TableRead) (t : Table) (r : TableRead) → a ≡ readTable s → a ≡ Read t → r ≡ expects e t → r ≡ admitted e s
