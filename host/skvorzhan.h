@@ -35,7 +35,8 @@
  *
  *   table, 32 bytes       sixteen 16-bit numbers: edition, banks, B, CCD, RCD, RP, RAS, RC, RRD, FAW, RL, WL, RTP, WR, WTR, and a last that
  *                         is 0. Edition is 1 to 65,535, banks 1 to 16, the others 1 to 255; CCD is at least 2 and at least B
- *   transaction, 4 bytes  type (0 read, 1 write), start bank, BI, BC. BI and BC are 1 to 16; start + BI is at most banks
+ *   transaction, 4 bytes  type (0 read, 1 write), start bank, BI, BC. BI and BC are 1 to 16; start is below banks and BI is at most banks. Its
+ *                         banks are start, start + 1 and so on, BI of them, with bank 0 after the last
  *   command, 8 bytes      cycle (32 bits), kind (0 ACT, 1 RD, 2 RDA, 3 WR, 4 WRA), bank, transaction number (16 bits)
  */
 #ifndef SKVORZHAN_H
@@ -108,10 +109,10 @@ typedef struct skv_numbers {
 } skv_numbers;
 
 typedef struct skv_transaction {
-    uint8_t kind; /* 0 read, 1 write */
-    uint8_t start;
-    uint8_t bi;
-    uint8_t bc;
+    uint8_t kind;  /* 0 read, 1 write */
+    uint8_t start; /* the first bank */
+    uint8_t bi;    /* how many, with bank 0 after the table's last */
+    uint8_t bc;    /* data commands to each */
 } skv_transaction;
 
 /* A bank: open unless opened is 0; the cycles of its last ACT and of the last RD and WR since. */

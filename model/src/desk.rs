@@ -12,6 +12,8 @@ mod laws;
 mod refusals;
 #[cfg(test)]
 mod worked;
+#[cfg(test)]
+mod wraps;
 
 pub use crate::records::{read_command, read_table, read_transaction};
 pub use crate::records::{write_command, write_table, write_transaction};

@@ -32,10 +32,10 @@ impl Example {
 const READ: [u8; 4] = [0, 0, 1, 1];
 const WRITE: [u8; 4] = [1, 0, 1, 1];
 
-/// Reads and writes of every start bank and every BI that fits behind it in 8 banks.
+/// Reads and writes of every start bank and every BI that 8 banks allow.
 fn mixed(k: usize) -> [u8; 4] {
     let start = k % 8;
-    let bi = 1 + k / 8 % (8 - start);
+    let bi = 1 + k / 8 % 8;
     let bc = 1 + k % 5;
     let kind = k % 3 % 2;
     [kind as u8, start as u8, bi as u8, bc as u8]
@@ -84,8 +84,13 @@ pub fn all() -> Vec<Example> {
             &[[0, 0, 5, 1]],
         ),
         of_a(
+            "example-12-wrap",
+            "example 12 of document 01 as request 2 has it, start 7, BI 2 in 8 banks: banks 7 and 0",
+            &[[0, 7, 2, 1]],
+        ),
+        of_a(
             "all-256",
-            "as many transactions as there can be, reads and writes of every start bank",
+            "as many transactions as there can be, reads and writes of every start bank and every BI",
             &every,
         ),
         of_a(
@@ -103,8 +108,8 @@ pub fn all() -> Vec<Example> {
         },
         of_a(
             "bad-transaction",
-            "start 7, BI 1, which fits in 8 banks, and start 7, BI 2, which doesn't",
-            &[[0, 7, 1, 1], [0, 7, 2, 1]],
+            "start 7, BI 8, which 8 banks allow, and start 7, BI 9, which they don't",
+            &[[0, 7, 8, 1], [0, 7, 9, 1]],
         ),
         Example {
             expected: 8,
@@ -175,6 +180,14 @@ mod tests {
         assert_eq!(of("example-3"), told);
     }
 
+    /// Example 12 as request 2 has it: "start 7 and BI 2 uses banks 7 and 0".
+    #[test]
+    fn the_listing_of_example_12() {
+        let told =
+            "edition 7 commands 4\n0 ACT 7 0\n6 ACT 0 0\n10 RDA 7 0\n16 RDA 0 0\nfinish 0 16\n";
+        assert_eq!(of("example-12-wrap"), told);
+    }
+
     #[test]
     fn the_refusals() {
         assert_eq!(of("too-long"), "refused 5 at 0 edition 7\n");
@@ -192,6 +205,7 @@ mod tests {
             ("example-4-swapped", "finish 1 28\n"),
             ("example-5", "finish 0 38\n"),
             ("example-6", "finish 0 42\n"),
+            ("example-12-wrap", "finish 0 16\n"),
         ] {
             assert!(of(name).ends_with(finish), "{name}");
         }

@@ -29,7 +29,10 @@ impl Cases {
 
     /// A table's bytes and more, or what stands for them, behind the edition that they begin with; behind 7 where there is none.
     fn own(&mut self, input: &[u8]) {
-        let edition = input.first_chunk().map_or(7, |e| u16::from_le_bytes(*e));
+        let edition = match *input {
+            [low, high, ..] => u16::from_le_bytes([low, high]),
+            _ => 7,
+        };
         self.expecting(edition, input);
     }
 

@@ -81,10 +81,10 @@ pub struct Transaction {
 /// "Where no table is given, banks counts as 16."
 const BANKS_WITHOUT_TABLE: u16 = 16;
 
-/// "BI and BC are 1 to 16; start + BI is at most banks."
+/// "BI and BC are 1 to 16", and as request 2 has it, "start must be below banks and BI at most banks".
 pub fn in_range(x: &Transaction, banks: u16) -> bool {
     let counts = (1..=16).contains(&x.bi) && (1..=16).contains(&x.bc);
-    x.kind <= 1 && counts && u16::from(x.start) + u16::from(x.bi) <= banks
+    x.kind <= 1 && counts && u16::from(x.start) < banks && u16::from(x.bi) <= banks
 }
 
 fn check_transaction(size: usize, x: &Transaction) -> Result<(), Refusal> {

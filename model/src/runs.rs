@@ -144,6 +144,7 @@ mod tests {
     use super::*;
     use crate::house::*;
     use crate::records::EDITION;
+    use std::collections::BTreeSet;
 
     /// What the paper prints for example 3.
     #[test]
@@ -185,6 +186,46 @@ mod tests {
             told[usize::from(call)] += usize::from(differ);
         }
         assert!(told[1..].iter().all(|&count| count > 10), "{told:?}");
+    }
+
+    /// All banks from every start are served, and a start or a BI one too great is refused, in builds and in runs.
+    #[test]
+    fn over_the_last_bank() {
+        let input = cases();
+        let mut rest = Bytes(&input);
+        let (mut served, mut refused) = (BTreeSet::new(), BTreeSet::new());
+        loop {
+            let mut head = Bytes(rest.0);
+            let answer = match case_lines(&mut rest) {
+                Some((_, answer)) => answer,
+                None => break,
+            };
+            let (call, _) = (head.u8().unwrap(), head.u16().unwrap());
+            let banks = head.take(32).unwrap()[2];
+            let before_the_list = match call {
+                BUILD => 4,
+                RUN => 252,
+                _ => continue,
+            };
+            head.take(before_the_list).unwrap();
+            let list = head.list().unwrap().chunks_exact(4);
+            let places = list.map(|x| (call, banks, x[1], x[2]));
+            match answer {
+                Ok(_) => served.extend(places),
+                Err(r) if r.number == 4 => refused.extend(places.skip(r.position as usize).take(1)),
+                Err(_) => (),
+            }
+        }
+        for banks in [1, 2, 3, 5, 7, 8, 11, 13, 15, 16] {
+            for start in 0..banks {
+                assert!(served.contains(&(BUILD, banks, start, banks)));
+            }
+            assert!(refused.contains(&(BUILD, banks, banks, 1)));
+            assert!(refused.contains(&(BUILD, banks, 0, banks + 1)));
+        }
+        assert!(served.contains(&(RUN, 8, 3, 8)));
+        assert!(refused.contains(&(RUN, 8, 8, 1)));
+        assert!(refused.contains(&(RUN, 8, 7, 9)));
     }
 
     #[test]

@@ -64,6 +64,12 @@ impl Waiting {
     }
 }
 
+/// "The banks are then start, start + 1 and so on, with bank 0 after the last."
+fn banks_of(table: &Table, x: &Transaction) -> impl Iterator<Item = u8> {
+    let to_the_last = x.start..table[BANKS] as u8;
+    to_the_last.chain(0..x.start).take(x.bi.into())
+}
+
 /// Both queues as they stand before anything has left.
 struct Queues {
     acts: Vec<Waiting>,
@@ -71,12 +77,13 @@ struct Queues {
 }
 
 impl Queues {
-    fn of(list: &[Transaction]) -> Queues {
+    /// Of a list that the table accepts.
+    fn of(table: &Table, list: &[Transaction]) -> Queues {
         let mut acts = Vec::new();
         let mut datas = Vec::new();
         for (transaction, x) in list.iter().enumerate() {
             let (open, closing) = if x.kind == 0 { (RD, RDA) } else { (WR, WRA) };
-            for bank in x.start..x.start + x.bi {
+            for bank in banks_of(table, x) {
                 let waits = |kind| Waiting {
                     kind,
                     bank,
@@ -106,7 +113,7 @@ pub fn build(
     slots: usize,
 ) -> Result<Built, Refusal> {
     check_list(table, list, MOST_TRANSACTIONS)?;
-    let queues = Queues::of(list);
+    let queues = Queues::of(table, list);
     let due = queues.acts.len() + queues.datas.len();
     if room < 8 * due {
         return refused(table, 5, 0);

@@ -63,6 +63,10 @@ fn example_12(table: &[u8]) {
     list(table, &[0, 7, 1, 1]);
     text(b"12 start 7, BI 2\n");
     list(table, &[0, 7, 2, 1]);
+    text(b"12 start 8, BI 1\n");
+    list(table, &[0, 8, 1, 1]);
+    text(b"12 start 7, BI 9\n");
+    list(table, &[0, 7, 9, 1]);
     text(b"12 CCD 1\n");
     ccd_1();
     text(b"12 256 transactions, then 257\n");

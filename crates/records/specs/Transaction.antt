@@ -2,7 +2,7 @@
 use Prim.Native.Nat.{ℕ, zero, suc, _+_, _/_}
 use mathlib.Core.Bool.{Bool, true, false, not, _&&_}
 use mathlib.Core.List.{List, [], _∷_}
-use lib.Dec.{leb, eqb}
+use lib.Dec.{ltb, leb, eqb}
 use lib.ListN.{length, getD}
 use Rattle.records.specs.declared.table.Table.{Table}
 use Rattle.records.specs.declared.transaction.Transaction.{Transaction}
@@ -33,9 +33,9 @@ transactionsIn s = transactionsFrom s (length s / 4) 0
 abbrev pub isWrite : Transaction → Bool
 isWrite x = eqb (x .kind) 1
 
--- "BI and BC are 1 to 16; start + BI is at most banks."
+-- "BI and BC are 1 to 16"; "Start must be below banks and BI at most banks" (document 02, request 2).
 abbrev pub fitsIn : ℕ → Transaction → Bool
-fitsIn banks x = leb (x .kind) 1 && (within 1 16 (x .bi) && (within 1 16 (x .bc) && leb (x .start + x .bi) banks))
+fitsIn banks x = leb (x .kind) 1 && (within 1 16 (x .bi) && (within 1 16 (x .bc) && (ltb (x .start) banks && leb (x .bi) banks)))
 
 abbrev pub fits : Table → Transaction → Bool
 fits τ x = fitsIn (τ .banks) x

@@ -39,14 +39,15 @@ pub fn transaction_at(s: &[u8], at: usize) -> Transaction
     }
 }
 
-// "BI and BC are 1 to 16; start + BI is at most banks."
+// "BI and BC are 1 to 16"; "Start must be below banks and BI at most banks" (document 02, request 2).
 pub fn fits_in(banks: u16, kind: u8, start: u8, bi: u8, bc: u8) -> bool
     ensures { λ r. ⌜ r ≡ fitsIn banks (transaction kind start bi bc) ⌝ }
 {
-    let within = start as u16 + bi as u16 <= banks;
+    let first = (start as u16) < banks;
+    let within = bi as u16 <= banks;
     let counts = both_of(
         is_within(1, 16, bi as u16),
-        both_of(is_within(1, 16, bc as u16), within),
+        both_of(is_within(1, 16, bc as u16), both_of(first, within)),
     );
     both_of(kind <= 1, counts)
 }

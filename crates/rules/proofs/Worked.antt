@@ -36,4 +36,6 @@ worked =
     ⨾ (λ n. refl)
     ⨾ refl
     ⨾ refl
+    ⨾ refl
+    ⨾ record { cycles = 17; schedule = refl; acts = refl; datas = refl }
     ⨾ tt

@@ -1,5 +1,5 @@
 -- "Commands stand in two queues."
-use Prim.Native.Nat.{ℕ, zero, suc, _+_, _*_}
+use Prim.Native.Nat.{ℕ, zero, suc, _+_, _%_}
 use mathlib.Core.Bool.{Bool, true, false}
 use mathlib.Core.Option.{Option, none, some}
 use mathlib.Core.List.{List, [], _∷_, _++_}
@@ -24,9 +24,10 @@ pub record Due : Type 0 where
 abbrev pub dueAt : ℕ → Due → Command
 dueAt t d = command t (d .kind) (d .bank) (d .number)
 
--- the bank that comes k-th, from 0: "banks ascending"
+-- the bank that comes k-th, from 0: "banks ascending", which means "start, start + 1 and so on, with bank 0 after the last" (document 02,
+-- request 2)
 abbrev pub bankAt : Table → Transaction → ℕ → ℕ
-bankAt τ x k = x .start + k
+bankAt τ x k = (x .start + k) % τ .banks
 
 -- the data command of a transaction: a write or not, with auto precharge or not
 abbrev pub dataKind : Bool → Bool → Kind

@@ -1,12 +1,13 @@
 -- Document 01, "Examples from the desk": those marked †, as a single list under a single claim.
 use Prim.Native.Nat.{ℕ, zero, suc, _+_}
 use mathlib.Core.Path.{_≡_}
+use mathlib.Core.Bool.{true}
 use mathlib.Core.List.{List, [], _∷_}
 use Rattle.records.specs.declared.transaction.Transaction.{Transaction}
 use Rattle.records.specs.declared.command.Kind.the-variants.{Act, Rd, Rda, Wr, Wra}
 use Rattle.records.specs.declared.command.Command.{Command}
 use Rattle.records.specs.Command.{command}
-use Rattle.records.specs.Transaction.{transaction}
+use Rattle.records.specs.Transaction.{transaction, fits}
 use Rattle.records.specs.House.{tableA, tableB, tableC}
 use Rattle.rules.specs.declared.state.Stamp.the-variants.{At}
 use Rattle.rules.specs.declared.verdict.Rule.the-variants.{Order, Precharge, Faw}
@@ -53,6 +54,10 @@ six =
 abbrev pub eleven : ℕ → List Command
 eleven t = command 0 Act 0 0 ∷ command 10 Wr 0 0 ∷ command 28 Rda 0 0 ∷ command t Act 0 1 ∷ command (t + 10) Rda 0 1 ∷ []
 
+-- document 02, request 2: "with 8 banks, start 7 and BI 2 uses banks 7 and 0"
+abbrev pub twelve : List Command
+twelve = command 0 Act 7 0 ∷ command 6 Act 0 0 ∷ command 10 Rda 7 0 ∷ command 16 Rda 0 0 ∷ []
+
 -- the examples, in the order of their numbers
 abbrev pub examples : List (Type 0)
 examples =
@@ -82,6 +87,9 @@ examples =
     -- 11
     ∷ (judge tableC (eleven 44) ≡ Accepted)
     ∷ (judge tableC (eleven 43) ≡ Refused Precharge 3)
+    -- 12, as document 02 changes it: the banks go on with bank 0 after the last
+    ∷ (fits tableA (read 7 2 1) ≡ true)
+    ∷ Built tableA (read 7 2 1 ∷ []) twelve
     ∷ []
 
 -- every statement of a list holds

@@ -95,8 +95,11 @@ pub struct Controller {
 pub struct Transaction {
     /// 0 read, 1 write.
     pub kind: u8,
+    /// The first bank.
     pub start: u8,
+    /// How many, with bank 0 after the table's last.
     pub bi: u8,
+    /// Data commands to each.
     pub bc: u8,
 }
 

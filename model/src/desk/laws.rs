@@ -4,7 +4,7 @@ use crate::desk::*;
 use crate::house::*;
 use crate::records::{BANKS, EDITION};
 
-/// Lists of every shape, each under every table.
+/// Lists of every shape, each under every table; one of them takes all its banks, twice, and runs over the last one.
 fn lists_and_tables() -> Vec<(Table, Vec<[u8; 4]>)> {
     let mut numbers = Numbers(3);
     let mut all = Vec::new();
@@ -13,11 +13,16 @@ fn lists_and_tables() -> Vec<(Table, Vec<[u8; 4]>)> {
         for size in [0, 1, 2, 3, 5] {
             let list = (0..size).map(|_| {
                 let bi = 1 + numbers.below(table[BANKS].min(4).into()) as u8;
-                let start = numbers.below(usize::from(table[BANKS]) + 1 - usize::from(bi)) as u8;
+                let start = numbers.below(table[BANKS].into()) as u8;
                 [numbers.byte() % 2, start, bi, 1 + numbers.byte() % 3]
             });
             all.push((*table, list.collect()));
         }
+        let banks = table[BANKS] as u8;
+        all.push((
+            *table,
+            vec![[1, banks - 1, banks, 2], [0, banks / 2, banks, 1]],
+        ));
     }
     all
 }

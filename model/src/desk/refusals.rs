@@ -34,8 +34,8 @@ pub fn two() -> [Transaction; 2] {
 /// The second and the third are out of range.
 pub fn bad() -> [Transaction; 3] {
     [
-        transaction(0, 7, 1, 1),
-        transaction(0, 7, 2, 1),
+        transaction(0, 7, 8, 1),
+        transaction(0, 8, 1, 1),
         transaction(2, 0, 1, 1),
     ]
 }
@@ -177,16 +177,17 @@ fn records() {
     let bad_table = with(&[(CCD, 1)]);
     assert_eq!(told(write_table(bad_table, &mut room[..32])), (2, 0, 0));
     assert_eq!(told(write_transaction(2, 0, 1, 1, &mut room)), (3, 0, 0));
-    assert_eq!(
-        told(write_transaction(0, 15, 2, 1, &mut room[..4])),
-        (4, 0, 0)
-    );
+    for (start, bi) in [(16, 1), (0, 17), (15, 17)] {
+        let answer = write_transaction(0, start, bi, 1, &mut room[..4]);
+        assert_eq!(told(answer), (4, 0, 0));
+        assert_eq!(told(read_transaction(&[0, start, bi, 1])), (4, 0, 0));
+    }
     assert_eq!(told(write_command(0, 0, 0, 0, &mut room[..7])), (5, 0, 0));
     assert_eq!(room, ROOM);
     assert_eq!(write_table(TABLE_A, &mut room[..32]), Ok(7));
     assert_eq!(read_table(&room[..32]), Ok(TABLE_A));
-    assert_eq!(write_transaction(1, 15, 1, 16, &mut room[..4]), Ok(0));
-    assert_eq!(read_transaction(&room[..4]), Ok(transaction(1, 15, 1, 16)));
+    assert_eq!(write_transaction(1, 15, 16, 16, &mut room[..4]), Ok(0));
+    assert_eq!(read_transaction(&room[..4]), Ok(transaction(1, 15, 16, 16)));
     assert_eq!(write_command(NEVER, 255, 16, 300, &mut room[..40]), Ok(0));
     let c = read_command(&room[..8]).expect("any 8 bytes are a command");
     assert_eq!(

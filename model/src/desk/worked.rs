@@ -126,7 +126,11 @@ fn example_12() {
         refusal(schedule_bytes(7, &a, list, &mut room, &mut [0; 256]))
     };
     assert_eq!(listed(&[0, 7, 1, 1]), None);
-    assert_eq!(listed(&[0, 7, 2, 1]), Some((4, 0, 7)));
+    // As request 2 has it: "start 7 and BI 2 uses banks 7 and 0".
+    let wraps = [(0, ACT, 7), (6, ACT, 0), (10, RDA, 7), (16, RDA, 0)];
+    assert_eq!(scheduled(&[[0, 7, 2, 1]]), wraps);
+    assert_eq!(listed(&[0, 8, 1, 1]), Some((4, 0, 7)));
+    assert_eq!(listed(&[0, 7, 9, 1]), Some((4, 0, 7)));
     assert_eq!(listed(&READ.repeat(256)), None);
     assert_eq!(listed(&READ.repeat(257)), Some((3, 0, 7)));
     let ccd_1 = bytes_of(&with(&[(CCD, 1)]));

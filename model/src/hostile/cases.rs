@@ -161,11 +161,18 @@ fn transactions(cases: &mut Cases) {
     ] {
         cases.put_both(READ_TRANSACTION, &[1, start, bi, 16]);
     }
+    // "Where no table is given, banks counts as 16": all of them from every start, and one more.
+    for start in 0..=17 {
+        for bi in [16, 17] {
+            cases.put_both(READ_TRANSACTION, &[start % 2, start, bi, 2]);
+        }
+    }
     for x in [
         [0, 0, 1, 1],
-        [1, 15, 1, 16],
+        [1, 15, 16, 16],
         [2, 0, 1, 1],
-        [0, 15, 2, 1],
+        [0, 16, 1, 1],
+        [0, 15, 17, 1],
         [1, 0, 0, 1],
         [1, 0, 1, 17],
         [255; 4],

@@ -13,6 +13,7 @@ pub fn put(cases: &mut Cases) {
         cases.put(&example.bytes());
     }
     lists(cases, &mut numbers);
+    over_the_last_bank(cases);
     most(cases, &mut numbers);
     rooms(cases);
     any(cases, &mut numbers);
@@ -28,7 +29,7 @@ fn any_list(
     let banks = usize::from(table[BANKS]);
     let mut one = || {
         let bi = 1 + numbers.below(banks.min(most.0));
-        let start = numbers.below(banks + 1 - bi);
+        let start = numbers.below(banks);
         let bc = 1 + numbers.below(most.1);
         [numbers.byte() % 2, start as u8, bi as u8, bc as u8]
     };
@@ -48,6 +49,24 @@ fn lists(cases: &mut Cases, numbers: &mut Numbers) {
         let banks = table[BANKS] as u8;
         cases.list(&table, &[[0, 0, banks, 16]]);
         cases.list(&table, &[[1, 0, banks, 1], [0, banks - 1, 1, 16]]);
+        cases.list(&table, &[[1, banks - 1, banks, 16]]);
+    }
+}
+
+/// "The banks are then start, start + 1 and so on, with bank 0 after the last."
+fn over_the_last_bank(cases: &mut Cases) {
+    cases.group("transactions that run over the last bank, all banks from every start among them");
+    for banks in 1..=16 {
+        let every: Vec<[u8; 4]> = (0..banks).map(|s| [s % 2, s, banks, 1]).collect();
+        cases.list(&with(&[(BANKS, banks.into())]), &every);
+        let mut least = LEAST;
+        least[BANKS] = banks.into();
+        cases.list(&least, &[[0, banks - 1, banks.min(2), 2]]);
+    }
+    for start in 0..8 {
+        for bi in [2, 5, 8] {
+            cases.list(&TABLE_A, &[[1, start, bi, 1], [0, 7 - start, 9 - bi, 2]]);
+        }
     }
 }
 

@@ -98,12 +98,13 @@ fn sizes(cases: &mut Cases, numbers: &mut Numbers) {
 
 fn transactions(cases: &mut Cases) {
     cases.group("transactions out of range, the lowest told");
-    let good = [1, 7, 1, 16];
+    let good = [1, 7, 2, 8];
     for fault in [
         [2, 0, 1, 1],
         [255, 0, 1, 1],
         [0, 8, 1, 1],
-        [0, 7, 2, 1],
+        [0, 8, 8, 1],
+        [0, 7, 9, 1],
         [0, 0, 9, 1],
         [1, 255, 1, 1],
         [1, 248, 8, 1],
@@ -119,11 +120,18 @@ fn transactions(cases: &mut Cases) {
     }
     for place in [0, 9, 10, 99, 100, 254, 255] {
         let mut list = [good; 256];
-        list[place] = [0, 7, 2, 1];
+        list[place] = [0, 7, 9, 1];
         cases.list(&TABLE_A, &list);
     }
-    cases.list(&LEAST, &[[0, 15, 1, 1], [0, 15, 2, 1]]);
-    cases.list(&ODD[0], &[[0, 0, 1, 1], [0, 1, 1, 1]]);
+    cases.list(&LEAST, &[[0, 15, 16, 1], [0, 16, 1, 1]]);
+    cases.list(&LEAST, &[[0, 15, 16, 1], [0, 15, 17, 1]]);
+    for banks in 1..16 {
+        let table = with(&[(BANKS, banks.into())]);
+        let last = [0, banks - 1, banks, 1];
+        cases.list(&table, &[last, [0, banks, 1, 1]]);
+        cases.list(&table, &[last, [1, 0, banks + 1, 1]]);
+        cases.list(&table, &[last, last, [1, banks - 1, banks + 1, 16]]);
+    }
     // Out of range at the end of a list whose schedule would have no room.
     let mut list = [[0, 0, 8, 16]; 256];
     list[255] = [0, 0, 9, 1];

@@ -61,6 +61,7 @@ pub fn cases() -> Vec<u8> {
     let mut numbers = Numbers(5);
     worked(&mut cases);
     builds(&mut cases, &mut numbers);
+    wraps(&mut cases);
     largest(&mut cases);
     rooms(&mut cases);
     lists(&mut cases);
@@ -102,7 +103,7 @@ pub fn any_list(table: &Table, size: usize, numbers: &mut Numbers) -> Vec<[u8; 4
     let banks = usize::from(table[BANKS]);
     let mut one = || {
         let bi = 1 + numbers.below(banks.min(5));
-        let start = numbers.below(banks + 1 - bi);
+        let start = numbers.below(banks);
         let kind = numbers.byte() % 2;
         [kind, start as u8, bi as u8, 1 + numbers.byte() % 3]
     };
@@ -120,6 +121,33 @@ fn builds(cases: &mut Cases, numbers: &mut Numbers) {
     for table in [TABLE_A, LEAST, GREATEST] {
         let banks = table[BANKS] as u8;
         cases.build_all(&table, &[[1, 0, banks, 16], [0, 0, banks, 1]]);
+    }
+}
+
+/// "The banks are then start, start + 1 and so on, with bank 0 after the last": all banks from every start, one by one and in one
+/// list; every start with every BI; and for each number of banks a start, and a BI, that is one too great.
+fn wraps(cases: &mut Cases) {
+    for start in 0..8 {
+        cases.build_all(&TABLE_A, &[[start % 2, start, 8, 1]]);
+    }
+    for banks in [1, 2, 3, 5, 7, 8, 11, 13, 15, 16] {
+        let table = with(&[(BANKS, banks.into())]);
+        let every: Vec<[u8; 4]> = (0..banks).map(|s| [s % 2, s, banks, 1]).collect();
+        cases.build_all(&table, &every);
+        for (start, bi) in [(banks, 1), (0, banks + 1), (banks - 1, banks + 1)] {
+            cases.build(
+                &table,
+                65_535,
+                2,
+                &[0, banks - 1, banks, 1, 1, start, bi, 1],
+            );
+        }
+    }
+    let every: Vec<[u8; 4]> = (0..64).map(|k| [k % 3 % 2, k % 8, 1 + k / 8, 1]).collect();
+    cases.build_all(&TABLE_A, &every);
+    let fresh = Controller::fresh(&TABLE_A);
+    for list in [[1, 3, 8, 2], [0, 8, 1, 1], [0, 7, 9, 1]] {
+        cases.run(&TABLE_A, 60, 480, &fresh, &list);
     }
 }
 
@@ -163,7 +191,7 @@ fn lists(cases: &mut Cases) {
         [2, 0, 1, 1],
         [255, 0, 1, 1],
         [0, 8, 1, 1],
-        [0, 7, 2, 1],
+        [0, 7, 9, 1],
         [1, 0, 9, 1],
         [1, 255, 1, 1],
         [1, 255, 255, 1],
@@ -173,7 +201,7 @@ fn lists(cases: &mut Cases) {
         [0, 0, 17, 1],
     ];
     for (i, fault) in faults.into_iter().enumerate() {
-        let mut list = [[0, 7, 1, 1]; 4];
+        let mut list = [[0, 7, 2, 1]; 4];
         list[i % 4] = fault;
         list[3] = if i % 2 == 0 { fault } else { list[3] };
         cases.build(&TABLE_A, 65_535, 4, &list.concat());
@@ -181,18 +209,19 @@ fn lists(cases: &mut Cases) {
     }
     cases.build(&ODD[0], 65_535, 1, &[0, 0, 1, 16]);
     cases.build(&ODD[0], 65_535, 1, &[0, 1, 1, 1]);
-    cases.build(&LEAST, 65_535, 1, &[0, 15, 1, 1]);
-    cases.build(&LEAST, 65_535, 1, &[0, 15, 2, 1]);
+    cases.build(&LEAST, 65_535, 1, &[0, 15, 16, 1]);
+    cases.build(&LEAST, 65_535, 1, &[0, 16, 1, 1]);
 }
 
-/// Example 4 run to the counts just before and just after each of its commands, and another list to every count from 1 to the end.
+/// Example 4 run to the counts just before and just after each of its commands, and another list, whose transactions both run over
+/// the last bank, to every second count.
 fn cuts(cases: &mut Cases) {
     let example_4 = [[0, 0, 1, 1], [1, 1, 1, 1]];
     cut(cases, &TABLE_A, &example_4, [1, 6, 7, 10, 11, 18, 19]);
     let small = [20, 3, 2, 2, 3, 3, 5, 7, 2, 9, 3, 2, 2, 2, 2, 0];
-    let list = [[1, 0, 2, 2], [0, 1, 2, 1]];
+    let list = [[1, 2, 2, 2], [0, 1, 3, 1]];
     let (whole, _, _) = ran(&Controller::fresh(&small), &small, &list, u32::MAX);
-    cut(cases, &small, &list, 1..=whole.cycles);
+    cut(cases, &small, &list, (1..=whole.cycles).step_by(2));
 }
 
 /// A fresh run to each count, and on from there to the end.

@@ -119,10 +119,12 @@ fn never_anywhere(s: &Controller, opened: u8) -> Controller {
     empty
 }
 
-/// What lies past the table's banks is neither read nor changed.
+/// What lies past the table's banks is neither read nor changed, not even by a transaction that runs over the last of them.
 fn past_the_banks(cases: &mut Cases) {
-    let list = [[1, 0, 1, 2], [0, 0, 1, 1]];
-    for (table, of_table) in [(TABLE_A, 8), (ODD[0], 1)] {
+    for (table, of_table, list) in [
+        (TABLE_A, 8, [[1, 7, 2, 2], [0, 0, 1, 1]]),
+        (ODD[0], 1, [[1, 0, 1, 2], [0, 0, 1, 1]]),
+    ] {
         let mut state = Controller::fresh(&table);
         for (n, bank) in (0..).zip(&mut state.banks[of_table..]) {
             *bank = Bank {

@@ -153,7 +153,7 @@ pub fn run(
     room: usize,
 ) -> Result<Run, Refusal> {
     check_list(table, list, MOST_TRANSACTIONS)?;
-    let queues = Queues::of(list);
+    let queues = Queues::of(table, list);
     let acts_left = queues.acts.len().saturating_sub(state.acts as usize);
     let datas_left = queues.datas.len().saturating_sub(state.datas as usize);
     if room < 8 * (acts_left + datas_left).min(count as usize) {

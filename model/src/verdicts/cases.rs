@@ -56,6 +56,7 @@ pub fn cases() -> Vec<u8> {
     let mut numbers = Numbers(11);
     worked(&mut cases);
     legal(&mut cases);
+    wraps(&mut cases);
     first_rules(&mut cases);
     later_rules(&mut cases);
     left_open(&mut cases);
@@ -111,7 +112,7 @@ fn legal(cases: &mut Cases) {
         &[[0, 0, 1, 1], [1, 1, 1, 1]],
         &[[0, 0, 4, 2]],
         &[[0, 0, 5, 1]],
-        &[[1, 2, 3, 2], [0, 1, 2, 3], [1, 0, 5, 1]],
+        &[[1, 6, 3, 2], [0, 7, 2, 3], [1, 5, 5, 1]],
     ];
     for list in lists {
         cases.put(JUDGE, &TABLE_A, 0, &built(&TABLE_A, list).0);
@@ -119,16 +120,32 @@ fn legal(cases: &mut Cases) {
     }
     let ends = [LEAST, GREATEST];
     for table in ODD.iter().chain(&ends) {
-        let banks = table[BANKS].min(5) as u8;
-        let list = [[0, 0, banks, 1], [1, 0, 1, 3], [0, banks - 1, 1, 2]];
+        let (last, banks) = (table[BANKS] as u8 - 1, table[BANKS].min(5) as u8);
+        let list = [[0, last, banks, 1], [1, 0, 1, 3], [0, last, 1, 2]];
         cases.put(JUDGE, table, u32::MAX, &built(table, &list).0);
         if ends.contains(table) {
             cases.put(JUDGE_PATTERN, table, 4000, &built(table, &list).0);
         }
     }
-    let (long, _) = built(&LEAST, &[[1, 0, 16, 16], [0, 0, 16, 16], [0, 3, 9, 7]]);
+    let (long, _) = built(&LEAST, &[[1, 5, 16, 4], [0, 15, 16, 16], [0, 12, 9, 7]]);
     cases.put(JUDGE, &LEAST, 0, &long);
     cases.put(JUDGE_PATTERN, &LEAST, 3000, &long[long.len() - 576..]);
+}
+
+/// Schedules of all banks from every start, "with bank 0 after the last"; the last of them as a pattern of the least length that is
+/// accepted, and of one less.
+fn wraps(cases: &mut Cases) {
+    let from = |start: u8| built(&TABLE_A, &[[start % 2, start, 8, 1]]).0;
+    for start in 0..8 {
+        cases.put(JUDGE, &TABLE_A, 0, &from(start));
+    }
+    let seven = from(7);
+    let verdict = |length| crate::rules::judge_pattern(&TABLE_A, &seven, length);
+    let accepted = |&length: &u32| verdict(length) == Ok(PatternVerdict::Accepted);
+    let least = (1..1000).find(accepted).expect("a length that is enough");
+    for length in [least - 1, least] {
+        cases.put(JUDGE_PATTERN, &TABLE_A, length, &seven);
+    }
 }
 
 /// The records moved so that the last is at the greatest cycle there is, and one before it.

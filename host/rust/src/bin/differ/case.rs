@@ -133,6 +133,27 @@ impl Case {
         self.bytes.chunks_exact(4).map(record).collect()
     }
 
+    /// The transactions that the call is given: its list, or the one to be read or written.
+    fn given(&self) -> Vec<[u8; 4]> {
+        match self.call {
+            WriteTransaction => vec![self.values.map(|n| n as u8)],
+            ReadTransaction | ReadTransactions => self.records(),
+            Schedule | ScheduleBytes | Run | Step | RunBytes => self.records(),
+            _ => Vec::new(),
+        }
+    }
+
+    /// Those of them that go on at bank 0 after the last: for each whether it takes all banks.
+    pub fn wraps(&self) -> Vec<bool> {
+        let banks = match self.call.expects() {
+            true => self.numbers()[1],
+            false => 16,
+        };
+        let over = |x: &&[u8; 4]| u16::from(x[1]) + u16::from(x[2]) > banks;
+        let all = |x: &[u8; 4]| u16::from(x[2]) == banks;
+        self.given().iter().filter(over).map(all).collect()
+    }
+
     /// The records of the bytes, for a reader: commands as cycle, kind, bank and number.
     pub fn shown(&self) -> Vec<Vec<u32>> {
         let record = |x: &[u8]| match *x {

@@ -163,7 +163,7 @@ fn run(asked: &Asked) -> ExitCode {
         let (right, wrong) = difference(&mut archive, &case);
         let other = case.call.expects() && case.expected != case.edition();
         let agreeing = other.then(|| expected(&case.agreeing(), &archive.noise));
-        tally.add(case.call, &right, agreeing.as_ref());
+        tally.add(&case, &right, agreeing.as_ref());
         if let Some(wrong) = wrong {
             report(&mut archive, &case, &wrong);
             println!(

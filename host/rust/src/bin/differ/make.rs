@@ -127,7 +127,7 @@ fn slots(r: &mut Random, due: usize) -> usize {
     }
 }
 
-/// Cases that random ones seldom meet: the greatest sizes, and a run that idles from the first cycle to the last.
+/// Cases that random ones seldom meet: the greatest sizes, a run that idles from the first cycle to the last, and lists from every start.
 pub fn greatest() -> Vec<Case> {
     let table = |t: &model::desk::Table| model::house::bytes_of(t);
     let mut cases = Vec::new();
@@ -145,7 +145,7 @@ pub fn greatest() -> Vec<Case> {
         let mut case = Case::new(call);
         case.table = table(&sixteen);
         case.bytes = (0..n)
-            .flat_map(|i| [(i % 3 == 1) as u8, 0, 16, 16])
+            .flat_map(|i| [(i % 3 == 1) as u8, (i % 16) as u8, 16, 16])
             .collect();
         case.values[0] = u32::MAX;
         case.room = 8 * 69_632 - more;
@@ -178,5 +178,32 @@ pub fn greatest() -> Vec<Case> {
     idles.room = 16;
     idles.state[BANKS] = 1;
     cases.push(idles);
+    cases.extend(over_the_last_bank());
+    cases
+}
+
+/// For each number of banks every start with every BI; then the same with the last start, and with the greatest BI, one beyond its limit.
+fn over_the_last_bank() -> Vec<Case> {
+    let mut cases = Vec::new();
+    for banks in 1..=16 {
+        let mut table = TABLE_A;
+        table[1] = banks.into();
+        for (start, bi) in [(0, 0), (1, 0), (0, 1)] {
+            let mut list = lists::every_start(banks);
+            if let Some(last) = list.last_mut() {
+                last[1] += start;
+                last[2] += bi;
+            }
+            for call in [Call::ReadTransactions, Call::Schedule, Call::RunBytes] {
+                let mut case = Case::new(call);
+                case.table = model::house::bytes_of(&table);
+                case.bytes = list.concat();
+                case.values[0] = u32::MAX;
+                case.room = 8 * lists::due(&list);
+                case.slots = list.len();
+                cases.push(case);
+            }
+        }
+    }
     cases
 }

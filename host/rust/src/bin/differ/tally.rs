@@ -2,7 +2,7 @@
 
 use std::ops::RangeInclusive;
 
-use crate::case::{Call, CALLS};
+use crate::case::{Call, Case, CALLS};
 use crate::expected::{refused, Outcome};
 
 #[derive(Default)]
@@ -13,6 +13,8 @@ pub struct Tally {
     /// With another edition expected than the table's: those refused by what goes before it, 1 and 2, and in place of 10 what would be told
     /// with the table's own; 0 is nothing.
     others: [[u64; 11]; 16],
+    /// Not refused, with a transaction that goes over the last bank; of these, with one that takes all banks.
+    over: [[u64; 2]; 16],
     /// By the broken rule; 0 is an accepted schedule or pattern.
     rules: [[u64; 11]; 2],
     /// Broken patterns, by the copy from 1; the last place has all later ones.
@@ -29,12 +31,18 @@ fn by_number(counts: &[u64; 11], numbers: RangeInclusive<usize>) -> String {
 
 impl Tally {
     /// `agreeing` is what the model says with the table's own edition expected, where the case expects another.
-    pub fn add(&mut self, call: Call, told: &Outcome, agreeing: Option<&Outcome>) {
+    pub fn add(&mut self, case: &Case, told: &Outcome, agreeing: Option<&Outcome>) {
+        let call = case.call;
         let number = refused(&told.answer);
         self.calls[call as usize] += 1;
         self.refused[call as usize][number] += 1;
         if let Some(agreeing) = agreeing {
             self.others[call as usize][refused(&agreeing.answer)] += 1;
+        }
+        if number == 0 {
+            let wraps = case.wraps();
+            self.over[call as usize][0] += u64::from(!wraps.is_empty());
+            self.over[call as usize][1] += u64::from(wraps.contains(&true));
         }
         let judge = match call {
             Call::Judge => 0,
@@ -70,6 +78,13 @@ impl Tally {
                 let [nothing, first, second, ..] = self.others[at];
                 let rest = by_number(&self.others[at], 3..=9);
                 println!("{name:22}  1: {first}, 2: {second}; 10 with nothing: {nothing}  {rest}");
+            }
+        }
+        println!("not refused, with a transaction that goes over the last bank; of these, with one that takes all banks");
+        for (at, (_, name)) in CALLS.iter().enumerate() {
+            let [some, all] = self.over[at];
+            if some > 0 {
+                println!("{name:22}{some:>9}{all:>9}");
             }
         }
         for (name, rules) in ["schedules", "patterns"].iter().zip(&self.rules) {

@@ -100,6 +100,7 @@ fn for_model(list: &[Transaction]) -> Vec<desk::Transaction> {
 fn builds() {
     let table = bytes_of(&TABLE_A);
     let mut numbers = Numbers(11);
+    // None goes over the last bank: an archive from before those were accepted has the same to do.
     let list: Vec<Transaction> = (0..256)
         .map(|_| {
             let bi = 1 + numbers.below(4);

@@ -54,6 +54,16 @@ impl Times {
             distances: [[ccd, turn_to_write], [turn_to_read, ccd]],
         })
     }
+
+    /// The bank that comes so many after the start; bank 0 comes after the last.
+    fn bank(&self, x: &Transaction, after: u8) -> u8 {
+        let bank = x.start + after;
+        if bank < self.banks {
+            bank
+        } else {
+            bank - self.banks
+        }
+    }
 }
 
 /// So long ago that it holds nothing up.
@@ -145,8 +155,7 @@ pub fn schedule(
     let t = &Times::read(expected, table)?;
     let counts = |n: u8| (1..=16).contains(&n);
     let legal = |x: &Transaction| {
-        let end = u16::from(x.start) + u16::from(x.bi);
-        x.kind <= 1 && counts(x.bi) && counts(x.bc) && end <= t.banks.into()
+        x.kind <= 1 && counts(x.bi) && counts(x.bc) && x.start < t.banks && x.bi <= t.banks
     };
     let due: usize = list
         .iter()
@@ -166,7 +175,7 @@ pub fn schedule(
     while datas.number < list.len() {
         let x = &list[datas.number];
         let writes = usize::from(x.kind);
-        let bank = x.start + datas.bank;
+        let bank = t.bank(x, datas.bank);
         let has_act = (datas.number, datas.bank) < (acts.number, acts.bank);
         let data_at = if has_act {
             state.data_from(t, bank, writes).max(cycle)
@@ -174,8 +183,8 @@ pub fn schedule(
             i64::MAX
         };
         let act_at = match list.get(acts.number) {
-            Some(x) if !state.banks[usize::from(x.start + acts.bank)].open => {
-                state.act_from(t, x.start + acts.bank).max(cycle)
+            Some(x) if !state.banks[usize::from(t.bank(x, acts.bank))].open => {
+                state.act_from(t, t.bank(x, acts.bank)).max(cycle)
             }
             _ => i64::MAX,
         };
@@ -201,7 +210,7 @@ pub fn schedule(
             gone
         } else {
             let x = &list[acts.number];
-            let bank = x.start + acts.bank;
+            let bank = t.bank(x, acts.bank);
             state.act(t, bank, at);
             let gone = (0, bank, acts.number);
             acts.bank += 1;

@@ -9,10 +9,27 @@ pub fn due(list: &[[u8; 4]]) -> usize {
         .sum()
 }
 
+/// From any start, often over the last bank; now and then every bank.
 fn legal(r: &mut Random, banks: u8, most_bi: u32, most_bc: u32) -> [u8; 4] {
-    let bi = r.range(1, most_bi.min(banks.into())) as u8;
-    let start = r.below(usize::from(banks - bi) + 1) as u8;
+    let bi = match r.below(16) {
+        0 => banks,
+        _ => r.range(1, most_bi.min(banks.into())) as u8,
+    };
+    let start = match r.below(6) {
+        0 => banks - 1,
+        // The first from which it goes on at bank 0; of one bank, bank 0 itself.
+        1 => (banks - bi + 1) % banks,
+        _ => r.below(banks.into()) as u8,
+    };
     [r.below(2) as u8, start, bi, r.range(1, most_bc) as u8]
+}
+
+/// Every start with every BI, for so many banks: of the last start all banks come last.
+pub fn every_start(banks: u8) -> Vec<[u8; 4]> {
+    let one = |start, bi| [(start + bi) % 2, start, bi, 2];
+    (1..=banks)
+        .flat_map(|bi| (0..banks).map(move |start| one(start, bi)))
+        .collect()
 }
 
 /// A transaction, often with a number at an edge or beyond it.
@@ -25,13 +42,16 @@ pub fn one(r: &mut Random, banks: u8) -> [u8; 4] {
 }
 
 fn spoil(r: &mut Random, x: &mut [u8; 4], banks: u8) {
-    match r.below(7) {
+    match r.below(9) {
         0 => x[0] = r.of_these(&[2, 3, 128, 255]),
-        1 => x[1] = banks - x[2] + 1,
+        1 => x[1] = r.of_these(&[banks - 1, banks, banks, banks + 1]),
         2 => x[1] = r.u8(),
-        3 => x[2] = r.of_these(&[0, 16, 17, 255, banks.wrapping_add(1)]),
-        4 => x[3] = r.of_these(&[0, 16, 17, 255]),
-        5 => *x = [0, 255, 1, 1],
+        3 => x[2] = r.of_these(&[0, 16, 17, 255]),
+        4 => x[2] = banks + 1,
+        // The last start with all banks, which is accepted, and with one more.
+        5 => x[1..3].copy_from_slice(&[banks - 1, banks + r.below(2) as u8]),
+        6 => x[3] = r.of_these(&[0, 16, 17, 255]),
+        7 => *x = [0, r.of_these(&[240, 255]), r.of_these(&[1, 16]), 1],
         _ => x.iter_mut().for_each(|b| *b = r.u8()),
     }
 }

@@ -4,14 +4,20 @@ use super::*;
 use model::desk;
 use model::house::*;
 
+/// From any start, over the last bank too; now and then all banks, and now and then one beyond a limit.
 fn list(numbers: &mut Numbers, banks: usize, size: usize) -> Vec<Transaction> {
     let mut one = || {
-        let bi = 1 + numbers.below(banks.min(4));
+        let (start, bi, bc) = match numbers.below(24) {
+            0 => (numbers.below(banks), banks, 1),
+            1 if numbers.below(4) == 0 => (banks, 1, 1),
+            2 if numbers.below(4) == 0 => (banks - 1, banks + 1, 1),
+            _ => (numbers.below(banks), 1 + numbers.below(banks.min(4)), 3),
+        };
         Transaction {
             kind: numbers.byte() % 2,
-            start: numbers.below(banks + 1 - bi) as u8,
+            start: start as u8,
             bi: bi as u8,
-            bc: 1 + numbers.byte() % 3,
+            bc: 1 + numbers.byte() % bc,
         }
     };
     (0..size).map(|_| one()).collect()
@@ -24,6 +30,7 @@ fn as_the_model_says() {
     let mut tables = vec![TABLE_A, TABLE_B, TABLE_C, LEAST, GREATEST];
     tables.extend(ODD);
     let mut verdicts = [0; 11];
+    let (mut over, mut refused) = (0, 0);
     for round in 0..600 {
         let t = tables[round % tables.len()];
         let (edition, table) = (t[0], bytes_of(&t));
@@ -35,6 +42,11 @@ fn as_the_model_says() {
         let mut right = (vec![9; 8 * due + 3], vec![9; list.len() + 1]);
         let told =
             desk::schedule(edition, &table, &list, &mut right.0, &mut right.1).map(|s| s.commands);
+        let wraps = |x: &Transaction| u16::from(x.start) + u16::from(x.bi) > t[1];
+        match told {
+            Ok(_) => over += u32::from(list.iter().any(wraps)),
+            Err(_) => refused += 1,
+        }
         for by_cycles in [false, true] {
             let mut got = (vec![9; 8 * due + 3], vec![9; list.len() + 1]);
             let commands = schedule(edition, &table, &list, &mut got.0, &mut got.1, by_cycles);
@@ -64,4 +76,5 @@ fn as_the_model_says() {
         }
     }
     assert!(verdicts.iter().all(|&n| n > 0), "{verdicts:?}");
+    assert!(over > 100 && refused > 10, "{over}, {refused}");
 }

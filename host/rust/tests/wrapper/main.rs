@@ -1,5 +1,7 @@
 //! Document 01's examples through the safe functions, and a refusal of each kind.
 
+mod banks;
+
 use skvorzhan::*;
 
 const A: Table = [7, 8, 4, 4, 10, 10, 28, 38, 6, 32, 10, 8, 6, 12, 6, 0];
@@ -151,7 +153,7 @@ fn refusals() {
     let mut out = [5; 40];
     assert_eq!(refused(read_table(&table[..31])), (1, 0, 0));
     assert_eq!(refused(write_table(ccd_1, &mut out[..32])), (2, 0, 0));
-    let beyond = transaction(0, 7, 2, 1);
+    let beyond = transaction(0, 8, 1, 1);
     let mut list = [transaction(0, 7, 1, 1), beyond];
     assert_eq!(
         refused(read_transactions(7, &table, &[0; 7], &mut list)),
@@ -219,7 +221,7 @@ fn editions() {
 
 /// With nothing else wrong, and with each other thing wrong.
 fn first_of_all(e: u16, table: &[u8], told: (u32, u32, u32)) {
-    let (good, beyond) = (transaction(0, 0, 1, 1), transaction(0, 7, 2, 1));
+    let (good, beyond) = (transaction(0, 0, 1, 1), transaction(0, 8, 1, 1));
     let mut fresh = start(7, &bytes(A)).expect("the table is accepted");
     assert_eq!(refused(start(e, table)), told);
     for list in [&[good][..], &[beyond], &[good; 257]] {
