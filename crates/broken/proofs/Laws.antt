@@ -1,8 +1,6 @@
 -- What the proofs of the leaves cite.
 -- Assumes nothing.
-use Prim.Native.Nat.{ℕ, _*_, _≤_, _<_}
-use native.Mathlib.Nat.{mul-le-mul}
-use native.Mathlib.Omega.{arith}
+use Prim.Native.Nat.{ℕ, _≤_, _<_}
 use mathlib.Core.Path.{_≡_, refl}
 use mathlib.Core.Bool.{Bool, true, false, not}
 use mathlib.Core.List.{List, [], _∷_}
@@ -16,15 +14,12 @@ use Rattle.rules.specs.declared.state.Bank.{Bank}
 use Rattle.rules.specs.declared.state.State.{State}
 use Rattle.rules.specs.declared.verdict.Rule.the-variants.{Range, Order, Opened, Precharge, Rc, Rrd, Faw, Rcd, Distance}
 use Rattle.rules.specs.declared.verdict.Found.the-variants.{Fine, Broken}
-use Rattle.rules.specs.Kinds.{isAct, isKnown, firstBroken, rulesInOrder}
-use Rattle.rules.specs.State.{past, isOpen, bankOf, charged, actTestsOf, actTests, dataTestsOf}
+use Rattle.rules.specs.Kinds.{isAct, isWr, isKnown, firstBroken, rulesInOrder}
+use Rattle.rules.specs.Square.{square}
+use Rattle.rules.specs.State.{past, isOpen, bankOf, charged, farBy, actTestsOf, actTests, dataTestsOf, dataTests, testsBy}
 use Rattle.rules.specs.History.{inTable}
 use Rattle.rules.proofs.TestLaws.{true-false, and-fst}
-use Rattle.broken.specs.ByState.{testsTold, foundBy}
-
--- L × k for a length of 32 bits and one of five copies
-pub shift-small : (L k : ℕ) → L < 4294967296 → k < 5 → L * k ≤ 17179869180
-shift-small L k l m = mul-le-mul {n₁ = L} {m₁ = k} {n₂ = 4294967295} {m₂ = 4} (omega arith) (omega arith)
+use Rattle.broken.specs.ByState.{foundBy}
 
 -- the rules that an ACT, and a data command, can break, one after the other
 act-tests : (a b c d e : Bool)
@@ -56,20 +51,20 @@ pub data-order : (τ : Table) (k : Bank) (keeps9 : Bool) (t : ℕ)
 data-order τ k keeps9 t = data-tests (isOpen k) (past (k .act) (τ .rcd) t) keeps9
 
 -- the rules of a record, in the order in which the code comes to them
-module _ (τ : Table) (s : State) (k : Kind) (t b : ℕ) (keeps9 : Bool) where
-  pub found-range : inTable τ k b ≡ false → Broken Range ≡ foundBy τ s k t b keeps9
+module _ (τ : Table) (s : State) (k : Kind) (t b : ℕ) where
+  pub found-range : inTable τ k b ≡ false → Broken Range ≡ foundBy τ s k t b
   unfolding foundBy
   found-range e = rw e
 
-  pub found-order : inTable τ k b ≡ true → t < s .cycle → Broken Order ≡ foundBy τ s k t b keeps9
+  pub found-order : inTable τ k b ≡ true → t < s .cycle → Broken Order ≡ foundBy τ s k t b
   unfolding foundBy
   found-order e l = rw (e, lt-leb (s .cycle) t l)
 
-  told : inTable τ k b ≡ true → s .cycle ≤ t → (ts : List Bool) → ts ≡ testsTold τ s k t b keeps9 → firstBroken (true ∷ true ∷ ts) rulesInOrder ≡ foundBy τ s k t b keeps9
+  told : inTable τ k b ≡ true → s .cycle ≤ t → (ts : List Bool) → ts ≡ testsBy τ s k t b → firstBroken (true ∷ true ∷ ts) rulesInOrder ≡ foundBy τ s k t b
   unfolding foundBy
   told e l ts u = rw (e, le-leb (s .cycle) t l, u)
 
-  act-told : (k : Kind) → isAct k ≡ true → actTests τ s t b ≡ testsTold τ s k t b keeps9
+  act-told : (k : Kind) → isAct k ≡ true → actTests τ s t b ≡ testsBy τ s k t b
   act-told Act a = refl
   act-told Rd a = true-false false a refl
   act-told Rda a = true-false false a refl
@@ -77,7 +72,7 @@ module _ (τ : Table) (s : State) (k : Kind) (t b : ℕ) (keeps9 : Bool) where
   act-told Wra a = true-false false a refl
   act-told (Other n) a = true-false false a refl
 
-  data-told : (k : Kind) → isKnown k ≡ true → isAct k ≡ false → dataTestsOf τ (bankOf s b) keeps9 t ≡ testsTold τ s k t b keeps9
+  data-told : (k : Kind) → isKnown k ≡ true → isAct k ≡ false → dataTests τ s (isWr k) t b ≡ testsBy τ s k t b
   data-told Act n a = true-false true refl a
   data-told Rd n a = refl
   data-told Rda n a = refl
@@ -85,9 +80,9 @@ module _ (τ : Table) (s : State) (k : Kind) (t b : ℕ) (keeps9 : Bool) where
   data-told Wra n a = refl
   data-told (Other m) n a = true-false false n refl
 
-  pub found-act : inTable τ k b ≡ true → s .cycle ≤ t → isAct k ≡ true → firstBroken (true ∷ true ∷ actTests τ s t b) rulesInOrder ≡ foundBy τ s k t b keeps9
+  pub found-act : inTable τ k b ≡ true → s .cycle ≤ t → isAct k ≡ true → firstBroken (true ∷ true ∷ actTests τ s t b) rulesInOrder ≡ foundBy τ s k t b
   found-act e l a = told e l (actTests τ s t b) (act-told k a)
 
-  pub found-data : inTable τ k b ≡ true → s .cycle ≤ t → isAct k ≡ false
-      → firstBroken (true ∷ true ∷ dataTestsOf τ (bankOf s b) keeps9 t) rulesInOrder ≡ foundBy τ s k t b keeps9
-  found-data e l a = told e l (dataTestsOf τ (bankOf s b) keeps9 t) (data-told k (and-fst (isKnown k) _ e) a)
+  pub found-data : inTable τ k b ≡ true → s .cycle ≤ t → isAct k ≡ false → (q : List (List ℕ)) → q ≡ square τ → (keeps9 : Bool) → keeps9 ≡ farBy q (s .rd) (s .wr) (isWr k) t
+      → firstBroken (true ∷ true ∷ dataTestsOf τ (bankOf s b) keeps9 t) rulesInOrder ≡ foundBy τ s k t b
+  found-data e l a q eq keeps9 e9 = told e l (dataTestsOf τ (bankOf s b) keeps9 t) (rw (e9, eq) (data-told k (and-fst (isKnown k) _ e) a))

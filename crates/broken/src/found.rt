@@ -1,4 +1,5 @@
-// The first rule that a record breaks, by the state; rule 9 is told.
+// The first rule that a record breaks, by the state.
+use crate::back::keeps_distance;
 use crate::plain::is_act;
 use crate::plain::is_known;
 use records::command::Kind;
@@ -22,6 +23,7 @@ ghost use lib.Dec.{ltb};
 ghost use Rattle.records.specs.Tests.{pick};
 ghost use Rattle.rules.specs.declared.verdict.Found.the-variants.{Broken};
 ghost use Rattle.rules.specs.Kinds.{isKnown, firstBroken, rulesInOrder};
+ghost use Rattle.rules.specs.Square.{square};
 ghost use Rattle.rules.specs.State.{past, actTestsOf, dataTestsOf};
 ghost use Rattle.broken.specs.ByState.{foundBy};
 
@@ -63,9 +65,9 @@ pub fn data_found(t: Table, k: Bank, keeps9: bool, c: u64) -> Found
 }
 
 // Rules 1 to 9 of a record of a kind to bank b at cycle c.
-pub fn found_by(t: Table, s: State, kind: Kind, c: u64, b: u8, keeps9: bool) -> Found
-    requires { ⌜ t .banks ≤ 16 ⌝ }
-    ensures { λ r. ⌜ r ≡ foundBy t s kind c b keeps9 ⌝ }
+pub fn found_by(t: Table, q: [[u32; 2]; 2], s: State, kind: Kind, c: u64, b: u8) -> Found
+    requires { ⌜ (t .banks ≤ 16) × (q ≡ square t) ⌝ }
+    ensures { λ r. ⌜ r ≡ foundBy t s kind c b ⌝ }
 {
     if not_of(in_table(kind, b, t.banks)) {
         return Found::Broken(Rule::Range);
@@ -80,5 +82,7 @@ pub fn found_by(t: Table, s: State, kind: Kind, c: u64, b: u8, keeps9: bool) -> 
     if is_act(kind) {
         return act_found(t, k, a1, a4, c);
     }
-    data_found(t, k, keeps9, c)
+    let rd = s.rd;
+    let wr = s.wr;
+    data_found(t, k, keeps_distance(q, rd, wr, kind, c), c)
 }

@@ -1,5 +1,6 @@
 -- The theorems about the judges.
 pub mod Laws
+pub mod Seen
 pub mod Turn
 pub mod FiveCopies
 pub mod Unique

@@ -1,7 +1,5 @@
 // One copy of a schedule, record by record.
-use broken::back::keeps_distance;
 use broken::found::found_by;
-use broken::plain::shift_of;
 use commands::command::command_at;
 use records::table::Table;
 use records::tests::both_of;
@@ -13,7 +11,7 @@ use rules::verdict::Verdict;
 use timing::note::note_kind;
 use timing::tests::is_open;
 ghost use mathlib.Core.Path.{_≡_};
-ghost use Prim.Native.Nat.{suc, _≤_, _<_};
+ghost use Prim.Native.Nat.{suc, _*_, _≤_, _<_};
 ghost use Rattle.records.specs.Tests.{pick};
 ghost use Rattle.records.specs.Command.{commandsIn};
 ghost use Rattle.rules.specs.declared.verdict.Verdict.the-variants.{Accepted, Refused};
@@ -22,13 +20,21 @@ ghost use Rattle.rules.specs.Square.{square};
 ghost use Rattle.rules.specs.Verdict.{judgeFrom};
 ghost use Rattle.rules.specs.Pattern.{copy};
 ghost use Rattle.rules.proofs.JudgeState.{Judging};
-ghost use Rattle.broken.specs.Seen.{recordCount, whole};
 ghost use Rattle.broken.specs.ByState.{shutBy};
+ghost use Rattle.judge.specs.Seen.{recordCount, whole};
 
 // The verdict on a copy, and the state after it.
 pub struct Copied {
     pub state: State,
     pub verdict: Verdict,
+}
+
+// The cycles that copy k + 1 of a pattern is later: at most 4 × (2³² − 1).
+pub fn shift_of(length: u32, k: u32) -> u64
+    requires { ⌜ k < 5 ⌝ }
+    ensures { λ r. ⌜ (r ≡ length * k) × (r ≤ 17179869180) ⌝ }
+{
+    length as u64 * k as u64
 }
 
 // No bank of the table is open.
@@ -73,11 +79,10 @@ pub fn judge_copy(t: Table, q: [[u32; 2]; 2], s: &[u8], length: u32, k: u32, sta
         let kind = r.kind;
         let b = r.bank;
         let c = r.cycle as u64 + shift;
-        let keeps9 = keeps_distance(q, s, length, k, i, kind, c);
         let next = i + 1;
         let number = i as u32;
         i = next;
-        match found_by(t, state, kind, c, b, keeps9) {
+        match found_by(t, q, state, kind, c, b) {
             Found::Broken(x) => {
                 return Copied {
                     state: state,

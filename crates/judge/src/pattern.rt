@@ -12,8 +12,8 @@ ghost use mathlib.Core.Path.{_≡_};
 ghost use Prim.Native.Nat.{_≤_};
 ghost use Rattle.records.specs.Command.{commandsIn};
 ghost use Rattle.rules.specs.Pattern.{copies};
-ghost use Rattle.broken.specs.Seen.{recordCount};
 ghost use Rattle.judge.specs.Answer.{PatternAnswers};
+ghost use Rattle.judge.specs.Seen.{recordCount};
 
 // The verdict on five copies, which is that on any number from five on.
 pub fn judge_five(t: Table, s: &[u8], length: u32) -> PatternVerdict

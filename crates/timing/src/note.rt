@@ -90,8 +90,8 @@ pub fn note_data(s: State, write: bool, closes: bool, c: u64, b: u8) -> State
     let i = b as usize;
     let mut banks = s.banks;
     banks[i] = bank_after(banks[i], write, closes, c);
-    let now_rd = stamp_if(not_of(write), c, rd);
-    let now_wr = stamp_if(write, c, wr);
+    let latest_rd = stamp_if(not_of(write), c, rd);
+    let latest_wr = stamp_if(write, c, wr);
     State {
         edition: s.edition,
         cycle: c + 1,
@@ -102,8 +102,8 @@ pub fn note_data(s: State, write: bool, closes: bool, c: u64, b: u8) -> State
         a2: a2,
         a3: a3,
         a4: a4,
-        rd: now_rd,
-        wr: now_wr,
+        rd: latest_rd,
+        wr: latest_wr,
     }
 }
 

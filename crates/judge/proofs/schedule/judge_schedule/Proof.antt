@@ -13,7 +13,7 @@ use Rattle.rules.proofs.JudgeState.{judging-fresh}
 use Rattle.judge.specs.declared.answer.Judged.the-variants.{Verdict, Refused}
 use Rattle.judge.specs.Answer.{judged}
 use Rattle.judge.proofs.Laws.{few}
-use Rattle.broken.proofs.Seen.{moved-none}
+use Rattle.judge.proofs.Seen.{moved-none}
 use Rattle.judge.proofs.schedule.judge_schedule.Statement.{statement}
 use Rattle.judge.proofs.schedule.judge_schedule.Tie as tie
 

@@ -1,6 +1,8 @@
 //! Figures: the archive's calls beside ordinary Rust on the same input in the same run.
 //!
-//!     figures [--emulated]     then the times are said to be no figures, and the longest is measured once
+//!     figures [--emulated] [--judge]
+//!
+//! Emulated, the times are said to be no figures, and the longest is measured once. With --judge only the judges are measured.
 
 mod ordinary;
 
@@ -8,16 +10,13 @@ use std::time::Instant;
 
 use model::desk;
 use model::house::{bytes_of, Numbers, TABLE_A};
-use skvorzhan::{judge, schedule, Transaction, Verdict};
+use skvorzhan::{judge, read_command, schedule, Transaction, Verdict};
 
 /// Table A's edition.
 const EDITION: u16 = TABLE_A[0];
 
-/// The times of both, in seconds for one call.
-struct Times {
-    proved: Vec<f64>,
-    ordinary: Vec<f64>,
-}
+/// What is measured beside what: a name, and the call.
+type Sides<'a> = [(&'a str, &'a mut dyn FnMut())];
 
 /// Median, least and greatest.
 fn spread(times: &[f64]) -> (f64, f64, f64) {
@@ -38,47 +37,39 @@ fn in_units(seconds: f64) -> String {
     }
 }
 
-fn print(title: &str, times: &Times) {
-    let repeats = times.proved.len();
-    println!("{title} ({repeats} repeats)");
-    for (name, times) in [("proved", &times.proved), ("ordinary", &times.ordinary)] {
-        let (median, least, most) = spread(times);
-        let (least, most) = (in_units(least), in_units(most));
-        println!(
-            "  {name:9} median {:>10}, least {least}, greatest {most}",
-            in_units(median)
-        );
-    }
-    let (proved, ordinary) = (spread(&times.proved), spread(&times.ordinary));
-    let (medians, least) = (proved.0 / ordinary.0, proved.1 / ordinary.1);
-    println!("  ratio of the medians {medians:.2}, of the least {least:.2}");
-}
-
-/// The time of one of so many calls.
-fn timed(calls: u32, mut call: impl FnMut()) -> f64 {
+/// The time of one call, in seconds, by as many as fill a hundredth of a second, but by twenty at most.
+fn timed(call: &mut dyn FnMut()) -> f64 {
     let began = Instant::now();
-    for _ in 0..calls {
+    let mut calls = 0;
+    loop {
         call();
+        calls += 1;
+        let seconds = began.elapsed().as_secs_f64();
+        if calls == 20 || seconds > 0.01 {
+            return seconds / f64::from(calls);
+        }
     }
-    began.elapsed().as_secs_f64() / f64::from(calls)
 }
 
-/// One after the other in each repeat, so that both meet the same hindrances.
-fn beside(
-    repeats: usize,
-    calls: u32,
-    mut proved: impl FnMut(),
-    mut ordinary: impl FnMut(),
-) -> Times {
-    let mut times = Times {
-        proved: Vec::new(),
-        ordinary: Vec::new(),
-    };
+/// One after the other in each repeat, so that all meet the same hindrances. Prints the times of each, and the first's as ratios.
+fn beside(title: &str, repeats: usize, sides: &mut Sides) {
+    let mut times = vec![Vec::new(); sides.len()];
     for _ in 0..repeats {
-        times.proved.push(timed(calls, &mut proved));
-        times.ordinary.push(timed(calls, &mut ordinary));
+        for ((_, call), times) in sides.iter_mut().zip(&mut times) {
+            times.push(timed(call));
+        }
     }
-    times
+    println!("{title} ({repeats} repeats)");
+    let spreads: Vec<_> = times.iter().map(|times| spread(times)).collect();
+    for ((name, _), &(median, least, most)) in sides.iter().zip(&spreads) {
+        let (median, least, most) = (in_units(median), in_units(least), in_units(most));
+        println!("  {name:16} median {median:>10}, least {least}, greatest {most}");
+    }
+    let first = spreads[0];
+    for ((name, _), other) in sides.iter().zip(&spreads).skip(1) {
+        let (medians, least) = (first.0 / other.0, first.1 / other.1);
+        println!("  ratio to {name}: of the medians {medians:.2}, of the least {least:.2}");
+    }
 }
 
 fn due(list: &[Transaction]) -> usize {
@@ -116,33 +107,31 @@ fn builds() {
     let size = 8 * due(&list);
     let (mut room, mut finishes) = (vec![0; size], vec![0; 256]);
     let (mut own_room, mut own_finishes) = (vec![0; size], vec![0; 256]);
+    schedule(EDITION, &table, &list, &mut room, &mut finishes).expect("the list is accepted");
+    let last = read_command(&room[size - 8..]).map_or(0, |c| c.cycle);
     for (by_cycles, way) in [
         (true, "that tries each cycle"),
         (false, "that passes over idle cycles"),
     ] {
-        let times = beside(
+        let commands = size / 8;
+        let title = format!("build of 256 mixed transactions, {commands} commands, last data command at cycle {last}, beside one {way}");
+        beside(
+            &title,
             60,
-            20,
-            || {
-                let told = schedule(EDITION, &table, &list, &mut room, &mut finishes);
-                assert!(told.is_ok());
-            },
-            || {
-                let told = ordinary::schedule(
-                    EDITION,
-                    &table,
-                    &plain,
-                    &mut own_room,
-                    &mut own_finishes,
-                    by_cycles,
-                );
-                assert!(told.is_some());
-            },
+            &mut [
+                ("proved", &mut || {
+                    let told = schedule(EDITION, &table, &list, &mut room, &mut finishes);
+                    assert!(told.is_ok());
+                }),
+                ("ordinary", &mut || {
+                    let (room, finishes) = (&mut own_room, &mut own_finishes);
+                    let told =
+                        ordinary::schedule(EDITION, &table, &plain, room, finishes, by_cycles);
+                    assert!(told.is_some());
+                }),
+            ],
         );
         assert!(room == own_room && finishes == own_finishes, "they differ");
-        let (commands, last) = (size / 8, finishes[255]);
-        let title = format!("build of 256 mixed transactions, {commands} commands, last data command at cycle {last}, beside one {way}");
-        print(&title, &times);
     }
     println!("  the buffers are the same in each repeat and not cleared between");
 }
@@ -152,11 +141,12 @@ fn judgements(emulated: bool) {
     let mut t = TABLE_A;
     t[1] = 16;
     let table = bytes_of(&t);
-    for (records, size, bi, bc, repeats, calls) in [
-        (1_000, 125, 1, 7, 30, 20),
-        (8_000, 250, 2, 15, 10, 1),
-        (69_632, 256, 16, 16, if emulated { 1 } else { 3 }, 1),
+    for (records, size, bi, bc, repeats) in [
+        (1_000, 125, 1, 7, 30),
+        (8_000, 250, 2, 15, 10),
+        (69_632, 256, 16, 16, if emulated { 1 } else { 3 }),
     ] {
+        // None goes over the last bank here either.
         let one = |i: usize| Transaction {
             kind: (i % 3 == 1) as u8,
             start: if bi < 8 { (i * 5 % 14) as u8 } else { 0 },
@@ -167,14 +157,22 @@ fn judgements(emulated: bool) {
         assert_eq!(due(&list), records);
         let (mut room, mut finishes) = (vec![0; 8 * records], vec![0; size]);
         schedule(EDITION, &table, &list, &mut room, &mut finishes).expect("the list is accepted");
-        let times = beside(
+        let own = |looks_back| ordinary::judge(EDITION, &table, &room, looks_back);
+        beside(
+            &format!("judge of {records} records, accepted"),
             repeats,
-            calls,
-            || assert_eq!(judge(EDITION, &table, &room), Ok((7, Verdict::Accepted))),
-            || assert_eq!(ordinary::judge(EDITION, &table, &room), Some(None)),
+            &mut [
+                ("proved", &mut || {
+                    assert_eq!(judge(EDITION, &table, &room), Ok((7, Verdict::Accepted)))
+                }),
+                ("latest RD and WR", &mut || {
+                    assert_eq!(own(false), Some(None))
+                }),
+                ("looking back", &mut || assert_eq!(own(true), Some(None))),
+            ],
         );
-        print(&format!("judge of {records} records, accepted"), &times);
     }
+    println!("  ordinary Rust in two kinds: by the latest RD and WR, and looking back over all earlier records for rule 9");
 }
 
 fn machine(emulated: bool) {
@@ -193,8 +191,11 @@ fn machine(emulated: bool) {
 }
 
 fn main() {
-    let emulated = std::env::args().any(|word| word == "--emulated");
+    let asked = |option: &str| std::env::args().any(|word| word == option);
+    let emulated = asked("--emulated");
     machine(emulated);
-    builds();
+    if !asked("--judge") {
+        builds();
+    }
     judgements(emulated);
 }

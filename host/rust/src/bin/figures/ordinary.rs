@@ -1,5 +1,9 @@
 //! What an ordinary Rust program would do for a schedule and a verdict: state per bank, the latest RD and WR of all, no proof.
 
+mod judge;
+
+pub use judge::judge;
+
 use model::desk::Transaction;
 
 /// A table's numbers in whole cycles.
@@ -228,58 +232,6 @@ pub fn schedule(
         cycle = at + 1;
     }
     Some(due)
-}
-
-/// The broken rule and record; None where it's accepted. The outer None is a refusal.
-pub fn judge(expected: u16, table: &[u8], bytes: &[u8]) -> Option<Option<(u8, usize)>> {
-    let t = &Times::read(expected, table)?;
-    if bytes.len() % 8 != 0 || bytes.len() / 8 > 69_632 {
-        return None;
-    }
-    let mut state = State::fresh();
-    let mut last = -1;
-    for (record, c) in bytes.chunks_exact(8).enumerate() {
-        let cycle = i64::from(u32::from_le_bytes([c[0], c[1], c[2], c[3]]));
-        let (kind, bank) = (c[4], c[5]);
-        if let Some(rule) = broken(t, &state, last, cycle, kind, bank) {
-            return Some(Some((rule, record)));
-        }
-        last = cycle;
-        match kind {
-            0 => state.act(t, bank, cycle),
-            _ => state.data(t, bank, usize::from(kind > 2), kind % 2 == 0, cycle),
-        }
-    }
-    let open = state.banks.iter().any(|bank| bank.open);
-    Some(open.then_some((10, bytes.len() / 8)))
-}
-
-fn broken(t: &Times, state: &State, last: i64, cycle: i64, kind: u8, bank: u8) -> Option<u8> {
-    let own = &state.banks[usize::from(bank)];
-    let writes = usize::from(kind > 2);
-    let rules = [
-        (1, kind > 4 || bank >= t.banks),
-        (2, cycle <= last),
-        (3, own.open == (kind == 0)),
-        (4, kind == 0 && cycle < own.closed_until),
-        (5, kind == 0 && cycle < own.act + t.rc),
-        (6, kind == 0 && cycle < state.acts[state.newest] + t.rrd),
-        (
-            7,
-            kind == 0 && cycle < state.acts[(state.newest + 1) % 4] + t.faw,
-        ),
-        (8, kind != 0 && cycle < own.act + t.rcd),
-        (
-            9,
-            kind != 0
-                && (cycle < state.data[0] + t.distances[0][writes]
-                    || cycle < state.data[1] + t.distances[1][writes]),
-        ),
-    ];
-    rules
-        .iter()
-        .find(|(_, broken)| *broken)
-        .map(|(rule, _)| *rule)
 }
 
 #[cfg(test)]

@@ -61,8 +61,10 @@ fn as_the_model_says() {
                 desk::Verdict::Broken { rule, record } => Some((rule, record)),
             };
             verdicts[verdict.map_or(0, |(rule, _)| usize::from(rule))] += 1;
-            assert_eq!(judge(edition, &table, &bytes), Some(verdict));
-            assert_eq!(judge(edition ^ 1, &table, &bytes), None);
+            for looks_back in [false, true] {
+                assert_eq!(judge(edition, &table, &bytes, looks_back), Some(verdict));
+                assert_eq!(judge(edition ^ 1, &table, &bytes, looks_back), None);
+            }
             bytes.copy_from_slice(&right.0[..8 * due]);
             if due > 0 {
                 let at = numbers.below(due) * 8 + numbers.of(&[0, 0, 0, 1, 4, 4, 5]);

@@ -8,19 +8,25 @@ use mathlib.Core.Bool.{Bool, true, false}
 use mathlib.Core.List.{List, [], _∷_}
 use lib.ListN.{length}
 use Rattle.records.specs.declared.command.Command.{Command}
-use Rattle.records.specs.Command.{commandsFrom, commandsIn}
+use Rattle.records.specs.Command.{command, commandAt, commandsFrom, commandsIn}
 use Rattle.rules.specs.declared.state.State.{State}
 use Rattle.rules.specs.Kinds.{isAct, isData}
 use Rattle.rules.specs.State.{addIf}
 use Rattle.rules.specs.CycleRule.{actsIn, datasIn}
 use Rattle.rules.specs.Pattern.{moved, copy, onto}
 use Rattle.rules.proofs.Link.{Sums}
-use Rattle.broken.specs.Seen.{recordCount, recordIn, before, whole, seen}
+use Rattle.judge.specs.Seen.{recordCount, recordIn, before, whole}
 
 -- a schedule is its copy 0 cycles later
 pub moved-none : (rs : List Command) → moved 0 rs ≡ rs
 moved-none [] = refl
 moved-none (r ∷ rs) = rw (add-zero (r .cycle), moved-none rs)
+
+-- record i of a copy, as the code reads it
+pub record-read : (s : List ℕ) (d i : ℕ) (r : Command) (shift : ℕ) → r ≡ commandAt s (i * 8) → shift ≡ d
+    → recordIn s d i ≡ command (r .cycle + shift) (r .kind) (r .bank) (r .number)
+unfolding recordIn
+record-read s d i r shift e f = rw (e, f)
 
 -- n records of a copy d cycles later that are left from number i on
 abbrev pub left : List ℕ → ℕ → ℕ → ℕ → List Command
@@ -66,6 +72,10 @@ count-few p f z n (r ∷ h) = on (p r) (n r h) (count-few p f z n h)
     on : (b : Bool) → f (r ∷ h) ≡ addIf b (f h) → f h ≤ length h → f (r ∷ h) ≤ suc (length h)
     on true e l = omega arith
     on false e l = omega arith
+
+-- k copies, and i records of the next
+abbrev seen : ℕ → List ℕ → ℕ → ℕ → List Command
+seen L s k i = before s (L * k) i (whole L s k)
 
 -- a state that sums up what was seen has counted to less than 32 bits hold
 pub room : (L : ℕ) (s : List ℕ) (k i : ℕ) {st : State} → k < 5 → i ≤ recordCount s → recordCount s ≤ 69632 → Sums (seen L s k i) st
