@@ -43,7 +43,9 @@ int main(void) {
     skv_verdict_answer verdict = skv_judge(expected, table, sizeof table, commands, sizeof commands);
     if (verdict.refused != 0 || verdict.rule != 0 || verdict.edition != 7) return wrong("skv_judge");
     skv_answer bound = skv_bound(expected, table, sizeof table, 1, 1);
-    if (bound.count != 44 || finishes[1] - finishes[0] != bound.count) return wrong("skv_bound");
+    /* The bound counts from last command to last command; the read's last word comes RL + B later. */
+    uint32_t back = table_a.numbers[10] + table_a.numbers[2];
+    if (bound.count != 44 || finishes[1] != finishes[0] + bound.count + back) return wrong("skv_bound");
 
     skv_controller c = skv_start(expected, table, sizeof table).controller;
     skv_answer ran = skv_run(&c, expected, table, sizeof table, list, 2, 20, again, sizeof again);

@@ -165,8 +165,9 @@ skv_answer skv_read_transactions(uint16_t expected, const uint8_t *table, size_t
                                  skv_transaction *list, size_t list_len);
 
 /* Checks 1, 2, 10, 3 (over 256 transactions), 4, 5 (commands_len under 8 x the commands due), 6 (finishes_len under list_len).
- * Writes the schedule that the cycle rule gives, 8 bytes for each command, oldest first, and into finishes, for each transaction, the cycle of
- * its last data command. Bytes and places beyond stay as they stood. count is the number of commands. */
+ * Writes the schedule that the cycle rule gives, 8 bytes for each command, oldest first, and into finishes, for each transaction, the cycle at
+ * which it finishes: a write at its last data command, a read RL + B cycles after its last data command, when its last word has come back; so
+ * the finishing cycles need not ascend. Bytes and places beyond stay as they stood. count is the number of commands. */
 skv_answer skv_schedule(uint16_t expected, const uint8_t *table, size_t table_len, const skv_transaction *list, size_t list_len,
                         uint8_t *commands, size_t commands_len, uint32_t *finishes, size_t finishes_len);
 
@@ -184,8 +185,9 @@ skv_verdict_answer skv_judge(uint16_t expected, const uint8_t *table, size_t tab
 skv_verdict_answer skv_judge_pattern(uint16_t expected, const uint8_t *table, size_t table_len, const uint8_t *pattern, size_t pattern_len,
                                      uint32_t length);
 
-/* Checks 1, 2, 10, 4 (bi or bc outside 1 to 16, or bi above banks; position 0). count is the bound: a transaction of (bi, bc) finishes at most
- * so many cycles after the one before it, the first after cycle 0. */
+/* Checks 1, 2, 10, 4 (bi or bc outside 1 to 16, or bi above banks; position 0). count is the bound: the last data command of a transaction of
+ * (bi, bc) comes at most so many cycles after that of the one before it, the first's after cycle 0. A write finishes there, a read RL + B cycles
+ * later. */
 skv_answer skv_bound(uint16_t expected, const uint8_t *table, size_t table_len, uint8_t bi, uint8_t bc);
 
 /* Checks 1, 2, 10. Answers a fresh controller of the table's edition: cycle 0, all banks closed, "never" throughout. Where refused, one of

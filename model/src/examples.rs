@@ -173,10 +173,10 @@ mod tests {
         assert!(stored("stdout") == listing(&bytes).as_bytes());
     }
 
-    /// "Example 3 prints, whole."
+    /// "Example 3 prints, whole", but for its last line: "its listing ends `finish 1 68`".
     #[test]
     fn the_listing_of_example_3() {
-        let told = "edition 7 commands 4\n0 ACT 0 0\n10 WRA 0 0\n44 ACT 0 1\n54 RDA 0 1\nfinish 0 10\nfinish 1 54\n";
+        let told = "edition 7 commands 4\n0 ACT 0 0\n10 WRA 0 0\n44 ACT 0 1\n54 RDA 0 1\nfinish 0 10\nfinish 1 68\n";
         assert_eq!(of("example-3"), told);
     }
 
@@ -184,7 +184,7 @@ mod tests {
     #[test]
     fn the_listing_of_example_12() {
         let told =
-            "edition 7 commands 4\n0 ACT 7 0\n6 ACT 0 0\n10 RDA 7 0\n16 RDA 0 0\nfinish 0 16\n";
+            "edition 7 commands 4\n0 ACT 7 0\n6 ACT 0 0\n10 RDA 7 0\n16 RDA 0 0\nfinish 0 30\n";
         assert_eq!(of("example-12-wrap"), told);
     }
 
@@ -199,13 +199,13 @@ mod tests {
     #[test]
     fn the_others_are_accepted() {
         for (name, finish) in [
-            ("example-1", "finish 0 10\n"),
-            ("example-2", "finish 1 48\n"),
-            ("example-4", "finish 1 18\n"),
-            ("example-4-swapped", "finish 1 28\n"),
-            ("example-5", "finish 0 38\n"),
-            ("example-6", "finish 0 42\n"),
-            ("example-12-wrap", "finish 0 16\n"),
+            ("example-1", "finish 0 24\n"),
+            ("example-2", "finish 0 24\nfinish 1 62\n"),
+            ("example-4", "finish 0 24\nfinish 1 18\n"),
+            ("example-4-swapped", "finish 0 10\nfinish 1 42\n"),
+            ("example-5", "finish 0 52\n"),
+            ("example-6", "finish 0 56\n"),
+            ("example-12-wrap", "finish 0 30\n"),
         ] {
             assert!(of(name).ends_with(finish), "{name}");
         }

@@ -5,6 +5,7 @@ use crate::records::{Table, EDITION};
 
 pub const RC: usize = 7;
 pub const FAW: usize = 9;
+pub const RL: usize = 10;
 pub const RTP: usize = 12;
 
 /// In the order of the record: edition, banks, B, CCD, RCD, RP, RAS, RC, RRD, FAW, RL, WL, RTP, WR, WTR, 0.

@@ -146,7 +146,7 @@ mod tests {
     use crate::records::EDITION;
     use std::collections::BTreeSet;
 
-    /// What the paper prints for example 3.
+    /// What the paper prints for example 3, but for the last line, which request 4 gives.
     #[test]
     fn the_listing() {
         let head = [
@@ -156,7 +156,7 @@ mod tests {
         ]
         .concat();
         let lists = lines(&[&head[..], &[1, 0, 1, 1, 0, 0, 1, 1]].concat());
-        let told = "build edition 7 commands 4\n0 ACT 0 0\n10 WRA 0 0\n44 ACT 0 1\n54 RDA 0 1\nfinish 0 10\nfinish 1 54\n";
+        let told = "build edition 7 commands 4\n0 ACT 0 0\n10 WRA 0 0\n44 ACT 0 1\n54 RDA 0 1\nfinish 0 10\nfinish 1 68\n";
         assert_eq!(lists, told);
         assert_eq!(lines(&head), "case\n");
         assert_eq!(lines(&[&[4], &head[..]].concat()), "case\n");

@@ -122,14 +122,27 @@ pub fn build(
         return refused(table, 6, 0);
     }
     let commands = from_fresh_start(table, &queues);
-    let finishes = (0..list.len())
-        .map(|number| {
+    let finishes = list
+        .iter()
+        .enumerate()
+        .map(|(number, x)| {
             let of_it = |c: &&Command| c.kind != ACT && usize::from(c.transaction) == number;
             let last = commands.iter().rfind(of_it);
-            last.expect("each transaction has a data command").cycle
+            finish(table, x, last.expect("each has a data command").cycle)
         })
         .collect();
     Ok(Built { commands, finishes })
+}
+
+/// From the cycle of its last data command. As request 4 has it, "a read finishes at its last data command + RL + B, a write as
+/// before", at that command itself.
+fn finish(table: &Table, x: &Transaction, last: u32) -> u32 {
+    let t = Times::of(table);
+    let data_back = if x.kind == 0 { t.rl + t.b } else { 0 };
+    let cycle = u64::from(last) + data_back;
+    cycle
+        .try_into()
+        .expect("a list is served long before the last of the 32-bit cycles")
 }
 
 /// Every cycle from 0 is tried, each head against all records that have gone.

@@ -26,9 +26,9 @@ use Rattle.records.proofs.Laws.{and-left, and-right}
 use Rattle.rules.specs.declared.verdict.Verdict.the-variants.{Accepted as Passed}
 use Rattle.rules.specs.Queues.{actQueue, dataQueue}
 use Rattle.rules.specs.Verdict.{Legal}
-use Rattle.rules.specs.Finish.{finish}
+use Rattle.rules.specs.Finish.{finishOf, finish}
 use Rattle.rules.specs.Bound.{bound}
-use Rattle.rules.specs.Promise.{cycleOf, Kept}
+use Rattle.rules.specs.Promise.{cycleOf, Kept, lastDataCycle}
 use Rattle.rules.proofs.TestLaws.{OnSome, every-at}
 use Rattle.rules.proofs.Fit.{is-fit}
 use Rattle.rules.proofs.Promises.{kept}
@@ -39,7 +39,7 @@ use Rattle.judge.proofs.Accepts.{judge-accepts}
 use Rattle.engine.specs.Build.{finishesFrom}
 use Rattle.engine.proofs.Going.{length-bytes}
 use Rattle.engine.proofs.Marks.{Each, Readable, read-back}
-use Rattle.engine.proofs.Schedule.{ours, readable, finishes-length}
+use Rattle.engine.proofs.Schedule.{ours, readable, finishes-length, finish-at}
 use Rattle.builder.specs.declared.bound.BoundAnswer.the-variants.{Bound}
 use Rattle.builder.specs.declared.build.BuildAnswer.{BuildAnswer}
 use Rattle.builder.specs.declared.build.BuildAnswer.the-variants.{Built, Refused as NotBuilt}
@@ -94,18 +94,6 @@ module _ (τ : Table) (acc : Accepted τ) (l : List Transaction) (fit : listFits
 
 -- ---- the finishing cycles
 
-finish-at : (τ : Table) (l : List Transaction) (k : ℕ) (rs : List Command) (j : ℕ) (x : Transaction) → getElem? l j ≡ some x
-    → (getD (finishesFrom τ l k rs) j 0 ≡ cycleOf (finish τ x (k + j) rs)) × (j < length l)
-finish-at τ [] k rs j x e = let z : _≡_ {A = ℕ} 0 1 = cc in absurd (omega arith)
-finish-at τ (y ∷ l) k rs zero x e =
-    let same : y ≡ x = cc in
-    let z : k ≡ k + 0 = omega arith in
-    (ap (λ (y : Transaction). cycleOf (finish τ y k rs)) same ∙ ap (λ (i : ℕ). cycleOf (finish τ x i rs)) z, omega arith)
-finish-at τ (y ∷ l) k rs (suc j) x e =
-    let w = finish-at τ l (suc k) rs j x e in
-    let z : suc k + j ≡ k + suc j = omega arith in
-    (w .0 ∙ ap (λ (i : ℕ). cycleOf (finish τ x i rs)) z, omega (arith, w .1))
-
 module _ (τ : Table) (l : List Transaction) (rs : List Command) (f₀ f : List ℕ) (e : f ≡ over (finishesFrom τ l 0 rs) f₀) where
   finish-stands : (k : ℕ) (x : Transaction) → getElem? l k ≡ some x → getD f k 0 ≡ cycleOf (finish τ x k rs)
   finish-stands k x h =
@@ -158,6 +146,7 @@ module _ (expected : ℕ) (table : List ℕ) (τ : Table) (read : admitted expec
       let rs = k .schedule in
       let q = kept τ acc l fit rs (k .built) in
       let at = bytes-stand rs b₀ b (k .buffer) in
+      let stands = finish-stands τ l rs f₀ f (k .finishes) in
       record {
         schedule = rs;
         built = k .built;
@@ -167,11 +156,15 @@ module _ (expected : ℕ) (table : List ℕ) (τ : Table) (read : admitted expec
             ∙ (drop-at (bytesOfAll rs) (drop (length (bytesOfAll rs)) b₀) (8 * length rs) (length-bytes rs) ∙ ap (λ (m : ℕ). drop m b₀) (length-bytes rs));
         passes = ap (judging (admitted expected table)) at
             ∙ of-bytes (λ (a : TableRead). judging a (bytesOfAll rs) ≡ Verdict (τ .edition) Passed) (bytes-pass τ acc l fit rs q);
-        finishes = finish-stands τ l rs f₀ f (k .finishes);
+        finishes = stands;
         later = finish-later τ l rs f₀ f (k .finishes);
         served = q .finishes;
         first = q .firstIn;
         next = q .nextIn;
+        firstFinish = λ x at. subst (λ (z : ℕ). z ≤ finishOf τ x (bound τ (x .bi) (x .bc))) (sym (stands 0 x at)) (q .firstFinish x at);
+        nextFinish = λ j x at.
+            subst (λ (z : ℕ). z ≤ finishOf τ x (lastDataCycle j rs + bound τ (x .bi) (x .bc))) (sym (stands (suc j) x at)) (q .nextFinish j x at);
+        fits = λ j x at. subst (λ (z : ℕ). z < 4294967296) (sym (stands j x at)) (q .finishFits j x at);
         told = λ j x at.
             of-bytes (λ (a : TableRead). bounding a (x .bi) (x .bc) ≡ Bound (τ .edition) (bound τ (x .bi) (x .bc)))
             (bound-told τ x (subst (OnSome (λ y. fits τ y ≡ true)) at (every-at (fits τ) l j (and-right (leb (length l) 256) (every (fits τ) l) fit))));

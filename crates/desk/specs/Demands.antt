@@ -26,7 +26,7 @@ use Rattle.rules.specs.Verdict.{allShut}
 use Rattle.rules.specs.Pattern.{onto, copies, EveryNumberLegal}
 use Rattle.rules.specs.Queues.{actQueue, dataQueue}
 use Rattle.rules.specs.CycleRule.{Built as IsBuilt}
-use Rattle.rules.specs.Finish.{lastData, finish}
+use Rattle.rules.specs.Finish.{lastData, finishOf, finish}
 use Rattle.rules.specs.Bound.{bound}
 use Rattle.rules.specs.Promise.{ofFirst, cycleOf, lastDataCycle}
 use Rattle.rules.specs.Demands.{FineTo, FirstBroken}
@@ -121,6 +121,11 @@ pub record Demand3 (expected : ℕ) (table : List ℕ) (τ : Table) (l : List Tr
   pub first : (x : Transaction) → getElem? l 0 ≡ some x → lastDataCycle 0 schedule ≤ bound τ (x .bi) (x .bc)
   pub next : (k : ℕ) (x : Transaction) → getElem? l (suc k) ≡ some x → lastDataCycle (suc k) schedule ≤ lastDataCycle k schedule + bound τ (x .bi) (x .bc)
   pub told : (k : ℕ) (x : Transaction) → getElem? l k ≡ some x → bounding (admitted expected table) (x .bi) (x .bc) ≡ Bound (τ .edition) (bound τ (x .bi) (x .bc))
+  -- "the promised finish of a read is that limit + RL + B" (document 02, request 4), a write's is that limit: of the finishing cycles in the slice;
+  -- and 32 bits hold each
+  pub firstFinish : (x : Transaction) → getElem? l 0 ≡ some x → getD f 0 0 ≤ finishOf τ x (bound τ (x .bi) (x .bc))
+  pub nextFinish : (k : ℕ) (x : Transaction) → getElem? l (suc k) ≡ some x → getD f (suc k) 0 ≤ finishOf τ x (lastDataCycle k schedule + bound τ (x .bi) (x .bc))
+  pub fits : (k : ℕ) (x : Transaction) → getElem? l k ≡ some x → getD f k 0 < 4294967296
   -- "Transactions added at the end move no command of the earlier ones by a cycle": the schedule of the first j alone
   pub unmoved : (j : ℕ) → IsBuilt τ (take j l) (ofFirst (length (take j l)) schedule)
 

@@ -1,4 +1,5 @@
 pub mod Laws
 pub mod Going
 pub mod Marks
+pub mod Finishing
 pub mod Schedule

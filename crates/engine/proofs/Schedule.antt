@@ -7,9 +7,9 @@ use mathlib.Core.Path.{_≡_, refl, sym, ap, _∙_, subst}
 use mathlib.Core.Logic.{⊎-elim}
 use mathlib.Core.Bool.{true}
 use mathlib.Core.Option.{Option, none, some}
-use mathlib.Core.List.{List, [], _∷_}
+use mathlib.Core.List.{List, [], _∷_, _++_}
 use lib.Dec.{ltb}
-use lib.ListN.{length, getD, drop, List·getD-append}
+use lib.ListN.{length, getD, getElem?, drop, List·getD-append}
 use lib.Seq.{ext-getD, getD-append-add, getD-drop}
 use borrow.Author.Tests.{ltb-true, lt-ltb, ne-eqb}
 use Rattle.records.specs.Tests.{every}
@@ -17,11 +17,10 @@ use Rattle.records.specs.Told.{over}
 use Rattle.records.specs.declared.table.Table.{Table}
 use Rattle.records.specs.declared.transaction.Transaction.{Transaction}
 use Rattle.records.specs.declared.command.Command.{Command}
-use Rattle.records.specs.Transaction.{isWrite}
+use Rattle.records.specs.Transaction.{transactionAt, transactionsFrom, isWrite}
 use Rattle.records.specs.Command.{commandsFrom, bytesOfAll}
 use Rattle.records.proofs.Bytes.{length-over}
-use Rattle.rules.specs.declared.state.Stamp.{Stamp}
-use Rattle.rules.specs.declared.state.Stamp.the-variants.{Never, At}
+use Rattle.rules.specs.declared.state.Stamp.the-variants.{Never}
 use Rattle.rules.specs.declared.state.State.{State}
 use Rattle.rules.specs.Kinds.{isKnown}
 use Rattle.rules.specs.History.{broken, isFine}
@@ -30,7 +29,7 @@ use Rattle.rules.specs.Pattern.{onto}
 use Rattle.rules.specs.Queues.{actQueue, dataQueue}
 use Rattle.rules.specs.CycleRule.{actsIn, datasIn, goesAt, push, gone, Built}
 use Rattle.rules.specs.Run.{Ran, run}
-use Rattle.rules.specs.Finish.{lastDataIn, lastData, mapStamp}
+use Rattle.rules.specs.Finish.{lastDataIn, lastData, finishOf, finish}
 use Rattle.rules.specs.Promise.{nextCycle, cycleOf, lastDataCycle, Kept}
 use Rattle.rules.proofs.TestLaws.{and-fst, and-snd, OnSome, on-pick, on-map}
 use Rattle.rules.proofs.Numbers.{from?}
@@ -40,10 +39,10 @@ use Rattle.rules.proofs.Heads.{goes-place}
 use Rattle.rules.proofs.Count.{length-turn}
 use Rattle.rules.proofs.Promises.{promise}
 use Rattle.heads.specs.Queue.{Listed}
-use Rattle.heads.proofs.Laws.{first, length-from}
+use Rattle.heads.proofs.Laws.{first, length-from, whole}
 use Rattle.engine.specs.declared.run.Ran as Answer
 use Rattle.engine.specs.Run.{commandsLeft, Ready, Runs}
-use Rattle.engine.specs.Build.{finishesFrom, cycleOr, Marked, Builds}
+use Rattle.engine.specs.Build.{finishesFrom, cycleOr, Marked, Finished, Builds}
 use Rattle.engine.proofs.Going.{length-bytes}
 use Rattle.engine.proofs.Marks.{Each, Readable, read-back}
 
@@ -109,40 +108,63 @@ pub finishes-length : (τ : Table) (l : List Transaction) (k : ℕ) (rs : List C
 finishes-length τ [] k rs = refl
 finishes-length τ (x ∷ l) k rs = ap suc (finishes-length τ l (suc k) rs)
 
-finishes-at : (τ : Table) (l : List Transaction) (k : ℕ) (rs : List Command) (j : ℕ) → j < length l → getD (finishesFrom τ l k rs) j 0 ≡ lastDataCycle (k + j) rs
-finishes-at τ [] k rs j h = absurd (omega arith)
-finishes-at τ (x ∷ l) k rs zero h = let e : k + 0 ≡ k = omega arith in rw e (as-it-is (lastData k rs))
+pub finish-at : (τ : Table) (l : List Transaction) (k : ℕ) (rs : List Command) (j : ℕ) (x : Transaction) → getElem? l j ≡ some x
+    → (getD (finishesFrom τ l k rs) j 0 ≡ cycleOf (finish τ x (k + j) rs)) × (j < length l)
+finish-at τ [] k rs j x e = let z : _≡_ {A = ℕ} 0 1 = cc in absurd (omega arith)
+finish-at τ (y ∷ l) k rs zero x e =
+    let same : y ≡ x = cc in
+    let z : k ≡ k + 0 = omega arith in
+    (ap (λ (y : Transaction). cycleOf (finish τ y k rs)) same ∙ ap (λ (i : ℕ). cycleOf (finish τ x i rs)) z, omega arith)
+finish-at τ (y ∷ l) k rs (suc j) x e =
+    let w = finish-at τ l (suc k) rs j x e in
+    let z : suc k + j ≡ k + suc j = omega arith in
+    (w .0 ∙ ap (λ (i : ℕ). cycleOf (finish τ x i rs)) z, omega (arith, w .1))
+
+-- transaction k of the bytes
+kth : (bs : List ℕ) (n k : ℕ) → k < n → getElem? (first bs n) k ≡ some (transactionAt bs (4 * k))
+kth bs n k h =
+    ap (λ (l : List Transaction). getElem? l k) (whole bs n k h)
+    ∙ after (first bs k) (transactionAt bs (4 * k)) (transactionsFrom bs (n - (k + 1)) (4 * k + 4)) k (length-from bs k 0)
   where
-    as-it-is : (s : Stamp) → cycleOf (mapStamp (λ c. c) s) ≡ cycleOf s
-    as-it-is Never = refl
-    as-it-is (At c) = refl
-finishes-at τ (x ∷ l) k rs (suc j) h = let e : suc k + j ≡ k + suc j = omega arith in rw (← e) (finishes-at τ l (suc k) rs j (omega arith))
+    after : (p : List Transaction) (x : Transaction) (q : List Transaction) (k : ℕ) → length p ≡ k → getElem? (p ++ x ∷ q) k ≡ some x
+    after [] x q k e = rw (← e)
+    after (y ∷ p) x q k e = rw (← e) (after p x q (length p) refl)
 
-finished : (τ : Table) (l : List Transaction) (rs : List Command) (f₀ f : List ℕ) → Kept τ l rs → length l ≤ length f₀ → Marked rs f₀ f
-    → f ≡ over (finishesFrom τ l 0 rs) f₀
-finished τ l rs f₀ f q h m =
-    ext-getD 0 f (over new f₀) (m .size ∙ sym (length-over new f₀ (omega (arith, size)))) (λ k p. ⊎-elim (λ z. m .each k ∙ within k z) (λ z. m .each k ∙ beyond k z) (from? k (length l)))
-  where
-    new : List ℕ
-    new = finishesFrom τ l 0 rs
+module _ (τ : Table) (bs : List ℕ) (n : ℕ) (rs : List Command) (f₀ f g : List ℕ) (q : Kept τ (first bs n) rs) (h : n ≤ length f₀)
+    (m : Marked rs f₀ f) where
+  size : length (finishesFrom τ (first bs n) 0 rs) ≡ n
+  size = finishes-length τ (first bs n) 0 rs ∙ length-from bs n 0
 
-    size : length (finishesFrom τ l 0 rs) ≡ length l
-    size = finishes-length τ l 0 rs
+  -- the last data commands stand at their numbers
+  marked-at : (k : ℕ) → k < n → getD f k 0 ≡ lastDataCycle k rs
+  marked-at k z = m .each k ∙ ap (cycleOr (getD f₀ k 0)) (q .finishes k (omega (arith, length-from bs n 0)))
 
-    within : (k : ℕ) → k < length l → cycleOr (getD f₀ k 0) (lastData k rs) ≡ getD (over (finishesFrom τ l 0 rs) f₀) k 0
-    within k z =
-        ap (cycleOr (getD f₀ k 0)) (q .finishes k z)
-        ∙ (sym (finishes-at τ l 0 rs k z ∙ ap (λ (j : ℕ). lastDataCycle j rs) (zero-add k))
-        ∙ sym (List·getD-append (finishesFrom τ l 0 rs) (drop (length (finishesFrom τ l 0 rs)) f₀) 0 k (omega (arith, size))))
+  finished : Finished τ bs n f g → g ≡ over (finishesFrom τ (first bs n) 0 rs) f₀
+  finished o =
+      ext-getD 0 g (over new f₀) (o .size ∙ (m .size ∙ sym (length-over new f₀ (omega (arith, size))))) (λ k p. ⊎-elim (within k) (beyond k) (from? k n))
+    where
+      new : List ℕ
+      new = finishesFrom τ (first bs n) 0 rs
 
-    beyond : (k : ℕ) → ((d : ℕ) × (k ≡ length l + d)) → cycleOr (getD f₀ k 0) (lastData k rs) ≡ getD (over (finishesFrom τ l 0 rs) f₀) k 0
-    beyond k z =
-        let e : k ≡ length (finishesFrom τ l 0 rs) + z .0 = omega (arith, z .1, size) in
-        ap (cycleOr (getD f₀ k 0)) (no-more l k (omega (arith, z .1)) (onto rs []) (each-onto (Ours l) rs [] (ours τ l rs (q .built)) tt))
-        ∙ (ap (λ (j : ℕ). getD f₀ j 0) e
-        ∙ (sym (getD-drop (length (finishesFrom τ l 0 rs)) f₀ (z .0) 0)
-        ∙ (sym (getD-append-add (finishesFrom τ l 0 rs) (drop (length (finishesFrom τ l 0 rs)) f₀) (z .0) 0)
-        ∙ ap (λ (j : ℕ). getD (over (finishesFrom τ l 0 rs) f₀) j 0) (sym e))))
+      within : (k : ℕ) → k < n → getD g k 0 ≡ getD (over (finishesFrom τ (first bs n) 0 rs) f₀) k 0
+      within k z =
+          let x = transactionAt bs (4 * k) in
+          o .each k z
+          ∙ (ap (finishOf τ x) (marked-at k z)
+          ∙ (sym (finish-at τ (first bs n) 0 rs k x (kth bs n k z) .0
+          ∙ (ap (λ (j : ℕ). cycleOf (finish τ x j rs)) (zero-add k) ∙ ap cycleOf (q .finishAt k x (kth bs n k z))))
+          ∙ sym (List·getD-append (finishesFrom τ (first bs n) 0 rs) (drop (length (finishesFrom τ (first bs n) 0 rs)) f₀) 0 k (omega (arith, size)))))
+
+      beyond : (k : ℕ) → ((d : ℕ) × (k ≡ n + d)) → getD g k 0 ≡ getD (over (finishesFrom τ (first bs n) 0 rs) f₀) k 0
+      beyond k z =
+          let e : k ≡ length (finishesFrom τ (first bs n) 0 rs) + z .0 = omega (arith, z .1, size) in
+          o .beyond k (omega (arith, z .1))
+          ∙ (m .each k
+          ∙ (ap (cycleOr (getD f₀ k 0)) (no-more (first bs n) k (omega (arith, z .1, length-from bs n 0)) (onto rs []) (each-onto (Ours (first bs n)) rs [] (ours τ (first bs n) rs (q .built)) tt))
+          ∙ (ap (λ (j : ℕ). getD f₀ j 0) e
+          ∙ (sym (getD-drop (length (finishesFrom τ (first bs n) 0 rs)) f₀ (z .0) 0)
+          ∙ (sym (getD-append-add (finishesFrom τ (first bs n) 0 rs) (drop (length (finishesFrom τ (first bs n) 0 rs)) f₀) (z .0) 0)
+          ∙ ap (λ (j : ℕ). getD (over (finishesFrom τ (first bs n) 0 rs) f₀) j 0) (sym e))))))
 
 -- ---- the whole
 
@@ -193,13 +215,24 @@ module _ (τ : Table) (bs : List ℕ) (n : ℕ) (h : Listed τ bs n) (b₀ f₀ 
       rw read (numbers (first bs n) (length f₀) (omega (arith, length-from bs n 0, places)) rs (ours τ (first bs n) rs (kept .built))),
     )
 
-    pub builds : (f : List ℕ) → Marked (commandsFrom b (r .commands) 0) f₀ f → Builds τ (first bs n) b₀ b f₀ f (record { commands = r .commands; cycles = r .cycles })
-    builds f m =
-        record {
-          schedule = rs;
-          built = kept .built;
-          buffer = wrote;
-          finishes = finished τ (first bs n) rs f₀ f kept (omega (arith, length-from bs n 0, places)) (subst (λ (cs : List Command). Marked cs f₀ f) read m);
-          commands = count-is;
-          cycles = ran .cycles ∙ ran-to-end .1;
-        }
+    module _ (f : List ℕ) (m : Marked (commandsFrom b (r .commands) 0) f₀ f) where
+      marked : Marked rs f₀ f
+      marked = subst (λ (cs : List Command). Marked cs f₀ f) read m
+
+      pub finish-asked : (4 * n ≤ length bs) × (n ≤ length f) × ((k : ℕ) → k < n → getD f k 0 < 100000000)
+      finish-asked = (
+        h .bytes,
+        omega (arith, m .size, places),
+        λ k z. omega (arith, marked-at τ bs n rs f₀ f f kept places marked k z, kept .lastEarly k),
+      )
+
+      pub builds : (g : List ℕ) → Finished τ bs n f g → Builds τ (first bs n) b₀ b f₀ g (record { commands = r .commands; cycles = r .cycles })
+      builds g o =
+          record {
+            schedule = rs;
+            built = kept .built;
+            buffer = wrote;
+            finishes = finished τ bs n rs f₀ f g kept places marked o;
+            commands = count-is;
+            cycles = ran .cycles ∙ ran-to-end .1;
+          }

@@ -1,5 +1,5 @@
 -- What building leaves: the schedule's bytes, and the finishing cycles.
-use Prim.Native.Nat.{ℕ, suc}
+use Prim.Native.Nat.{ℕ, suc, _*_, _≤_, _<_}
 use mathlib.Core.Path.{_≡_}
 use mathlib.Core.List.{List, [], _∷_}
 use lib.ListN.{length, getD}
@@ -7,12 +7,13 @@ use Rattle.records.specs.Told.{over}
 use Rattle.records.specs.declared.table.Table.{Table}
 use Rattle.records.specs.declared.transaction.Transaction.{Transaction}
 use Rattle.records.specs.declared.command.Command.{Command}
+use Rattle.records.specs.Transaction.{transactionAt}
 use Rattle.records.specs.Command.{bytesOfAll}
 use Rattle.rules.specs.declared.state.Stamp.{Stamp}
 use Rattle.rules.specs.declared.state.Stamp.the-variants.{Never, At}
 use Rattle.rules.specs.Pattern.{onto}
 use Rattle.rules.specs.CycleRule.{Built}
-use Rattle.rules.specs.Finish.{lastData, finish}
+use Rattle.rules.specs.Finish.{lastData, finishOf, finish}
 use Rattle.rules.specs.Promise.{nextCycle, cycleOf}
 use Rattle.engine.specs.declared.build.Schedule.{Schedule}
 
@@ -30,6 +31,12 @@ cycleOr d (At c) = c
 pub record Marked (cs : List Command) (f₀ f : List ℕ) : Type 0 where
   pub size : length f ≡ length f₀
   pub each : (k : ℕ) → getD f k 0 ≡ cycleOr (getD f₀ k 0) (lastData k cs)
+
+-- the cycles f of last data commands became g: finishing cycles, for the first n transactions of the bytes s, and all beyond as it stood
+pub record Finished (τ : Table) (s : List ℕ) (n : ℕ) (f g : List ℕ) : Type 0 where
+  pub size : length g ≡ length f
+  pub each : (k : ℕ) → k < n → getD g k 0 ≡ finishOf τ (transactionAt s (4 * k)) (getD f k 0)
+  pub beyond : (k : ℕ) → n ≤ k → getD g k 0 ≡ getD f k 0
 
 -- r is the answer, b and f what the two buffers hold after they were b₀ and f₀: the built schedule from the start of the one, its finishing
 -- cycles from the start of the other, and all beyond as it stood

@@ -113,5 +113,8 @@ demand-3 τ l acc fit =
       served = k .1 .finishes;
       first = k .1 .firstIn;
       next = k .1 .nextIn;
+      firstFinish = k .1 .firstFinish;
+      nextFinish = k .1 .nextFinish;
+      fits = k .1 .finishFits;
       unmoved = k .1 .unmoved;
     }

@@ -4,24 +4,25 @@ use Prim.Native.Nat.{ℕ, zero, suc, _+_, _≤_, _<_}
 use native.Mathlib.Omega.{arith}
 use native.Mathlib.Numerals.{add-one}
 use mathlib.Core.Path.{_≡_, refl, sym, ap, _∙_, subst}
-use mathlib.Core.Bool.{Bool, true}
+use mathlib.Core.Bool.{Bool, true, false, _&&_}
 use mathlib.Core.Option.{some}
 use mathlib.Core.List.{List, [], _∷_, _++_}
-use lib.Dec.{leb}
+use lib.Dec.{leb, ltb, eqb}
 use lib.ListN.{length, getElem?, length-append}
-use borrow.Author.Tests.{leb-true, le-leb}
+use borrow.Author.Tests.{ltb-true, leb-true, le-leb}
 use Rattle.records.specs.declared.table.Table.{Table}
 use Rattle.records.specs.declared.transaction.Transaction.{Transaction}
 use Rattle.records.specs.declared.command.Command.{Command}
 use Rattle.rules.specs.declared.state.Stamp.the-variants.{At}
-use Rattle.records.specs.Tests.{every}
+use Rattle.records.specs.Tests.{pick, every}
 use Rattle.records.specs.Table.{Accepted}
-use Rattle.records.specs.Transaction.{fits, listFits}
+use Rattle.records.specs.Transaction.{isWrite, fits, listFits}
+use Rattle.rules.specs.Kinds.{isData}
 use Rattle.rules.specs.Pattern.{onto}
 use Rattle.rules.specs.CycleRule.{gone, Built}
 use Rattle.rules.specs.Bound.{bound, span, startAt}
-use Rattle.rules.specs.Finish.{lastDataIn, lastData}
-use Rattle.rules.specs.Promise.{ofFirst, cycleOf, lastDataCycle, Kept, RunsKept}
+use Rattle.rules.specs.Finish.{lastDataIn, lastData, finishOf, finish, mapStamp}
+use Rattle.rules.specs.Promise.{ofFirst, cycleOf, lastDataCycle, finishCycle, Kept, RunsKept}
 use Rattle.rules.proofs.TestLaws.{and-both, and-fst, and-snd}
 use Rattle.rules.proofs.Ranges.{ranges}
 use Rattle.rules.proofs.Finishes.{nth, Finishes}
@@ -50,6 +51,28 @@ front-fits τ xs ys e =
     and-both (leb (length xs) 256) (every (fits τ) xs) (le-leb (length xs) 256 (omega (arith, h, length-append xs ys)))
     (every-front (fits τ) xs ys (and-snd (leb (length (xs ++ ys)) 256) (every (fits τ) (xs ++ ys)) e))
 
+-- what a later last data command does to the finish
+later : (τ : Table) (x : Transaction) (c d : ℕ) → c ≤ d → finishOf τ x c ≤ finishOf τ x d
+later τ x c d h = on (isWrite x)
+  where
+    on : (w : Bool) → pick w c (c + τ .rl + τ .b) ≤ pick w d (d + τ .rl + τ .b)
+    on true = h
+    on false = omega arith
+
+-- where all commands go early, the last data commands do
+every-onto : (f : Command → Bool) (rs h : List Command) → every f rs ≡ true → every f h ≡ true → every f (onto rs h) ≡ true
+every-onto f [] h e g = g
+every-onto f (r ∷ rs) h e g =
+    every-onto f rs (r ∷ h) (and-snd (f r) (every f rs) e) (and-both (f r) (every f h) (and-fst (f r) (every f rs) e) g)
+
+early-last : (k : ℕ) (h : List Command) → every (λ r. ltb (r .cycle) 100000000) h ≡ true → cycleOf (lastDataIn k h) < 100000000
+early-last k [] e = omega arith
+early-last k (r ∷ h) e = on (eqb (r .number) k && isData (r .kind)) (early-last k h (and-snd (ltb (r .cycle) 100000000) (every (λ r. ltb (r .cycle) 100000000) h) e))
+  where
+    on : (b : Bool) → cycleOf (lastDataIn k h) < 100000000 → cycleOf (pick b (At (r .cycle)) (lastDataIn k h)) < 100000000
+    on true i = ltb-true (r .cycle) 100000000 (and-fst (ltb (r .cycle) 100000000) (every (λ r. ltb (r .cycle) 100000000) h) e)
+    on false i = i
+
 module _ (τ : Table) (acc : Accepted τ) where
   module _ (l : List Transaction) (fit : listFits τ l ≡ true) (rs : List Command) (b : Built τ l rs) where
     abbrev fin : (last : ℕ → ℕ) × (start : ℕ → ℕ) × Finishes τ l (length l) last start (onto rs [])
@@ -73,6 +96,26 @@ module _ (τ : Table) (acc : Accepted τ) where
     next-in k x e =
         let z : k < length l = omega (arith, at-number l (suc k) x e .1) in
         omega (arith, within-bound (suc k) x e, ap cycleOf (fin .2 .got k z), fin .2 .next k z, ap (fin .1) (add-one k))
+
+    -- a transaction finishes no later than if its last data command went at the limit
+    finish-at : (k : ℕ) (x : Transaction) → getElem? l k ≡ some x → finish τ x k rs ≡ At (finishOf τ x (lastDataCycle k rs))
+    finish-at k x e = ap (mapStamp (finishOf τ x)) (last-is k (at-number l k x e .1))
+
+    finish-by : (k m : ℕ) (x : Transaction) → getElem? l k ≡ some x → lastDataCycle k rs ≤ m → finishCycle τ x k rs ≤ finishOf τ x m
+    finish-by k m x e h = rw (finish-at k x e) (later τ x (lastDataCycle k rs) m h)
+
+    last-early : (k : ℕ) → lastDataCycle k rs < 100000000
+    last-early k = early-last k (onto rs []) (every-onto (λ r. ltb (r .cycle) 100000000) rs [] (built-early τ acc l fit rs b) refl)
+
+    finish-fits : (k : ℕ) (x : Transaction) → getElem? l k ≡ some x → finishCycle τ x k rs < 4294967296
+    finish-fits k x e =
+        let r = ranges τ acc in
+        let z : finishOf τ x 99999999 ≤ 99999999 + τ .rl + τ .b = by-type (isWrite x) in
+        omega (arith, finish-by k 99999999 x e (omega (arith, last-early k)), z, r .rl .most, r .b .most)
+      where
+        by-type : (w : Bool) → pick w 99999999 (99999999 + τ .rl + τ .b) ≤ 99999999 + τ .rl + τ .b
+        by-type true = omega arith
+        by-type false = omega arith
 
   -- transactions added at the end move no command of the earlier ones
   module _ (xs ys : List Transaction) (fit : listFits τ (xs ++ ys) ≡ true) where
@@ -103,9 +146,14 @@ module _ (τ : Table) (acc : Accepted τ) where
         finishes = last-is l fit rs b;
         firstIn = first-in l fit rs b;
         nextIn = next-in l fit rs b;
+        finishAt = finish-at l fit rs b;
+        firstFinish = λ x e. finish-by l fit rs b 0 (bound τ (x .bi) (x .bc)) x e (first-in l fit rs b x e);
+        nextFinish = λ k x e. finish-by l fit rs b (suc k) (lastDataCycle k rs + bound τ (x .bi) (x .bc)) x e (next-in l fit rs b k x e);
+        finishFits = finish-fits l fit rs b;
         unmoved = λ xs ys e. unmoved xs ys (subst (λ (y : List Transaction). listFits τ y ≡ true) e fit) rs (subst (λ (y : List Transaction). Built τ y rs) e b);
         sameFinish = λ xs ys e k z. ap (lastDataIn k) (sym (first-onto (length xs) rs [])) ∙ last-first k (length xs) z (onto rs []);
         early = built-early τ acc l fit rs b;
+        lastEarly = last-early l fit rs b;
         running = λ n e. (run-built τ acc l fit rs b n e, run-reports τ acc l fit rs b n e);
         ends = run-ends τ acc l fit;
       }

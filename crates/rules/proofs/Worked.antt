@@ -16,6 +16,7 @@ pub worked : All examples
 unfolding bound boundS boundD boundX actQueue dataQueue
 worked =
     record { cycles = 11; schedule = refl; acts = refl; datas = refl }
+    ⨾ refl
     ⨾ record { cycles = 49; schedule = refl; acts = refl; datas = refl }
     ⨾ record { cycles = 55; schedule = refl; acts = refl; datas = refl }
     ⨾ refl

@@ -23,9 +23,9 @@ use Rattle.rules.specs.Pattern.{onto, copies, EveryNumberLegal}
 use Rattle.rules.specs.State.{fresh}
 use Rattle.rules.specs.CycleRule.{gone, Built}
 use Rattle.rules.specs.Run.{steps}
-use Rattle.rules.specs.Finish.{lastData}
+use Rattle.rules.specs.Finish.{lastData, finishOf}
 use Rattle.rules.specs.Bound.{bound}
-use Rattle.rules.specs.Promise.{ofFirst, lastDataCycle}
+use Rattle.rules.specs.Promise.{ofFirst, lastDataCycle, finishCycle}
 
 -- each of the first n records breaks no rule against all records before it, of which those of h are the oldest
 abbrev pub FineTo : Table → List Command → List Command → ℕ → Type 0
@@ -68,5 +68,10 @@ pub record Demand3 (τ : Table) (l : List Transaction) : Type 0 where
   -- (for the first, counted from cycle 0)"
   pub first : (x : Transaction) → getElem? l 0 ≡ some x → lastDataCycle 0 schedule ≤ bound τ (x .bi) (x .bc)
   pub next : (k : ℕ) (x : Transaction) → getElem? l (suc k) ≡ some x → lastDataCycle (suc k) schedule ≤ lastDataCycle k schedule + bound τ (x .bi) (x .bc)
+  -- "the promised finish of a read is that limit + RL + B", a write's is that limit; and 32 bits hold every finish
+  pub firstFinish : (x : Transaction) → getElem? l 0 ≡ some x → finishCycle τ x 0 schedule ≤ finishOf τ x (bound τ (x .bi) (x .bc))
+  pub nextFinish : (k : ℕ) (x : Transaction) → getElem? l (suc k) ≡ some x
+      → finishCycle τ x (suc k) schedule ≤ finishOf τ x (lastDataCycle k schedule + bound τ (x .bi) (x .bc))
+  pub fits : (k : ℕ) (x : Transaction) → getElem? l k ≡ some x → finishCycle τ x k schedule < 4294967296
   -- "Transactions added at the end move no command of the earlier ones by a cycle."
   pub unmoved : (xs ys : List Transaction) → l ≡ xs ++ ys → Built τ xs (ofFirst (length xs) schedule)

@@ -1,5 +1,5 @@
--- "A transaction finishes at the cycle of its last data command."
-use Prim.Native.Nat.{ℕ}
+-- Where a transaction finishes: "a read finishes when its last word has come back" (document 02, request 4).
+use Prim.Native.Nat.{ℕ, _+_}
 use mathlib.Core.Bool.{Bool, true, false, _&&_}
 use mathlib.Core.List.{List, [], _∷_}
 use lib.Dec.{eqb}
@@ -7,6 +7,7 @@ use Rattle.records.specs.Tests.{pick}
 use Rattle.records.specs.declared.table.Table.{Table}
 use Rattle.records.specs.declared.transaction.Transaction.{Transaction}
 use Rattle.records.specs.declared.command.Command.{Command}
+use Rattle.records.specs.Transaction.{isWrite}
 use Rattle.rules.specs.declared.state.Stamp.{Stamp}
 use Rattle.rules.specs.declared.state.Stamp.the-variants.{Never, At}
 use Rattle.rules.specs.Kinds.{isData}
@@ -17,11 +18,11 @@ abbrev pub lastDataIn : ℕ → List Command → Stamp
 lastDataIn k [] = Never
 lastDataIn k (r ∷ h) = pick (eqb (r .number) k && isData (r .kind)) (At (r .cycle)) (lastDataIn k h)
 
--- where a transaction finishes whose last data command goes at cycle c
+-- "a read finishes at its last data command + RL + B, a write as before", at its last data command; c is that command's cycle
 abbrev pub finishOf : Table → Transaction → ℕ → ℕ
-finishOf τ x c = c
+finishOf τ x c = pick (isWrite x) c (c + τ .rl + τ .b)
 
--- where the count of the next transaction starts, if this one's last data command goes at cycle c
+-- "The bound still counts from last command to last command": where the next transaction's count starts, if the last one of this goes at cycle c
 abbrev pub countFrom : Table → Transaction → ℕ → ℕ
 countFrom τ x c = c
 

@@ -19,7 +19,7 @@ use Rattle.rules.specs.Verdict.{Legal}
 use Rattle.rules.specs.Queues.{actQueue, dataQueue}
 use Rattle.rules.specs.CycleRule.{Built}
 use Rattle.rules.specs.Run.{served, steps, run}
-use Rattle.rules.specs.Finish.{lastData}
+use Rattle.rules.specs.Finish.{lastData, finishOf, finish}
 use Rattle.rules.specs.Bound.{bound, span}
 
 -- the commands of the first k transactions
@@ -39,6 +39,10 @@ cycleOf (At c) = c
 -- the cycle of the last data command of transaction k
 abbrev pub lastDataCycle : ℕ → List Command → ℕ
 lastDataCycle k rs = cycleOf (lastData k rs)
+
+-- the cycle at which transaction x, number k of the list, finishes
+abbrev pub finishCycle : Table → Transaction → ℕ → List Command → ℕ
+finishCycle τ x k rs = cycleOf (finish τ x k rs)
 
 -- the bounds of all transactions, added
 abbrev pub allBounds : Table → List Transaction → ℕ
@@ -61,11 +65,18 @@ pub record Kept (τ : Table) (l : List Transaction) (rs : List Command) : Type 0
   pub finishes : (k : ℕ) → k < length l → lastData k rs ≡ At (lastDataCycle k rs)
   pub firstIn : (x : Transaction) → getElem? l 0 ≡ some x → lastDataCycle 0 rs ≤ bound τ (x .bi) (x .bc)
   pub nextIn : (k : ℕ) (x : Transaction) → getElem? l (suc k) ≡ some x → lastDataCycle (suc k) rs ≤ lastDataCycle k rs + bound τ (x .bi) (x .bc)
+  -- it finishes there, a read RL + B later, so no later than if its last data command went at that limit; and 32 bits hold it
+  pub finishAt : (k : ℕ) (x : Transaction) → getElem? l k ≡ some x → finish τ x k rs ≡ At (finishOf τ x (lastDataCycle k rs))
+  pub firstFinish : (x : Transaction) → getElem? l 0 ≡ some x → finishCycle τ x 0 rs ≤ finishOf τ x (bound τ (x .bi) (x .bc))
+  pub nextFinish : (k : ℕ) (x : Transaction) → getElem? l (suc k) ≡ some x
+      → finishCycle τ x (suc k) rs ≤ finishOf τ x (lastDataCycle k rs + bound τ (x .bi) (x .bc))
+  pub finishFits : (k : ℕ) (x : Transaction) → getElem? l k ≡ some x → finishCycle τ x k rs < 4294967296
   -- transactions added at the end move no command of the earlier ones
   pub unmoved : (xs ys : List Transaction) → l ≡ xs ++ ys → Built τ xs (ofFirst (length xs) rs)
   pub sameFinish : (xs ys : List Transaction) → l ≡ xs ++ ys → (k : ℕ) → k < length xs → lastData k (ofFirst (length xs) rs) ≡ lastData k rs
   -- it ends before cycle 100,000,000
   pub early : every (λ r. ltb (r .cycle) 100000000) rs ≡ true
+  pub lastEarly : (k : ℕ) → lastDataCycle k rs < 100000000
   -- a fresh run that serves the list leaves it and reports one past its last command's cycle; one of 100,000,000 cycles or more serves it
   pub running : (n : ℕ) → served τ l (run n τ l (fresh τ) [] .state) ≡ true
       → (onto (run n τ l (fresh τ) [] .history) [] ≡ rs) × (run n τ l (fresh τ) [] .cycles ≡ nextCycle (onto rs []))

@@ -16,7 +16,7 @@ use Rattle.rules.specs.declared.verdict.PatternVerdict.the-variants.{Ref
 use Rattle.rules.specs.Verdict.{judge}
 use Rattle.rules.specs.Pattern.{copies, EveryNumberLegal}
 use Rattle.rules.specs.CycleRule.{Built}
-use Rattle.rules.specs.Finish.{finish}
+use Rattle.rules.specs.Finish.{lastData, finish}
 use Rattle.rules.specs.Bound.{bound}
 
 -- a read, and a write, of (bank, BI, BC)
@@ -61,22 +61,23 @@ twelve = command 0 Act 7 0 ∷ command 6 Act 0 0 ∷ command 10 Rda 7 0 ∷ comm
 -- the examples, in the order of their numbers
 abbrev pub examples : List (Type 0)
 examples =
-    -- 1 to 3, with 3's finishes, and its bound, which is met exactly
+    -- 1 to 3, with the finishes of 1 and 3 as document 02 changes them, and 3's bound, which is met exactly
     Built tableA (read 0 1 1 ∷ []) one
+    ∷ (finish tableA (read 0 1 1) 0 one ≡ At 24)
     ∷ Built tableA (read 0 1 1 ∷ read 0 1 1 ∷ []) two
     ∷ Built tableA (write 0 1 1 ∷ read 0 1 1 ∷ []) three
     ∷ (finish tableA (write 0 1 1) 0 three ≡ At 10)
-    ∷ (finish tableA (read 0 1 1) 1 three ≡ At 54)
+    ∷ (finish tableA (read 0 1 1) 1 three ≡ At 68)
     ∷ (bound tableA 1 1 ≡ 44)
-    ∷ (10 + bound tableA 1 1 ≡ 54)
+    ∷ (lastData 1 three ≡ At (10 + bound tableA 1 1))
     -- 4, and with its types swapped
     ∷ Built tableA (read 0 1 1 ∷ write 1 1 1 ∷ []) four
     ∷ Built tableA (write 0 1 1 ∷ read 1 1 1 ∷ []) fourSwapped
-    ∷ (finish tableA (read 1 1 1) 1 fourSwapped ≡ At 28)
+    ∷ (finish tableA (read 1 1 1) 1 fourSwapped ≡ At 42)
     -- 5 and 6
     ∷ Built tableA (read 0 4 2 ∷ []) five
     ∷ Built tableA (read 0 5 1 ∷ []) six
-    ∷ (finish tableA (read 0 5 1) 0 six ≡ At 42)
+    ∷ (finish tableA (read 0 5 1) 0 six ≡ At 56)
     -- 8 to 10: accepted, so every number of copies is legal; refused, whatever number of copies there is beyond the copy named
     ∷ EveryNumberLegal tableA 38 one
     ∷ ((n : ℕ) → copies tableA 37 one (suc (suc n)) ≡ RefusedAt Precharge 2 0)

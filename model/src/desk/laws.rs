@@ -2,7 +2,9 @@
 
 use crate::desk::*;
 use crate::house::*;
-use crate::records::{BANKS, EDITION};
+use crate::listing::commands;
+use crate::records::{B, BANKS, EDITION};
+use crate::rules::ACT;
 
 /// Lists of every shape, each under every table; one of them takes all its banks, twice, and runs over the last one.
 fn lists_and_tables() -> Vec<(Table, Vec<[u8; 4]>)> {
@@ -51,20 +53,60 @@ fn ran(c: &mut Controller, table: &[u8], list: &[Transaction], count: u32) -> (R
     (told, room)
 }
 
+/// The cycle of each transaction's last data command.
+fn last_datas(room: &[u8], size: usize) -> Vec<u64> {
+    let mut last = vec![0; size];
+    for c in commands(room, u32::MAX).iter().filter(|c| c.kind != ACT) {
+        last[usize::from(c.transaction)] = c.cycle.into();
+    }
+    last
+}
+
+/// "The bound still counts from last command to last command; the promised finish of a read is that limit + RL + B."
 #[test]
 fn built_schedules_pass_and_meet_the_bound() {
     for (table, list) in lists_and_tables() {
         let (room, finishes) = built(&table, &list);
+        let data_back = u64::from(table[RL]) + u64::from(table[B]);
         let (edition, table) = (table[EDITION], bytes_of(&table));
         let (_, verdict) = judge(edition, &table, &room).expect("whole records");
         assert_eq!(verdict, Verdict::Accepted);
         let mut before = 0;
-        for (x, finish) in list.iter().zip(finishes) {
+        let lasts = last_datas(&room, list.len());
+        for ((x, finish), last) in list.iter().zip(finishes).zip(lasts) {
             let (_, cycles) = bound(edition, &table, x[2], x[3]).expect("it's in the list");
-            assert!(u64::from(finish) <= before + cycles);
-            before = finish.into();
+            let limit = before + cycles;
+            let after = if x[0] == 0 { data_back } else { 0 };
+            assert!(last <= limit);
+            assert_eq!(u64::from(finish), last + after);
+            assert!(u64::from(finish) <= limit + after);
+            before = last;
         }
     }
+}
+
+/// No bound is above 66,300: S is at most 4 × 255, and with RCD and 255 times CCD it gives the greatest table's. So 256 bounds and a
+/// read's RL + B fit 32 bits. The longest list there is ends within them.
+#[test]
+fn finishing_cycles_fit() {
+    let most = 256 * 66_300 + 2 * 255;
+    assert!(u32::try_from(most).is_ok());
+    for table in [TABLE_A, TABLE_B, TABLE_C, LEAST, GREATEST]
+        .iter()
+        .chain(&ODD)
+    {
+        let (edition, banks) = (table[EDITION], table[BANKS] as u8);
+        let (_, cycles) = bound(edition, &bytes_of(table), banks, 16).expect("it's in range");
+        assert!(cycles <= 66_300);
+        assert_eq!(cycles == 66_300, *table == GREATEST);
+    }
+    let table = bytes_of(&GREATEST);
+    let (_, mut c) = start(65535, &table);
+    let mut room = vec![0; 8 * 69_632];
+    let list = [transaction(0, 15, 16, 16); 256];
+    let told = run(&mut c, 65535, &table, &list, u32::MAX, &mut room).expect("it's accepted");
+    assert_eq!(told.commands, 69_632);
+    assert!(u64::from(told.cycles) - 1 + 2 * 255 <= most);
 }
 
 #[test]
@@ -86,12 +128,13 @@ fn decoded_or_as_bytes() {
 #[test]
 fn a_run_to_the_end_is_the_build() {
     for (table, list) in lists_and_tables() {
-        let (room, finishes) = built(&table, &list);
+        let (room, _) = built(&table, &list);
         let (edition, table) = (table[EDITION], bytes_of(&table));
         let (_, mut c) = start(edition, &table);
         let (told, bytes) = ran(&mut c, &table, &decoded(edition, &table, &list), u32::MAX);
         assert_eq!(bytes, room);
-        assert_eq!(told.cycles, finishes.last().map_or(0, |last| last + 1));
+        let gone = commands(&room, u32::MAX);
+        assert_eq!(told.cycles, gone.last().map_or(0, |last| last.cycle + 1));
         assert_eq!(c.cycle, told.cycles);
     }
 }
@@ -108,7 +151,8 @@ fn so_is_a_run_of_256_transactions() {
     schedule_bytes(7, table, bytes, &mut schedule, &mut finishes).expect("nothing is refused");
     let (_, mut c) = start(7, table);
     let told = run_bytes(&mut c, 7, table, bytes, u32::MAX, &mut commands);
-    assert_eq!(told.map(|told| told.cycles), Ok(finishes[255] + 1));
+    // The last transaction is a read, of RL 10 and B 4.
+    assert_eq!(told.map(|told| told.cycles), Ok(finishes[255] - 14 + 1));
     assert!(commands == schedule);
 }
 

@@ -70,7 +70,7 @@ fn schedules() {
     let (mut room, mut finishes) = (ROOM, [9; 4]);
     let a = bytes_of(&TABLE_A);
     let commands = schedule(7, &a, &two(), &mut room, &mut finishes).map(|told| told.commands);
-    assert_eq!((commands, finishes), (Ok(4), [10, 54, 9, 9]));
+    assert_eq!((commands, finishes), (Ok(4), [10, 68, 9, 9]));
     assert_eq!(room[32..], ROOM[32..]);
     assert_eq!(room[..32], built(&TABLE_A, &[[1, 0, 1, 1], [0, 0, 1, 1]]).0);
 }

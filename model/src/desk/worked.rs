@@ -32,6 +32,7 @@ fn refusal<T>(answer: Result<T, Refusal>) -> Option<(u8, u32, u16)> {
 #[test]
 fn example_1() {
     assert_eq!(scheduled(&[READ]), [(0, ACT, 0), (10, RDA, 0)]);
+    assert_eq!(finishes(&[READ]), [24]);
 }
 
 #[test]
@@ -42,7 +43,10 @@ fn example_2() {
 
 #[test]
 fn example_3() {
-    assert_eq!(finishes(&[WRITE, READ]), [10, 54]);
+    let two = [(0, ACT, 0), (10, WRA, 0), (44, ACT, 0), (54, RDA, 0)];
+    assert_eq!(scheduled(&[WRITE, READ]), two);
+    assert_eq!(finishes(&[WRITE, READ]), [10, 68]);
+    // "Is met exactly", and "still counts from last command to last command": from 10 to 54.
     assert_eq!(bound(7, &bytes_of(&TABLE_A), 1, 1), Ok((7, 44)));
 }
 
@@ -50,7 +54,9 @@ fn example_3() {
 fn example_4() {
     let mixed = [(0, ACT, 0), (6, ACT, 1), (10, RDA, 0), (18, WRA, 1)];
     assert_eq!(scheduled(&[READ, [1, 1, 1, 1]]), mixed);
-    assert_eq!(finishes(&[WRITE, [0, 1, 1, 1]])[1], 28);
+    // The later transaction finishes first: the read's last word is still under way.
+    assert_eq!(finishes(&[READ, [1, 1, 1, 1]]), [24, 18]);
+    assert_eq!(finishes(&[WRITE, [0, 1, 1, 1]]), [10, 42]);
 }
 
 const EXAMPLE_5: [(u32, u8, u8); 12] = [
@@ -77,7 +83,8 @@ fn example_5() {
 fn example_6() {
     let five = scheduled(&[[0, 0, 5, 1]]);
     assert_eq!(five.iter().rfind(|c| c.1 == ACT), Some(&(32, ACT, 4)));
-    assert_eq!(finishes(&[[0, 0, 5, 1]]), [42]);
+    assert_eq!(five.last(), Some(&(42, RDA, 4)));
+    assert_eq!(finishes(&[[0, 0, 5, 1]]), [56]);
 }
 
 #[test]

@@ -9,11 +9,14 @@ use crate::listing::listing;
 const MOST_LINES: usize = 40;
 const FROM_EACH_END: usize = 12;
 
+/// Stands under a listing that has finishing cycles.
+const FINISHES: &str = "A write finishes at its last data command, a read RL + B cycles later, when its last word has come back.\n";
+
 /// Each number of the table and what document 01 has it for.
 const FIELDS: [(&str, &str); 16] = [
     ("edition", "the table's own number, 1 to 65535"),
     ("banks", "1 to 16"),
-    ("B", "the cycles one burst takes"),
+    ("B", "the cycles one burst takes; in a read's finish"),
     ("CCD", "RD to RD and WR to WR"),
     ("RCD", "ACT to a data command of its bank"),
     ("RP", "precharge start to the bank's next ACT"),
@@ -23,7 +26,7 @@ const FIELDS: [(&str, &str); 16] = [
     ("FAW", "ACT to the fourth ACT after it"),
     (
         "RL",
-        "in RD to WR: the greater of CCD and RL + CCD + 2 - WL",
+        "in RD to WR: the greater of CCD and RL + CCD + 2 - WL; in a read's finish",
     ),
     ("WL", "in RD to WR, WR to RD, and WR to precharge start"),
     ("RTP", "RD to its bank's precharge start"),
@@ -37,14 +40,17 @@ impl Example {
         let (name, title, size) = (self.name, self.title, self.bytes().len());
         let expected = self.expected;
         let printed = listing(&self.bytes());
-        [
+        let mut parts = vec![
             format!("{name}.bin, {size} bytes: {title}.\n"),
             format!("Bytes 0 and 1, the expected edition, low byte first: {expected}.\n"),
             self.table_text(),
             self.list_text(),
             format!("The listing prints:\n\n{}", printed_text(&printed)),
-        ]
-        .join("\n")
+        ];
+        if printed.contains("finish") {
+            parts.push(FINISHES.to_string());
+        }
+        parts.join("\n")
     }
 
     fn table_text(&self) -> String {

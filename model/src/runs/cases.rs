@@ -122,6 +122,10 @@ fn builds(cases: &mut Cases, numbers: &mut Numbers) {
         let banks = table[BANKS] as u8;
         cases.build_all(&table, &[[1, 0, banks, 16], [0, 0, banks, 1]]);
     }
+    // "A read finishes at its last data command + RL + B, a write as before."
+    for table in [LEAST, GREATEST].iter().chain(&ODD) {
+        cases.build_all(table, &[[0, 0, 1, 3], [1, 0, 1, 2], [0, 0, 1, 1]]);
+    }
 }
 
 /// "The banks are then start, start + 1 and so on, with bank 0 after the last": all banks from every start, one by one and in one

@@ -10,7 +10,7 @@ fn over_the_last_bank() {
         commands,
         [(0, 0, 7, 0), (6, 0, 0, 0), (10, 2, 7, 0), (16, 2, 0, 0)]
     );
-    assert_eq!(finishes, [16]);
+    assert_eq!(finishes, [30]);
     let accepted = Ok((7, Verdict::Accepted));
     assert_eq!(judge(7, &bytes(A), &built_bytes), accepted);
     // All banks, from every start.

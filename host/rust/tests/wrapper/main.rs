@@ -57,12 +57,16 @@ fn schedules() {
         commands,
         [(0, 0, 0, 0), (10, 4, 0, 0), (44, 0, 0, 1), (54, 2, 0, 1)]
     );
-    assert_eq!(finishes, [10, 54]);
+    // The bound is met from last command to last command; the read finishes RL + B later.
+    assert_eq!(finishes, [10, 10 + 44 + 14]);
     assert_eq!(bound(7, &bytes(A), 1, 1), Ok((7, 44)));
     let bounds =
         [(2, 1), (1, 4), (4, 2), (5, 1), (8, 1)].map(|(bi, bc)| bound(7, &bytes(A), bi, bc));
     assert_eq!(bounds, [53, 56, 75, 80, 107].map(|bound| Ok((7, bound))));
-    assert_eq!(built(&[transaction(0, 0, 5, 1)]).1, [42]);
+    assert_eq!(built(&[read]).1, [24]);
+    assert_eq!(built(&[read, transaction(1, 1, 1, 1)]).1, [24, 18]);
+    assert_eq!(built(&[write, transaction(0, 1, 1, 1)]).1, [10, 42]);
+    assert_eq!(built(&[transaction(0, 0, 5, 1)]).1, [56]);
 }
 
 #[test]

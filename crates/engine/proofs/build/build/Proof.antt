@@ -1,6 +1,6 @@
 use borrow.Author.Needs.{needs}
 use denote.Ref.{now}
-use Rattle.engine.proofs.Schedule.{fresh-ready, mark-asked, builds}
+use Rattle.engine.proofs.Schedule.{fresh-ready, mark-asked, finish-asked, builds}
 use Rattle.engine.proofs.build.build.Statement.{statement}
 use Rattle.engine.proofs.build.build.Tie as tie
 
@@ -10,8 +10,11 @@ run-requires c κs = let args = c .before .before .before .before .before .befor
 mark-requires : tie.Need-mark-requires
 mark-requires c κs = let args = c .before .before .before .before .before .before .before .before .before .before .before .args in let pre = c .before .before .before .before .before .before .before .before .before .before .before .pre in let fresh-of = c .before .before .before .before .before .before .before .fresh-of in let enough = c .before .before .before .before .before .before .enough in let run = c .before .before .before .before .run in mark-asked (args .t) (now (args .list)) (args .n) (pre .0) (now (args .buffer)) (now (args .finishes)) (pre .1) (pre .2) (fresh-of .result) (fresh-of .ensures) (enough .result) (enough .ensures) _ (run .result) (run .ensures)
 
+finish-all-requires : tie.Need-finish-all-requires
+finish-all-requires c κs = let start = c .before .before .before .before .before .before .before .before .before .before .before .before .before .before .before in let fresh-of = c .before .before .before .before .before .before .before .before .before .before .before .fresh-of in let enough = c .before .before .before .before .before .before .before .before .before .before .enough in let run = c .before .before .before .before .before .before .before .before .run in finish-asked (start .args .t) (now (start .args .list)) (start .args .n) (start .pre .0) (now (start .args .buffer)) (now (start .args .finishes)) (start .pre .1) (start .pre .2) (fresh-of .result) (fresh-of .ensures) (enough .result) (enough .ensures) _ (run .result) (run .ensures) _ (c .before .before .before .mark .ensures)
+
 returns : tie.Need-returns
-returns c = let args = c .before .before .before .before .before .before .before .before .before .before .before .before .before .before .args in let pre = c .before .before .before .before .before .before .before .before .before .before .before .before .before .before .pre in let fresh-of = c .before .before .before .before .before .before .before .before .before .before .fresh-of in let enough = c .before .before .before .before .before .before .before .before .before .enough in let run = c .before .before .before .before .before .before .before .run in builds (args .t) (now (args .list)) (args .n) (pre .0) (now (args .buffer)) (now (args .finishes)) (pre .1) (pre .2) (fresh-of .result) (fresh-of .ensures) (enough .result) (enough .ensures) _ (run .result) (run .ensures) _ (c .before .before .mark .ensures)
+returns c = let start = c .before .before .before .before .before .before .before .before .before .before .before .before .before .before .before .before .before .before in let fresh-of = c .before .before .before .before .before .before .before .before .before .before .before .before .before .before .fresh-of in let enough = c .before .before .before .before .before .before .before .before .before .before .before .before .before .enough in let run = c .before .before .before .before .before .before .before .before .before .before .before .run in builds (start .args .t) (now (start .args .list)) (start .args .n) (start .pre .0) (now (start .args .buffer)) (now (start .args .finishes)) (start .pre .1) (start .pre .2) (fresh-of .result) (fresh-of .ensures) (enough .result) (enough .ensures) _ (run .result) (run .ensures) _ (c .before .before .before .before .before .before .mark .ensures) _ (c .before .before .finish-all .ensures)
 
 pub build-spec : {M : Type 1} → statement M
-build-spec = tie.close (tie.spec (λ c κs. search needs) (λ c κs. search needs) run-requires mark-requires (λ c. search needs) (λ c. search needs) returns)
+build-spec = tie.close (tie.spec (λ c κs. search needs) (λ c κs. search needs) run-requires mark-requires finish-all-requires (λ c. search needs) (λ c. search needs) returns)

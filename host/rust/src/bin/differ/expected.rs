@@ -187,11 +187,15 @@ fn schedule(
     if due > COMMANDS_BY_HISTORY && !refused {
         let (_, mut fresh) = desk::start(e, table);
         if let Ok(told) = desk::run(&mut fresh, e, table, list, u32::MAX, room) {
+            let [_, _, b, _, _, _, _, _, _, _, rl, ..] = desk::read_table(table)?.map(u32::from);
             for record in room.chunks_exact(8).take(told.commands as usize) {
                 let c = desk::read_command(record)?;
-                if c.kind != 0 {
-                    finishes[usize::from(c.transaction)] = c.cycle;
-                }
+                let finish = match c.kind {
+                    0 => continue,
+                    1 | 2 => c.cycle + rl + b,
+                    _ => c.cycle,
+                };
+                finishes[usize::from(c.transaction)] = finish;
             }
             return Ok(desk::Scheduled {
                 edition: told.edition,

@@ -19,6 +19,8 @@ pub struct Times {
     wr_to_act: i64,
     /// One row for each earlier kind: RD, WR.
     distances: [[i64; 2]; 2],
+    /// From the last RD or WR to the end of its transaction.
+    to_finish: [i64; 2],
 }
 
 impl Times {
@@ -56,6 +58,7 @@ impl Times {
             rd_to_act: rtp + rp,
             wr_to_act: wl + b + wr + rp,
             distances: [[ccd, turn_to_write], [turn_to_read, ccd]],
+            to_finish: [rl + b, 0],
         })
     }
 
@@ -200,7 +203,7 @@ pub fn schedule(
         let (kind, bank, number) = if data_at <= act_at {
             let closes = datas.burst + 1 == x.bc;
             state.data(t, bank, writes, closes, at);
-            finishes[datas.number] = at as u32;
+            finishes[datas.number] = (at + t.to_finish[writes]) as u32;
             let gone = (1 + 2 * x.kind + closes as u8, bank, datas.number);
             datas.burst += 1;
             if closes {
