@@ -1,7 +1,7 @@
 // Rule 9 by the latest RD and the latest WR before a record alone.
-use crate::plain::is_write;
 use records::command::Kind;
 use rules::state::Stamp;
+use timing::kinds::is_wr;
 use timing::tests::is_far;
 ghost use mathlib.Core.Path.{_≡_};
 ghost use Rattle.rules.specs.Kinds.{isWr};
@@ -12,5 +12,5 @@ ghost use Rattle.rules.specs.State.{farBy};
 pub fn keeps_distance(q: [[u32; 2]; 2], rd: Stamp, wr: Stamp, kind: Kind, c: u64) -> bool
     ensures { λ r. ⌜ r ≡ farBy q rd wr (isWr kind) c ⌝ }
 {
-    is_far(q, rd, wr, is_write(kind), c)
+    is_far(q, rd, wr, is_wr(kind), c)
 }

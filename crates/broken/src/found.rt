@@ -1,7 +1,5 @@
 // The first rule that a record breaks, by the state.
 use crate::back::keeps_distance;
-use crate::plain::is_act;
-use crate::plain::is_known;
 use records::command::Kind;
 use records::table::Table;
 use records::tests::both_of;
@@ -11,6 +9,8 @@ use rules::state::Stamp;
 use rules::state::State;
 use rules::verdict::Found;
 use rules::verdict::Rule;
+use timing::kinds::is_act;
+use timing::kinds::is_known;
 use timing::square::wide;
 use timing::tests::is_charged;
 use timing::tests::is_open;

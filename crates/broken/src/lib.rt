@@ -1,4 +1,3 @@
 // The first rule that a record breaks, by the state.
 pub mod back;
 pub mod found;
-pub mod plain;

@@ -1,11 +1,11 @@
 // What goes at a cycle. The tests take the two heads, their banks and the stamps that the rules read, never the whole state.
 use heads::head::Head;
-use heads::kinds::is_wr;
 use records::command::Command;
 use records::table::Table;
 use records::tests::both_of;
 use rules::state::Bank;
 use rules::state::Stamp;
+use timing::kinds::is_wr;
 use timing::square::wide;
 use timing::tests::act_free;
 use timing::tests::data_free;

@@ -1,8 +1,8 @@
 // The finishing cycles: a pass over the commands for each transaction's last data command, and one over the transactions for where it finishes.
 use commands::command::command_at;
-use heads::kinds::is_data;
 use records::table::Table;
 use records::transaction::transaction_at;
+use timing::kinds::is_data;
 ghost use mathlib.Core.Path.{_≡_};
 ghost use mathlib.Core.Bool.{true};
 ghost use Prim.Native.Nat.{ℕ, _+_, _*_, _≤_, _<_};

@@ -7,6 +7,7 @@ use heads::queue::leave;
 use heads::queue::queues_after;
 use records::table::Table;
 use records::tests::both_of;
+use records::tests::either_of;
 use rules::state::State;
 use timing::note::note_kind;
 use timing::square::distances;
@@ -24,12 +25,6 @@ pub struct Ran {
     pub state: State,
     pub cycles: u32,
     pub commands: usize,
-}
-
-pub fn either_of(a: bool, b: bool) -> bool
-    ensures { λ r. ⌜ r ≡ (a || b) ⌝ }
-{
-    if a { true } else { b }
 }
 
 // The list is served, or the cycle is 100,000,000.

@@ -1,5 +1,4 @@
 // The heads of the two queues, found once by the counts of a state and then moved on, command by command.
 pub mod due;
 pub mod head;
-pub mod kinds;
 pub mod queue;

@@ -1,7 +1,7 @@
 // What the judges answer, and what they refuse before they judge.
-use broken::plain::either_of;
 use records::refusal::Refusal;
 use records::refusal::first_failed;
+use records::tests::either_of;
 use rules::verdict::PatternVerdict;
 use rules::verdict::Verdict;
 ghost use mathlib.Core.Path.{_≡_};

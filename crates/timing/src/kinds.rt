@@ -1,14 +1,8 @@
-// Leaves on plain values.
+// Kinds of commands, for judge and engine.
 use records::command::Kind;
 ghost use mathlib.Core.Path.{_≡_};
-ghost use mathlib.Core.Bool.{_||_};
-ghost use Rattle.rules.specs.Kinds.{isAct, isKnown, isWr};
-
-pub fn either_of(a: bool, b: bool) -> bool
-    ensures { λ r. ⌜ r ≡ (a || b) ⌝ }
-{
-    if a { true } else { b }
-}
+ghost use Rattle.rules.specs.Kinds.{isAct, isWr, isData, isKnown};
+ghost use Rattle.rules.specs.Queues.{dataKind};
 
 pub fn is_act(k: Kind) -> bool
     ensures { λ r. ⌜ r ≡ isAct k ⌝ }
@@ -23,13 +17,26 @@ pub fn is_act(k: Kind) -> bool
     }
 }
 
-pub fn is_write(k: Kind) -> bool
+pub fn is_wr(k: Kind) -> bool
     ensures { λ r. ⌜ r ≡ isWr k ⌝ }
 {
     match k {
         Kind::Act => false,
         Kind::Rd => false,
         Kind::Rda => false,
+        Kind::Wr => true,
+        Kind::Wra => true,
+        Kind::Other(_) => false,
+    }
+}
+
+pub fn is_data(k: Kind) -> bool
+    ensures { λ r. ⌜ r ≡ isData k ⌝ }
+{
+    match k {
+        Kind::Act => false,
+        Kind::Rd => true,
+        Kind::Rda => true,
         Kind::Wr => true,
         Kind::Wra => true,
         Kind::Other(_) => false,
@@ -47,4 +54,20 @@ pub fn is_known(k: Kind) -> bool
         Kind::Wra => true,
         Kind::Other(_) => false,
     }
+}
+
+// The kind of a data command: a write or not, with auto precharge or not.
+pub fn data_kind(write: bool, last: bool) -> Kind
+    ensures { λ r. ⌜ r ≡ dataKind write last ⌝ }
+{
+    if write {
+        if last {
+            return Kind::Wra;
+        }
+        return Kind::Wr;
+    }
+    if last {
+        return Kind::Rda;
+    }
+    Kind::Rd
 }
