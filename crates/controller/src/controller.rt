@@ -15,7 +15,7 @@ pub const NEVER: u32 = 4294967295;
 // A bank: open unless `opened` is 0; the cycles of its last ACT and of the last RD and WR since.
 #[repr(C)]
 pub struct HostBank {
-    pub opened: u8,
+    pub opened: u32,
     pub act: u32,
     pub rd: u32,
     pub wr: u32,
@@ -25,7 +25,7 @@ pub struct HostBank {
 // `rd` and `wr` are those of the last RD and the last WR of all.
 #[repr(C)]
 pub struct Controller {
-    pub edition: u16,
+    pub edition: u32,
     pub cycle: u32,
     pub acts: u32,
     pub datas: u32,

@@ -9,6 +9,7 @@ use records::tests::both_of;
 use records::tests::not_of;
 use rules::state::State;
 use timing::square::less;
+use timing::square::wide;
 ghost use mathlib.Core.Path.{_≡_};
 ghost use mathlib.Core.Bool.{not};
 ghost use mathlib.Core.List.{[], _∷_};
@@ -67,7 +68,7 @@ pub fn is_sound(t: Table, s: State, due: u32, gone: bool) -> bool
 {
     let now = s.cycle;
     let started = s.edition;
-    let edition = t.edition;
+    let edition = wide(t.edition);
     let ks = s.banks;
     let banks = banks_before(ks, t.banks, now);
     let last = last_before(s, now);

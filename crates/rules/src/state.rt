@@ -11,7 +11,7 @@ pub enum Stamp {
 
 // A bank: open unless `opened` is 0; the cycles of its last ACT and of the last RD and WR since.
 pub struct Bank {
-    pub opened: u8,
+    pub opened: u32,
     pub act: Stamp,
     pub rd: Stamp,
     pub wr: Stamp,
@@ -20,7 +20,7 @@ pub struct Bank {
 // `cycle` is the next to be tried; `acts` and `datas` have left the two queues; `a1` to `a4` are the cycles of the last four ACTs, newest
 // first; `rd` and `wr` those of the last RD and the last WR of all.
 pub struct State {
-    pub edition: u16,
+    pub edition: u32,
     pub cycle: u64,
     pub acts: u32,
     pub datas: u32,
@@ -44,7 +44,7 @@ pub fn fresh_of(t: Table) -> State
         wr: Stamp::Never,
     };
     State {
-        edition: t.edition,
+        edition: t.edition as u32,
         cycle: 0,
         acts: 0,
         datas: 0,

@@ -1,12 +1,10 @@
 // The 246 bytes of a state, and its line.
 use crate::told::first;
 use crate::told::long;
-use crate::told::small;
 use crate::told::text;
 use controller::controller::Controller;
 use controller::controller::HostBank;
 use records::little::from_le32;
-use records::little::num_at;
 ghost use Prim.Native.Nat.{_+_, _≤_};
 ghost use lib.ListN.{length};
 
@@ -22,7 +20,7 @@ pub(crate) fn controller_at(s: &[u8]) -> Controller
 {
     let banks = banks_at(s);
     Controller {
-        edition: num_at(s, 0),
+        edition: from_le32(s[0], s[1], 0, 0),
         cycle: long_at(s, 2),
         acts: long_at(s, 6),
         datas: long_at(s, 10),
@@ -59,7 +57,7 @@ fn bank_at(s: &[u8], at: usize) -> HostBank
     requires { ⌜ at + 13 ≤ length (now s) ⌝ }
 {
     HostBank {
-        opened: s[at],
+        opened: from_le32(s[at], 0, 0, 0),
         act: long_at(s, at + 1),
         rd: long_at(s, at + 5),
         wr: long_at(s, at + 9),
@@ -68,7 +66,7 @@ fn bank_at(s: &[u8], at: usize) -> HostBank
 
 pub(crate) fn state_line(c: Controller) {
     let banks = c.banks;
-    edition(c.edition);
+    first(c.edition);
     long(c.cycle);
     long(c.acts);
     long(c.datas);
@@ -82,10 +80,6 @@ pub(crate) fn state_line(c: Controller) {
     text(b"\n");
 }
 
-fn edition(n: u16) {
-    first(n as u32);
-}
-
 fn all_banks(banks: [HostBank; 16]) {
     let mut k: usize = 0;
     while k < 16 {
@@ -95,7 +89,7 @@ fn all_banks(banks: [HostBank; 16]) {
 }
 
 fn one_bank(bank: HostBank) {
-    small(bank.opened);
+    long(bank.opened);
     long(bank.act);
     long(bank.rd);
     long(bank.wr);

@@ -52,7 +52,7 @@ pub fn stamp_if(now: bool, c: u64, s: Stamp) -> Stamp
 }
 
 // What a data command leaves in `opened`.
-pub fn opened_by(closes: bool) -> u8
+pub fn opened_by(closes: bool) -> u32
     ensures { λ r. ⌜ r ≡ pick closes 0 1 ⌝ }
 {
     if closes { 0 } else { 1 }
