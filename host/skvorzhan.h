@@ -117,7 +117,7 @@ typedef struct skv_transaction {
 
 /* A bank: open unless opened is 0; the cycles of its last ACT and of the last RD and WR since. */
 typedef struct skv_bank {
-    uint8_t opened;
+    uint32_t opened;
     uint32_t act;
     uint32_t rd;
     uint32_t wr;
@@ -126,7 +126,7 @@ typedef struct skv_bank {
 /* A running controller. Any bits are one; what number 9 says of them is checked by the calls. Of the banks only the table's are read or
  * changed. The bytes between the fields hold nothing, and may come back as others. */
 typedef struct skv_controller {
-    uint16_t edition;
+    uint32_t edition;
     uint32_t cycle; /* the next to be tried */
     uint32_t acts;  /* gone from the ACT queue */
     uint32_t datas; /* gone from the data queue */

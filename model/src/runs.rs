@@ -2,7 +2,8 @@
 //!
 //! A case is `[call][expected: u16][table: 32 bytes]` and then, for call 1, a build, `[room: u16][slots: u16][n: u16][n bytes]`; for
 //! call 2, a run, `[count: u32][room: u16][state: 246 bytes][n: u16][n bytes]`; for call 3, a bound, `[BI][BC]`. The rooms are in
-//! bytes, the n bytes are the transactions. A case of any other call has no end, so nothing after it is read.
+//! bytes, the n bytes are the transactions. A state stands there with 16 bits of its edition and 8 of each bank's `opened`, the others being
+//! 0. A case of any other call has no end, so nothing after it is read.
 
 mod cases;
 mod editions;
@@ -70,12 +71,12 @@ impl<'a> Bytes<'a> {
 
     fn state(&mut self) -> Option<Controller> {
         let mut state = Controller::fresh(&[0; 16]);
-        state.edition = self.u16()?;
+        state.edition = self.u16()?.into();
         state.cycle = self.u32()?;
         state.acts = self.u32()?;
         state.datas = self.u32()?;
         for bank in &mut state.banks {
-            bank.opened = self.u8()?;
+            bank.opened = self.u8()?.into();
             bank.act = self.u32()?;
             bank.rd = self.u32()?;
             bank.wr = self.u32()?;
@@ -129,9 +130,9 @@ fn run_lines(
     let (edition, count, cycles) = (told.edition, told.commands, told.cycles);
     let mut out = format!("edition {edition} commands {count} cycles {cycles}\n");
     out.push_str(&command_lines(&commands, count));
-    let mut numbers = vec![s.edition.into(), s.cycle, s.acts, s.datas];
+    let mut numbers = vec![s.edition, s.cycle, s.acts, s.datas];
     for bank in &s.banks {
-        numbers.extend([bank.opened.into(), bank.act, bank.rd, bank.wr]);
+        numbers.extend([bank.opened, bank.act, bank.rd, bank.wr]);
     }
     numbers.extend(s.last);
     numbers.extend([s.rd, s.wr]);

@@ -67,7 +67,7 @@ pub struct Numbers {
 #[derive(Debug, Clone, Copy, PartialEq, Eq)]
 pub struct HostBank {
     /// Open unless 0.
-    pub opened: u8,
+    pub opened: u32,
     pub act: u32,
     /// Since that ACT.
     pub rd: u32,
@@ -77,7 +77,7 @@ pub struct HostBank {
 #[repr(C)]
 #[derive(Debug, Clone, Copy, PartialEq, Eq)]
 pub struct Controller {
-    pub edition: u16,
+    pub edition: u32,
     /// The next to be tried.
     pub cycle: u32,
     /// How many commands have left each queue.

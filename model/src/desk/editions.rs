@@ -108,7 +108,7 @@ fn runs() {
     for (expected, table, first) in tables() {
         for edition in [7, 0, 9, expected, first.2] {
             let mut c = Controller::fresh(&TABLE_A);
-            c.edition = edition;
+            c.edition = edition.into();
             let (before, mut room) = (c.clone(), ROOM);
             for (count, size) in [(0, 0), (1, 7), (1, 8), (9, 31), (9, 48)] {
                 let room = &mut room[..size];
@@ -132,7 +132,7 @@ fn steps() {
     for (expected, table, first) in tables() {
         for edition in [7, expected, first.2] {
             let mut c = Controller::fresh(&TABLE_A);
-            c.edition = edition;
+            c.edition = edition.into();
             let (before, mut room) = (c.clone(), ROOM);
             for size in [0, 7, 8] {
                 let room = &mut room[..size];

@@ -47,7 +47,7 @@ pub fn transaction(kind: u8, start: u8, bi: u8, bc: u8) -> Transaction {
 /// A run into room for all: what is told and the commands' bytes.
 fn ran(c: &mut Controller, table: &[u8], list: &[Transaction], count: u32) -> (Ran, Vec<u8>) {
     let mut room = vec![0; 1 << 16];
-    let edition = c.edition;
+    let edition = c.edition as u16;
     let told = run(c, edition, table, list, count, &mut room).expect("nothing is refused");
     room.truncate(8 * told.commands as usize);
     (told, room)

@@ -169,6 +169,26 @@ fn runs() {
     }
 }
 
+/// All 32 bits of a state's edition and of `opened` count.
+#[test]
+fn wide_states() {
+    let (mut room, table) = ([0; 16], bytes_of(&TABLE_A));
+    let list = [transaction(0, 0, 1, 1)];
+    for edition in [7 << 16, 7 + (1 << 16), u32::MAX] {
+        let mut c = Controller::fresh(&TABLE_A);
+        c.edition = edition;
+        let answer = run(&mut c, 7, &table, &list, 1, &mut room);
+        assert_eq!((told(answer), c.edition), ((9, 0, 7), edition));
+    }
+    for (opened, written) in [(0, 1), (1, 0), (256, 0), (1 << 16, 0), (u32::MAX, 0)] {
+        let mut c = Controller::fresh(&TABLE_A);
+        c.banks[0].opened = opened;
+        let answer = run(&mut c, 7, &table, &list, 1, &mut room);
+        assert_eq!(answer.map(|ran| ran.commands), Ok(written));
+        assert_eq!(c.banks[0].opened, opened.max(written));
+    }
+}
+
 /// Of one record: a refused writer changes no byte, and what is written is read back.
 #[test]
 fn records() {

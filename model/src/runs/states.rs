@@ -8,10 +8,11 @@ use crate::records::{BANKS, EDITION};
 
 pub fn bytes_of_state(s: &Controller) -> Vec<u8> {
     let four = |n: u32| n.to_le_bytes();
-    let mut bytes = s.edition.to_le_bytes().to_vec();
+    let edition = u16::try_from(s.edition).expect("a case has 16 bits of it");
+    let mut bytes = edition.to_le_bytes().to_vec();
     bytes.extend([s.cycle, s.acts, s.datas].into_iter().flat_map(four));
     for bank in &s.banks {
-        bytes.push(bank.opened);
+        bytes.push(u8::try_from(bank.opened).expect("a case has 8 bits of it"));
         bytes.extend([bank.act, bank.rd, bank.wr].into_iter().flat_map(four));
     }
     bytes.extend(s.last.into_iter().chain([s.rd, s.wr]).flat_map(four));
@@ -112,7 +113,7 @@ pub fn hand_made(cases: &mut Cases) {
 }
 
 /// The state with nothing stored and every bank as given.
-fn never_anywhere(s: &Controller, opened: u8) -> Controller {
+fn never_anywhere(s: &Controller, opened: u32) -> Controller {
     let mut empty = Controller::fresh(&TABLE_A);
     (empty.cycle, empty.acts, empty.datas) = (s.cycle, s.acts, s.datas);
     empty.banks.iter_mut().for_each(|bank| bank.opened = opened);
@@ -131,7 +132,7 @@ fn past_the_banks(cases: &mut Cases) {
                 opened: 200 + n,
                 act: 1000,
                 rd: NEVER - 1,
-                wr: n.into(),
+                wr: n,
             };
         }
         cases.run(&table, 400, room_for(&list), &state, &list.concat());

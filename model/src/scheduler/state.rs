@@ -13,7 +13,7 @@ const LAST_CYCLE: u32 = 100_000_000;
 #[derive(Debug, Clone, Copy, PartialEq, Eq)]
 pub struct Bank {
     /// Open unless 0.
-    pub opened: u8,
+    pub opened: u32,
     pub act: u32,
     /// Since that ACT.
     pub rd: u32,
@@ -22,7 +22,7 @@ pub struct Bank {
 
 #[derive(Debug, Clone, PartialEq, Eq)]
 pub struct State {
-    pub edition: u16,
+    pub edition: u32,
     /// The next to be tried.
     pub cycle: u32,
     /// How many commands have left each queue.
@@ -49,7 +49,7 @@ impl State {
             wr: NEVER,
         };
         State {
-            edition: table[EDITION],
+            edition: table[EDITION].into(),
             cycle: 0,
             acts: 0,
             datas: 0,
@@ -128,7 +128,7 @@ impl State {
         let mut stored = of_banks.chain(self.last).chain([self.rd, self.wr]);
         let (acts, datas) = (self.acts as usize, self.datas as usize);
         self.cycle >= LAST_CYCLE
-            || self.edition != table[EDITION]
+            || self.edition != u32::from(table[EDITION])
             || stored.any(|cycle| cycle != NEVER && cycle >= self.cycle)
             || acts > queues.acts.len()
             || datas > queues.datas.len()

@@ -249,7 +249,7 @@ fn first_of_all(e: u16, table: &[u8], told: (u32, u32, u32)) {
                 refused(schedule_bytes(e, table, &bytes, &mut room, &mut places)),
                 told
             );
-            for (edition, cycle) in [(7, 0), (e, 0), (7, 100_000_000)] {
+            for (edition, cycle) in [(7, 0), (e.into(), 0), (7, 100_000_000)] {
                 fresh.edition = edition;
                 fresh.cycle = cycle;
                 let mut c = fresh;

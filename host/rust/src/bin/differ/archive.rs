@@ -1,5 +1,8 @@
 //! A case put through the archive, in memory that shows what was touched.
 
+mod long;
+
+pub use long::ENTRIES;
 use skvorzhan::raw::*;
 use std::mem::size_of;
 
@@ -25,23 +28,11 @@ pub struct Archive {
     pub noise: Noise,
 }
 
-/// Where a controller's numbers stand in its bytes, with their sizes; between them is padding, which belongs to nobody.
-fn fields() -> Vec<(usize, usize)> {
-    let mut fields = vec![(0, 2), (4, 4), (8, 4), (12, 4)];
-    for bank in 0..16 {
-        let at = 16 + 16 * bank;
-        fields.extend([(at, 1), (at + 4, 4), (at + 8, 4), (at + 12, 4)]);
-    }
-    fields.extend((0..6).map(|i| (272 + 4 * i, 4)));
-    fields
-}
-
+/// The numbers of a controller where it lies: it has no other bytes.
 fn state_now(bytes: &[u8]) -> State {
-    let mut s = fresh(0);
-    for (number, (at, size)) in s.iter_mut().zip(fields()) {
-        let mut word = [0; 4];
-        word[..size].copy_from_slice(&bytes[at..at + size]);
-        *number = u32::from_le_bytes(word);
+    let mut s = [0; 74];
+    for (number, word) in s.iter_mut().zip(bytes.chunks_exact(4)) {
+        *number = u32::from_le_bytes([word[0], word[1], word[2], word[3]]);
     }
     s
 }
@@ -55,14 +46,14 @@ fn controller(s: &State) -> Controller {
     }; 16];
     for (bank, n) in banks.iter_mut().zip(s[BANKS..LAST].chunks_exact(4)) {
         *bank = HostBank {
-            opened: n[0] as u8,
+            opened: n[0],
             act: n[1],
             rd: n[2],
             wr: n[3],
         };
     }
     Controller {
-        edition: s[0] as u16,
+        edition: s[0],
         cycle: s[1],
         acts: s[2],
         datas: s[3],
@@ -75,9 +66,9 @@ fn controller(s: &State) -> Controller {
 
 fn state(c: &Controller) -> State {
     let mut s = fresh(0);
-    s[..BANKS].copy_from_slice(&[c.edition.into(), c.cycle, c.acts, c.datas]);
+    s[..BANKS].copy_from_slice(&[c.edition, c.cycle, c.acts, c.datas]);
     for (n, bank) in s[BANKS..LAST].chunks_exact_mut(4).zip(&c.banks) {
-        n.copy_from_slice(&[bank.opened.into(), bank.act, bank.rd, bank.wr]);
+        n.copy_from_slice(&[bank.opened, bank.act, bank.rd, bank.wr]);
     }
     s[LAST..LAST + 4].copy_from_slice(&c.last);
     s[LAST + 4] = c.rd;
@@ -106,32 +97,23 @@ impl Archive {
         }
     }
 
-    /// The outcome, or what was touched that may not be.
-    pub fn call(&mut self, case: &Case) -> Result<Outcome, String> {
+    /// The outcome, or what was touched that may not be. What is lent for reading lies in pages that trap where they are written to; where
+    /// the call must be refused, all that is lent does, the controller too: "no buffer or state changes".
+    pub fn call(&mut self, case: &Case, refused: bool) -> Result<Outcome, String> {
         let (f, lies, noise) = (case.filling, case.lies, &self.noise);
         let whole = self.handed_over(case);
         let list = self.bytes.hold(&whole, lies, noise, f);
         let t = self.table.hold(&case.table, lies, noise, f);
         let room = self.room.fill(case.room, lies, noise, f);
         let slots = self.slots.fill(4 * case.slots, lies, noise, f);
-        let c = self.state.fill(size_of::<Controller>(), lies, noise, f) as *mut Controller;
-        let before = controller(&case.state);
-        if case.call.runs() {
-            // Field by field, so that the padding stays noise.
-            unsafe {
-                (*c).edition = before.edition;
-                (*c).cycle = before.cycle;
-                (*c).acts = before.acts;
-                (*c).datas = before.datas;
-                for (bank, from) in (*c).banks.iter_mut().zip(&before.banks) {
-                    bank.opened = from.opened;
-                    bank.act = from.act;
-                    bank.rd = from.rd;
-                    bank.wr = from.wr;
-                }
-                (*c).last = before.last;
-                (*c).rd = before.rd;
-                (*c).wr = before.wr;
+        let numbers_now: Vec<u8> = case.state.iter().flat_map(|n| n.to_le_bytes()).collect();
+        let c = self.state.hold(&numbers_now, lies, noise, f) as *mut Controller;
+        for region in [&mut self.bytes, &mut self.table] {
+            region.only_reads();
+        }
+        if refused {
+            for region in [&mut self.room, &mut self.slots, &mut self.state] {
+                region.only_reads();
             }
         }
         let e = case.expected;
@@ -196,7 +178,17 @@ impl Archive {
                 Call::Start => keep(skv_start(e, t, tn)),
                 Call::Run => numbers(skv_run(c, e, t, tn, xs, bn / 4, v0, room, rn)),
                 Call::Step => numbers(skv_step(c, e, t, tn, xs, bn / 4, room, rn)),
-                Call::RunBytes => keep(skv_run_bytes(before, e, t, tn, list, bn, v0, room, rn)),
+                Call::RunBytes => keep(skv_run_bytes(
+                    controller(&case.state),
+                    e,
+                    t,
+                    tn,
+                    list,
+                    bn,
+                    v0,
+                    room,
+                    rn,
+                )),
             }
         };
         self.untouched(case, &whole)?;

@@ -59,6 +59,23 @@ impl Call {
         self as usize >= ReadTransactions as usize
     }
 
+    /// The numbers that it can be refused by, in the order of the checks.
+    pub fn refusals(self) -> &'static [usize] {
+        match self {
+            ReadTable | WriteTable => &[1, 2],
+            ReadTransaction | WriteTransaction => &[3, 4],
+            ReadCommand => &[7],
+            WriteCommand => &[5],
+            ReadTransactions => &[1, 2, 10, 3, 4],
+            Schedule | ScheduleBytes => &[1, 2, 10, 3, 4, 5, 6],
+            Judge => &[1, 2, 10, 7],
+            JudgePattern => &[1, 2, 10, 7, 8],
+            Bound => &[1, 2, 10, 4],
+            Start => &[1, 2, 10],
+            Run | Step | RunBytes => &[1, 2, 10, 3, 4, 5, 9],
+        }
+    }
+
     /// The size of what `bytes` holds.
     pub fn record(self) -> usize {
         match self {

@@ -31,13 +31,13 @@ pub fn transactions(list: &[[u8; 4]]) -> Vec<Transaction> {
 
 pub fn controller(s: &State) -> Controller {
     let mut c = Controller::fresh(&[0; 16]);
-    c.edition = s[EDITION] as u16;
+    c.edition = s[EDITION];
     c.cycle = s[CYCLE];
     c.acts = s[ACTS];
     c.datas = s[DATAS];
     for (bank, n) in c.banks.iter_mut().zip(s[BANKS..LAST].chunks_exact(4)) {
         *bank = Bank {
-            opened: n[0] as u8,
+            opened: n[0],
             act: n[1],
             rd: n[2],
             wr: n[3],
@@ -51,9 +51,9 @@ pub fn controller(s: &State) -> Controller {
 
 pub fn state(c: &Controller) -> State {
     let mut s = [0; 74];
-    s[..BANKS].copy_from_slice(&[c.edition.into(), c.cycle, c.acts, c.datas]);
+    s[..BANKS].copy_from_slice(&[c.edition, c.cycle, c.acts, c.datas]);
     for (n, bank) in s[BANKS..LAST].chunks_exact_mut(4).zip(&c.banks) {
-        n.copy_from_slice(&[bank.opened.into(), bank.act, bank.rd, bank.wr]);
+        n.copy_from_slice(&[bank.opened, bank.act, bank.rd, bank.wr]);
     }
     s[LAST..LAST + 4].copy_from_slice(&c.last);
     s[LAST + 4] = c.rd;

@@ -18,17 +18,28 @@ extern "C" {
 }
 
 const NOTHING: c_int = 0;
+const READ: c_int = 1;
 const READ_AND_WRITE: c_int = 3;
 const PRIVATE_AND_ANONYMOUS: c_int = 0x22;
+const NOT_RESERVED: c_int = 0x4000;
 const PAGE: usize = 4096;
 
-/// So many bytes that may be touched; the page before and the page after trap.
+/// So many bytes that trap wherever they are touched.
+pub fn untouchable(len: usize) -> *const u8 {
+    let flags = PRIVATE_AND_ANONYMOUS | NOT_RESERVED;
+    let at = unsafe { mmap(null_mut(), len, NOTHING, flags, -1, 0) };
+    assert!(at as isize != -1, "no memory");
+    at as *const u8
+}
+
+/// So many bytes that may be touched, or only read; the page before and the page after trap.
 pub struct Region {
     first: *mut u8,
     size: usize,
     start: usize,
     len: usize,
     filling: u16,
+    may: c_int,
 }
 
 impl Region {
@@ -48,6 +59,22 @@ impl Region {
             start: 0,
             len: 0,
             filling: 0,
+            may: READ_AND_WRITE,
+        }
+    }
+
+    /// From now on a write to it traps, until it is filled again.
+    pub fn only_reads(&mut self) {
+        self.allow(READ);
+    }
+
+    fn allow(&mut self, may: c_int) {
+        if self.may != may {
+            assert_eq!(
+                unsafe { mprotect(self.first as *mut c_void, self.size, may) },
+                0
+            );
+            self.may = may;
         }
     }
 
@@ -71,6 +98,7 @@ impl Region {
     /// So many bytes of noise, with noise beside them. `lies` is as in a case.
     pub fn fill(&mut self, len: usize, lies: u8, noise: &Noise, filling: u16) -> *mut u8 {
         assert!(len + 2 * GUARD <= self.size);
+        self.allow(READ_AND_WRITE);
         self.start = match lies {
             0 => self.size - len,
             1 => 0,

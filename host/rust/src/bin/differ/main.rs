@@ -20,7 +20,7 @@ use std::time::{Instant, SystemTime, UNIX_EPOCH};
 
 use archive::Archive;
 use case::Case;
-use expected::{expected, Outcome};
+use expected::{expected, refused, Outcome};
 use tally::Tally;
 
 const USAGE: &str = "usage: differ [COUNT] [--seed SEED] [--from INDEX] | differ again 'CASE'";
@@ -68,7 +68,9 @@ fn main() -> ExitCode {
 /// The difference, if there is one.
 fn difference(archive: &mut Archive, case: &Case) -> (Outcome, Option<String>) {
     let right = expected(case, &archive.noise);
-    let wrong = match archive.call(case) {
+    let number = refused(&right.answer);
+    trap::in_call(case.call, number);
+    let wrong = match archive.call(case, number != 0) {
         Ok(got) if got == right => None,
         Ok(got) => Some(told(&got, &right)),
         Err(touched) => Some(touched),
@@ -129,6 +131,7 @@ fn again(text: &str) -> ExitCode {
             return ExitCode::from(2);
         }
     };
+    trap::set(0);
     match difference(&mut Archive::new(), &case) {
         (right, None) => {
             println!("no difference; answer {:?}", right.answer);
@@ -147,19 +150,17 @@ fn run(asked: &Asked) -> ExitCode {
     let mut archive = Archive::new();
     let mut tally = Tally::default();
     let began = Instant::now();
-    // Those of the greatest sizes come last, and not where the run starts within.
-    let greatest = match from {
-        None => make::greatest(),
-        Some(_) => Vec::new(),
-    };
+    // Those that random ones seldom meet come last, and not where the run starts within.
+    let whole = from.is_none();
+    let last = if whole { make::last() } else { Vec::new() };
     let from = from.unwrap_or(0);
     trap::set(seed);
-    let drawn = (from..from + count.saturating_sub(greatest.len() as u64)).map(|index| {
+    let drawn = (from..from + count.saturating_sub(last.len() as u64)).map(|index| {
         trap::at(index);
         make::case(seed, index)
     });
-    let greatest = greatest.into_iter().inspect(|_| trap::at(trap::GREATEST));
-    for case in drawn.chain(greatest) {
+    let last = last.into_iter().inspect(|_| trap::at(trap::LAST));
+    for case in drawn.chain(last) {
         let (right, wrong) = difference(&mut archive, &case);
         let other = case.call.expects() && case.expected != case.edition();
         let agreeing = other.then(|| expected(&case.agreeing(), &archive.noise));
@@ -174,12 +175,31 @@ fn run(asked: &Asked) -> ExitCode {
         }
     }
     tally.print();
+    let mut wrong = Vec::new();
+    if whole {
+        let not_met = tally.not_met().into_iter();
+        wrong.extend(not_met.map(|refusal| format!("not met: {refusal}")));
+        match archive.long_lists() {
+            Ok(calls) => println!(
+                "{calls} calls with a list of {} entries that may not be touched, refused at once",
+                archive::ENTRIES
+            ),
+            Err(told) => wrong.push(told),
+        }
+    }
     let seconds = began.elapsed().as_secs_f64();
     let total = tally.total();
     println!(
         "{seconds:.1} s, {:.0} calls a second, seed {seed}",
         total as f64 / seconds
     );
+    for told in &wrong {
+        println!("{told}");
+    }
+    if !wrong.is_empty() {
+        println!("{total} calls compared, 0 differences, and what stands above");
+        return ExitCode::FAILURE;
+    }
     println!("{total} calls compared, 0 differences");
     ExitCode::SUCCESS
 }

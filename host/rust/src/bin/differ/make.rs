@@ -1,6 +1,7 @@
 //! Cases: random and hostile, for every call.
 
 mod lists;
+mod refusals;
 mod schedules;
 mod states;
 mod tables;
@@ -127,8 +128,9 @@ fn slots(r: &mut Random, due: usize) -> usize {
     }
 }
 
-/// Cases that random ones seldom meet: the greatest sizes, a run that idles from the first cycle to the last, and lists from every start.
-pub fn greatest() -> Vec<Case> {
+/// Cases that random ones seldom meet or may miss: the greatest sizes, a run that idles from the first cycle to the last, lists from every
+/// start, and every refusal of every call.
+pub fn last() -> Vec<Case> {
     let table = |t: &model::desk::Table| model::house::bytes_of(t);
     let mut cases = Vec::new();
     let mut sixteen = TABLE_A;
@@ -179,6 +181,7 @@ pub fn greatest() -> Vec<Case> {
     idles.state[BANKS] = 1;
     cases.push(idles);
     cases.extend(over_the_last_bank());
+    cases.extend(refusals::all());
     cases
 }
 

@@ -58,13 +58,26 @@ impl Tally {
         }
     }
 
+    /// The refusals that were not met, in words.
+    pub fn not_met(&self) -> Vec<String> {
+        let mut all = Vec::new();
+        for (at, (call, name)) in CALLS.iter().enumerate() {
+            for &number in call.refusals() {
+                if self.refused[at][number] == 0 {
+                    all.push(format!("{name} by {number}"));
+                }
+            }
+        }
+        all
+    }
+
     pub fn total(&self) -> u64 {
         self.calls.iter().sum()
     }
 
     pub fn print(&self) {
         println!(
-            "{:22}{:>9}{:>9}  refused, by number",
+            "{:22}{:>9}{:>9}  refused with all that was lent in read-only pages, by number",
             "", "calls", "not ref."
         );
         for (at, (_, name)) in CALLS.iter().enumerate() {

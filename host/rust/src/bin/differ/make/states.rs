@@ -57,18 +57,16 @@ fn change_one(r: &mut Random, s: &mut State) {
         _ => BANKS + r.below(64),
     };
     let near = [s[CYCLE].wrapping_sub(1), s[CYCLE], s[CYCLE].wrapping_add(1)];
-    s[i] = match r.below(6) {
+    s[i] = match r.below(7) {
         0 => u32::MAX,
         1 => r.edge(),
         2 => r.of_these(&near),
         3 => s[i].wrapping_add(1),
         4 => s[i].wrapping_sub(1),
+        // In its edition and in a bank's `opened` all 32 bits count.
+        5 => s[i] ^ 1 << r.below(32),
         _ => r.range(0, near[1].min(1_000_000)),
     };
-    s[EDITION] &= 0xffff;
-    if (BANKS..LAST).contains(&i) && (i - BANKS) % 4 == 0 {
-        s[i] &= 0xff;
-    }
 }
 
 /// Any numbers that number 9 has nothing against, but for the counts perhaps.
@@ -81,7 +79,7 @@ fn plausible(r: &mut Random, table: &Table, case: &Case) -> State {
         }
     }
     for opened in s[BANKS..LAST].iter_mut().step_by(4) {
-        *opened = r.of_these(&[0, 0, 1, 1, 2, 255]);
+        *opened = r.of_these(&[0, 0, 1, 1, 2, 255, 256, 1 << 16, 1 << 31]);
     }
     let list = case.records();
     let acts: usize = list.iter().map(|x| usize::from(x[2])).sum();
@@ -97,11 +95,6 @@ fn plausible(r: &mut Random, table: &Table, case: &Case) -> State {
 fn arbitrary(r: &mut Random) -> State {
     let mut s = [0; 74];
     s.iter_mut().for_each(|n| *n = r.u32());
-    s[EDITION] &= 0xffff;
-    s[BANKS..LAST]
-        .iter_mut()
-        .step_by(4)
-        .for_each(|n| *n &= 0xff);
     s
 }
 
@@ -123,12 +116,8 @@ fn some(r: &mut Random, table: &Table, case: &Case) -> State {
     // What is kept past the table's banks is nobody's.
     if r.one_in(2) {
         let past = BANKS + 4 * usize::from(table[1]);
-        for (i, n) in s.iter_mut().enumerate().take(LAST).skip(past) {
-            *n = if (i - BANKS) % 4 == 0 {
-                r.u8().into()
-            } else {
-                r.u32()
-            };
+        for n in &mut s[past..LAST] {
+            *n = r.u32() >> r.below(32);
         }
     }
     if r.one_in(8) {

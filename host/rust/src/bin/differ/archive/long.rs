@@ -1,0 +1,114 @@
+//! Lists of 100,000,000 entries in memory that may not be touched. A refusal that no entry decides comes at once, and reads none.
+
+use std::time::{Duration, Instant};
+
+use model::house::{bytes_of, TABLE_A};
+use skvorzhan::raw::*;
+
+use super::{controller, numbers, verdict, Archive};
+use crate::case::{fresh, Call, Case};
+use crate::lent::untouchable;
+use crate::trap;
+
+pub const ENTRIES: usize = 100_000_000;
+
+/// A loop over the list, even one that reads nothing, would take longer.
+const AT_ONCE: Duration = Duration::from_millis(10);
+
+/// Each call that is lent a list, with the number that its length is refused by.
+const LENT_A_LIST: [(Call, usize); 8] = [
+    (Call::ReadTransactions, 3),
+    (Call::Schedule, 3),
+    (Call::ScheduleBytes, 3),
+    (Call::Judge, 7),
+    (Call::JudgePattern, 7),
+    (Call::Run, 3),
+    (Call::Step, 3),
+    (Call::RunBytes, 3),
+];
+
+impl Archive {
+    /// How many calls were made, or what was wrong with one.
+    pub fn long_lists(&mut self) -> Result<usize, String> {
+        trap::at(trap::LONG);
+        let list = untouchable(4 * ENTRIES);
+        let right = bytes_of(&TABLE_A);
+        let mut ccd_1 = right.clone();
+        ccd_1[6] = 1;
+        let mut calls = 0;
+        for (call, by_length) in LENT_A_LIST {
+            for (table, expected, number) in [
+                (&right[..31], 7, 1),
+                (&ccd_1, 7, 2),
+                (&right, 8, 10),
+                (&right, 7, by_length),
+            ] {
+                trap::in_call(call, number);
+                let mut case = Case::new(call);
+                case.table = table.to_vec();
+                case.expected = expected;
+                let mut least = Duration::MAX;
+                for _ in 0..3 {
+                    let (answer, took) = self.refused_unread(&case, list);
+                    if answer[0] as usize != number {
+                        let name = call.name();
+                        return Err(format!(
+                            "{name} with a list of {ENTRIES} entries: {answer:?}"
+                        ));
+                    }
+                    least = least.min(took);
+                    calls += 1;
+                }
+                if least > AT_ONCE {
+                    let name = call.name();
+                    return Err(format!(
+                        "{name}, refused by {number}, took {least:?} for a list of {ENTRIES} entries"
+                    ));
+                }
+            }
+        }
+        Ok(calls)
+    }
+
+    /// With everything else that is lent in read-only pages.
+    fn refused_unread(&mut self, case: &Case, list: *const u8) -> (Vec<u32>, Duration) {
+        let noise = &self.noise;
+        let (e, tn) = (case.expected, case.table.len());
+        let t = self.table.hold(&case.table, 0, noise, 0);
+        let (room, slots) = (
+            self.room.fill(64, 0, noise, 0),
+            self.slots.fill(64, 0, noise, 0),
+        );
+        let state: Vec<u8> = fresh(7).iter().flat_map(|n| n.to_le_bytes()).collect();
+        let c = self.state.hold(&state, 0, noise, 0) as *mut Controller;
+        for region in [
+            &mut self.table,
+            &mut self.room,
+            &mut self.slots,
+            &mut self.state,
+        ] {
+            region.only_reads();
+        }
+        let (xs, finishes) = (list as *const Transaction, slots as *mut u32);
+        let places = slots as *mut Transaction;
+        let (n, bytes, by_value) = (ENTRIES, 4 * ENTRIES, controller(&fresh(7)));
+        let began = Instant::now();
+        let answer = unsafe {
+            match case.call {
+                Call::ReadTransactions => {
+                    numbers(skv_read_transactions(e, t, tn, list, bytes, places, 16))
+                }
+                Call::Schedule => numbers(skv_schedule(e, t, tn, xs, n, room, 64, finishes, 16)),
+                Call::ScheduleBytes => numbers(skv_schedule_bytes(
+                    e, t, tn, list, bytes, room, 64, finishes, 16,
+                )),
+                Call::Judge => verdict(skv_judge(e, t, tn, list, bytes)),
+                Call::JudgePattern => verdict(skv_judge_pattern(e, t, tn, list, bytes, 9)),
+                Call::Run => numbers(skv_run(c, e, t, tn, xs, n, 9, room, 64)),
+                Call::Step => numbers(skv_step(c, e, t, tn, xs, n, room, 64)),
+                _ => numbers(skv_run_bytes(by_value, e, t, tn, list, bytes, 9, room, 64).answer),
+            }
+        };
+        (answer, began.elapsed())
+    }
+}
