@@ -27,8 +27,9 @@
  * The position is 0 but for numbers 4 and 10. The edition of an answer is the table's; it is 0 where no table is given, and for refusals 1
  * and 2.
  *
- * What a caller owes: each pointer points to that many elements (never NULL, even where the number is 0), aligned for its type; what is lent
- * for writing overlaps nothing else that is lent in the same call; and nobody else writes to what is lent while the call runs.
+ * What a caller owes: each pointer points to that many elements, aligned for its type; what is lent for writing overlaps nothing else that is
+ * lent in the same call; and nobody else writes to what is lent while the call runs. A pointer is never NULL, even where the number is 0: for
+ * that the archive promises nothing.
  * The calls keep nothing: no state beside the controller that is lent, no allocation, no output. They may be made from several threads at once.
  *
  * Numbers in bytes are little-endian.
@@ -53,7 +54,8 @@ extern "C" {
 #define SKV_NEVER 4294967295u
 
 /* refused: 0, or the number of the refusal; then count and cycles are 0.
- * count: commands written, transactions read, or the bound. cycles: cycles run (skv_run, skv_step and skv_run_bytes alone). */
+ * count: commands written (skv_schedule, skv_schedule_bytes, skv_run, skv_step, skv_run_bytes), transactions read (skv_read_transactions), or
+ * the bound (skv_bound); else 0, for skv_write_command too. cycles: cycles run (skv_run, skv_step and skv_run_bytes); else 0. */
 typedef struct skv_answer {
     uint32_t refused;
     uint32_t position;
@@ -115,7 +117,9 @@ typedef struct skv_transaction {
     uint8_t bc;    /* data commands to each */
 } skv_transaction;
 
-/* A bank: open unless opened is 0; the cycles of its last ACT and of the last RD and WR since. */
+/* A bank: open unless opened is 0; the cycles of its last ACT and of the last RD and WR since. In the bank that it goes to, each ACT, RD and WR
+ * writes 1 to opened and each RDA and WRA 0, whatever number stood there: after an RD, 1 stands where 3 was handed in. A bank that no command
+ * goes to keeps its number. */
 typedef struct skv_bank {
     uint32_t opened;
     uint32_t act;
@@ -124,7 +128,7 @@ typedef struct skv_bank {
 } skv_bank;
 
 /* A running controller. Any bits are one; what number 9 says of them is checked by the calls. Of the banks only the table's are read or
- * changed. The bytes between the fields hold nothing, and may come back as others. */
+ * changed. No byte lies between the fields: it is 74 numbers in 296 bytes. */
 typedef struct skv_controller {
     uint32_t edition;
     uint32_t cycle; /* the next to be tried */
@@ -150,13 +154,14 @@ skv_answer skv_write_table(skv_numbers numbers, uint8_t *out, size_t out_len);
 /* Checks 3 (not 4 bytes), 4 (out of range, banks counting as 16; position 0). Answers the four numbers. */
 skv_transaction_answer skv_read_transaction(const uint8_t *bytes, size_t bytes_len);
 
-/* Checks 3 (out is not 4 bytes), 4 (as skv_read_transaction). Writes the 4 bytes of the transaction. */
+/* Checks 3 (out is not 4 bytes), 4 (as skv_read_transaction). Writes the 4 bytes of the transaction. count is 0. */
 skv_answer skv_write_transaction(uint8_t kind, uint8_t start, uint8_t bi, uint8_t bc, uint8_t *out, size_t out_len);
 
 /* Checks 7 (not 8 bytes). Any 8 bytes are a command. */
 skv_command_answer skv_read_command(const uint8_t *bytes, size_t bytes_len);
 
-/* Checks 5 (out under 8 bytes). Writes the 8 bytes of the command; any numbers are one. Bytes of out beyond the eighth stay as they stood. */
+/* Checks 5 (out under 8 bytes). Writes the 8 bytes of the command; any numbers are one. Bytes of out beyond the eighth stay as they stood. count
+ * is 0. */
 skv_answer skv_write_command(uint32_t cycle, uint8_t kind, uint8_t bank, uint16_t number, uint8_t *out, size_t out_len);
 
 /* Checks 1, 2, 10, 3 (bytes not a multiple of 4, over 256 transactions, or more than list has places), 4. Writes the transactions into list;

@@ -1,8 +1,10 @@
-//! What an ordinary Rust program would do for a schedule and a verdict: state per bank, the latest RD and WR of all, no proof.
+//! What an ordinary Rust program would do for a schedule, a step and a verdict: state per bank, the latest RD and WR of all, no proof.
 
 mod judge;
+mod step;
 
 pub use judge::judge;
+pub use step::step;
 
 use model::desk::Transaction;
 
@@ -60,6 +62,12 @@ impl Times {
             distances: [[ccd, turn_to_write], [turn_to_read, ccd]],
             to_finish: [rl + b, 0],
         })
+    }
+
+    /// Whether the table admits the transaction.
+    fn admits(&self, x: &Transaction) -> bool {
+        let counts = |n: u8| (1..=16).contains(&n);
+        x.kind <= 1 && counts(x.bi) && counts(x.bc) && x.start < self.banks && x.bi <= self.banks
     }
 
     /// The bank that comes so many after the start; bank 0 comes after the last.
@@ -160,16 +168,12 @@ pub fn schedule(
     by_cycles: bool,
 ) -> Option<usize> {
     let t = &Times::read(expected, table)?;
-    let counts = |n: u8| (1..=16).contains(&n);
-    let legal = |x: &Transaction| {
-        x.kind <= 1 && counts(x.bi) && counts(x.bc) && x.start < t.banks && x.bi <= t.banks
-    };
     let due: usize = list
         .iter()
         .map(|x| usize::from(x.bi) * (1 + usize::from(x.bc)))
         .sum();
     if list.len() > 256
-        || !list.iter().all(legal)
+        || !list.iter().all(|x| t.admits(x))
         || room.len() < 8 * due
         || finishes.len() < list.len()
     {
@@ -228,13 +232,40 @@ pub fn schedule(
             gone
         };
         let place = places.next()?;
-        place[..4].copy_from_slice(&(at as u32).to_le_bytes());
-        place[4] = kind;
-        place[5] = bank;
-        place[6..].copy_from_slice(&(number as u16).to_le_bytes());
+        put(place, at, kind, bank, number);
         cycle = at + 1;
     }
     Some(due)
+}
+
+/// The same from the transactions' bytes.
+pub fn schedule_bytes(
+    expected: u16,
+    table: &[u8],
+    bytes: &[u8],
+    room: &mut [u8],
+    finishes: &mut [u32],
+    by_cycles: bool,
+) -> Option<usize> {
+    if bytes.len() % 4 != 0 {
+        return None;
+    }
+    let one = |x: &[u8]| Transaction {
+        kind: x[0],
+        start: x[1],
+        bi: x[2],
+        bc: x[3],
+    };
+    let list: Vec<Transaction> = bytes.chunks_exact(4).map(one).collect();
+    schedule(expected, table, &list, room, finishes, by_cycles)
+}
+
+/// A command's 8 bytes.
+fn put(place: &mut [u8], cycle: i64, kind: u8, bank: u8, number: usize) {
+    place[..4].copy_from_slice(&(cycle as u32).to_le_bytes());
+    place[4] = kind;
+    place[5] = bank;
+    place[6..].copy_from_slice(&(number as u16).to_le_bytes());
 }
 
 #[cfg(test)]

@@ -23,6 +23,65 @@ fn list(numbers: &mut Numbers, banks: usize, size: usize) -> Vec<Transaction> {
     (0..size).map(|_| one()).collect()
 }
 
+/// A controller as the host keeps it.
+fn plain(c: &desk::Controller) -> skvorzhan::Controller {
+    skvorzhan::Controller {
+        edition: c.edition,
+        cycle: c.cycle,
+        acts: c.acts,
+        datas: c.datas,
+        banks: c.banks.map(|b| skvorzhan::HostBank {
+            opened: b.opened,
+            act: b.act,
+            rd: b.rd,
+            wr: b.wr,
+        }),
+        last: c.last,
+        rd: c.rd,
+        wr: c.wr,
+    }
+}
+
+/// Lists served step by step, with a number of the controller changed now and then.
+#[test]
+fn steps_as_the_model_says() {
+    let mut numbers = Numbers(5);
+    let mut tables = vec![TABLE_A, TABLE_B, TABLE_C, LEAST, GREATEST];
+    tables.extend(ODD);
+    let mut told = [0; 3];
+    for round in 0..300 {
+        let t = tables[round % tables.len()];
+        let (edition, table) = (t[0], bytes_of(&t));
+        let list = list(&mut numbers, t[1].into(), round % 6);
+        let (_, mut right) = desk::start(edition, &table);
+        for _ in 0..numbers.below(300) {
+            let bank = numbers.below(16);
+            match numbers.below(400) {
+                0 => right.acts += 1,
+                1 => right.datas += 1,
+                2 => right.banks[bank].rd = right.cycle,
+                3 => right.banks[bank].opened ^= 256,
+                4 => right.last[3] = right.cycle.saturating_sub(1),
+                5 => right.edition ^= 1 << 16,
+                _ => (),
+            }
+            let mut own = plain(&right);
+            let size = if numbers.below(50) == 0 { 7 } else { 8 };
+            let (mut room, mut own_room) = ([9; 8], [9; 8]);
+            let answer = desk::step(&mut right, edition, &table, &list, &mut room[..size]);
+            let own_answer = step(&mut own, edition, &table, &list, &mut own_room[..size]);
+            let commands = answer.ok().map(|ran| ran.commands as usize);
+            assert_eq!((own_answer, &own), (commands, &plain(&right)));
+            assert_eq!(own_room, room);
+            told[commands.unwrap_or(2)] += 1;
+            if commands.is_none() {
+                break;
+            }
+        }
+    }
+    assert!(told.iter().all(|&n| n > 50), "{told:?}");
+}
+
 /// Built schedules, and judged ones with a byte changed.
 #[test]
 fn as_the_model_says() {

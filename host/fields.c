@@ -1,0 +1,189 @@
+/* Every field of every struct, and every parameter of every call, with a value of its own, through the archive. Were two of them in another
+ * order here than in the archive, some value would come back elsewhere. Ends with status 1 and the line where one does. */
+#include <stdio.h>
+#include <string.h>
+
+#include "skvorzhan.h"
+
+#define EDITION 4660
+
+static const skv_numbers numbers = {{EDITION, 16, 4, 5, 11, 12, 28, 41, 6, 155, 13, 10, 7, 14, 3, 0}};
+static const uint8_t table[32] = {0x34, 0x12, 16, 0, 4,  0, 5,  0, 11, 0, 12, 0, 28, 0, 41, 0,
+                                  6,    0,    155, 0, 13, 0, 10, 0, 7,  0, 14, 0, 3,  0, 0,  0};
+
+static int wrong;
+
+static void must(int holds, int line, const char *what) {
+    if (holds) return;
+    fprintf(stderr, "fields.c, line %d: not so: %s\n", line, what);
+    wrong = 1;
+}
+
+#define MUST(holds) must(holds, __LINE__, #holds)
+
+static int same(const void *a, const void *b, size_t n) { return memcmp(a, b, n) == 0; }
+
+static int is(skv_answer a, uint32_t refused, uint32_t position, uint32_t edition, uint32_t count, uint32_t cycles) {
+    return a.refused == refused && a.position == position && a.edition == edition && a.count == count && a.cycles == cycles;
+}
+
+static int says(skv_verdict_answer a, uint32_t refused, uint32_t position, uint32_t edition, uint32_t rule, uint32_t copy, uint32_t record) {
+    return a.refused == refused && a.position == position && a.edition == edition && a.rule == rule && a.copy == copy && a.record == record;
+}
+
+static void put(uint8_t *out, uint32_t cycle, uint8_t kind, uint8_t bank, uint16_t number) {
+    const uint8_t bytes[8] = {(uint8_t)cycle, (uint8_t)(cycle >> 8), (uint8_t)(cycle >> 16), (uint8_t)(cycle >> 24),
+                              kind,           bank,                  (uint8_t)number,        (uint8_t)(number >> 8)};
+    memcpy(out, bytes, 8);
+}
+
+static void one_record(void) {
+    uint8_t out[32];
+    MUST(is(skv_write_table(numbers, out, 32), 0, 0, EDITION, 0, 0) && same(out, table, 32));
+    MUST(is(skv_write_table(numbers, out, 31), 1, 0, 0, 0, 0));
+    skv_table_answer t = skv_read_table(table, 32);
+    MUST(t.refused == 0 && t.position == 0 && t.edition == EDITION && same(t.numbers, numbers.numbers, 32));
+    t = skv_read_table(table, 31);
+    MUST(t.refused == 1 && t.position == 0 && t.edition == 0 && t.numbers[0] == 0);
+
+    const uint8_t four[4] = {1, 2, 3, 4};
+    MUST(is(skv_write_transaction(1, 2, 3, 4, out, 4), 0, 0, 0, 0, 0) && same(out, four, 4));
+    MUST(is(skv_write_transaction(1, 2, 3, 4, out, 5), 3, 0, 0, 0, 0));
+    skv_transaction_answer x = skv_read_transaction(four, 4);
+    MUST(x.refused == 0 && x.position == 0 && x.edition == 0 && x.kind == 1 && x.start == 2 && x.bi == 3 && x.bc == 4);
+    MUST(skv_read_transaction(four, 3).refused == 3);
+
+    uint8_t eight[8];
+    put(eight, 0x12345678, 3, 9, 0xabcd);
+    MUST(is(skv_write_command(0x12345678, 3, 9, 0xabcd, out, 8), 0, 0, 0, 0, 0) && same(out, eight, 8));
+    MUST(is(skv_write_command(0x12345678, 3, 9, 0xabcd, out, 7), 5, 0, 0, 0, 0));
+    skv_command_answer c = skv_read_command(eight, 8);
+    MUST(c.refused == 0 && c.position == 0 && c.edition == 0);
+    MUST(c.cycle == 0x12345678 && c.kind == 3 && c.bank == 9 && c.number == 0xabcd);
+    MUST(skv_read_command(eight, 7).refused == 7);
+}
+
+static void lists(void) {
+    const uint8_t bytes[12] = {1, 2, 3, 4, 0, 5, 6, 7, 0, 16, 1, 1};
+    const skv_transaction first = {.kind = 1, .start = 2, .bi = 3, .bc = 4}, second = {.kind = 0, .start = 5, .bi = 6, .bc = 7};
+    const skv_transaction third = {.kind = 0, .start = 16, .bi = 1, .bc = 1}, untouched = {9, 9, 9, 9};
+    skv_transaction list[3] = {untouched, untouched, untouched};
+    MUST(is(skv_read_transactions(EDITION, table, 32, bytes, 8, list, 3), 0, 0, EDITION, 2, 0));
+    MUST(same(&list[0], &first, 4) && same(&list[1], &second, 4) && same(&list[2], &untouched, 4));
+    MUST(is(skv_read_transactions(EDITION, table, 32, bytes, 8, list, 1), 3, 0, EDITION, 0, 0));
+    MUST(is(skv_read_transactions(EDITION, table, 32, bytes, 12, list, 3), 4, 2, EDITION, 0, 0));
+    MUST(is(skv_read_transactions(1, table, 32, bytes, 8, list, 3), 10, EDITION, EDITION, 0, 0));
+
+    /* 3 x 5 and 6 x 8 commands. */
+    uint8_t commands[8 * 63], again[8 * 63], start[8];
+    uint32_t finishes[3] = {9, 9, 9}, same_finishes[3] = {9, 9, 9};
+    MUST(is(skv_schedule(EDITION, table, 32, list, 2, commands, sizeof commands, finishes, 3), 0, 0, EDITION, 63, 0));
+    MUST(is(skv_schedule_bytes(EDITION, table, 32, bytes, 8, again, sizeof again, same_finishes, 3), 0, 0, EDITION, 63, 0));
+    put(start, 0, 0, 2, 0);
+    MUST(same(commands, start, 8) && same(commands, again, sizeof commands) && same(finishes, same_finishes, sizeof finishes));
+    skv_command_answer last = skv_read_command(commands + 8 * 62, 8);
+    MUST(last.kind == 2 && last.bank == 10 && last.number == 1 && finishes[1] == last.cycle + 13 + 4 && finishes[2] == 9);
+    list[2] = third;
+    MUST(is(skv_schedule(EDITION, table, 32, list, 3, commands, sizeof commands, finishes, 3), 4, 2, EDITION, 0, 0));
+    MUST(is(skv_schedule(EDITION, table, 32, list, 2, commands, 8 * 63 - 1, finishes, 3), 5, 0, EDITION, 0, 0));
+    MUST(is(skv_schedule(EDITION, table, 32, list, 2, commands, sizeof commands, finishes, 1), 6, 0, EDITION, 0, 0));
+    MUST(is(skv_schedule_bytes(EDITION, table, 32, bytes, 12, commands, sizeof commands, finishes, 3), 4, 2, EDITION, 0, 0));
+    MUST(is(skv_schedule_bytes(EDITION, table, 32, bytes, 8, commands, 8 * 63 - 1, finishes, 3), 5, 0, EDITION, 0, 0));
+    MUST(is(skv_schedule_bytes(EDITION, table, 32, bytes, 8, commands, sizeof commands, finishes, 1), 6, 0, EDITION, 0, 0));
+    /* By the second limit of document 01: S + RCD is 155, to which come D + 1 = 40 for each further bank
+     * and CCD = 5 for each further burst. */
+    MUST(is(skv_bound(EDITION, table, 32, 4, 2), 0, 0, EDITION, 155 + 3 * 40 + 5, 0));
+    MUST(is(skv_bound(EDITION, table, 32, 2, 4), 0, 0, EDITION, 155 + 40 + 3 * 5, 0));
+}
+
+static void verdicts(void) {
+    uint8_t schedule[32], pattern[48];
+    put(schedule, 0, 0, 0, 0);
+    put(schedule + 8, 11, 2, 0, 0);
+    put(schedule + 16, 20, 0, 1, 1);
+    put(schedule + 24, 25, 2, 1, 1); /* nearer to its ACT than RCD */
+    MUST(says(skv_judge(EDITION, table, 32, schedule, 32), 0, 0, EDITION, 8, 0, 3));
+    MUST(says(skv_judge(EDITION, table, 32, schedule, 31), 7, 0, EDITION, 0, 0, 0));
+    MUST(says(skv_judge(1, table, 32, schedule, 32), 10, EDITION, EDITION, 0, 0, 0));
+    for (uint8_t bank = 0; bank < 3; bank++) {
+        put(pattern + 8 * bank, 6u * bank, 0, bank, bank);
+        put(pattern + 24 + 8 * bank, 17 + 5u * bank, 2, bank, bank);
+    }
+    /* The second ACT of copy 2 is the first with four before it. */
+    MUST(says(skv_judge_pattern(EDITION, table, 32, pattern, 48, 60), 0, 0, EDITION, 7, 2, 1));
+    MUST(says(skv_judge_pattern(EDITION, table, 32, pattern, 48, 0), 8, 0, EDITION, 0, 0, 0));
+    MUST(says(skv_judge_pattern(1, table, 32, pattern, 48, 60), 10, EDITION, EDITION, 0, 0, 0));
+}
+
+static const skv_transaction two[2] = {{.kind = 1, .start = 3, .bi = 1, .bc = 2}, {.kind = 0, .start = 9, .bi = 1, .bc = 2}};
+static const uint8_t two_bytes[8] = {1, 3, 1, 2, 0, 9, 1, 2};
+
+/* All numbers differ. The list's ACTs go to banks 3 and 9, its data commands are WR, WRA to bank 3, RD, RDA to bank 9. */
+static skv_controller running(uint32_t acts, uint32_t datas) {
+    skv_controller c = {.edition = EDITION, .cycle = 1000, .acts = acts, .datas = datas, .rd = 400, .wr = 401};
+    for (uint32_t k = 0; k < 16; k++) c.banks[k] = (skv_bank){.opened = 500 + k, .act = 100 + 10 * k, .rd = 101 + 10 * k, .wr = 102 + 10 * k};
+    for (uint32_t k = 0; k < 4; k++) c.last[k] = 300 + k;
+    return c;
+}
+
+/* One cycle from c, by each call: it writes that command, and leaves want. */
+static void goes(skv_controller c, skv_controller want, uint8_t kind, uint8_t bank, uint16_t number) {
+    uint8_t room[8], right[8];
+    put(right, 1000, kind, bank, number);
+    skv_controller lent = c;
+    MUST(is(skv_step(&lent, EDITION, table, 32, two, 2, room, 8), 0, 0, EDITION, 1, 1));
+    MUST(same(&lent, &want, sizeof want) && same(room, right, 8));
+    lent = c;
+    memset(room, 0, 8);
+    MUST(is(skv_run(&lent, EDITION, table, 32, two, 2, 1, room, 8), 0, 0, EDITION, 1, 1));
+    MUST(same(&lent, &want, sizeof want) && same(room, right, 8));
+    memset(room, 0, 8);
+    skv_controller_answer a = skv_run_bytes(c, EDITION, table, 32, two_bytes, 8, 1, room, 8);
+    MUST(is(a.answer, 0, 0, EDITION, 1, 1) && same(&a.controller, &want, sizeof want) && same(room, right, 8));
+    /* Another edition, and a stored cycle that is not before its own: all stays. */
+    c.edition += 65536;
+    a = skv_run_bytes(c, EDITION, table, 32, two_bytes, 8, 1, room, 8);
+    MUST(is(a.answer, 9, 0, EDITION, 0, 0) && same(&a.controller, &c, sizeof c));
+}
+
+static void running_controllers(void) {
+    skv_controller_answer fresh = skv_start(EDITION, table, 32);
+    skv_controller c = {.edition = EDITION, .rd = SKV_NEVER, .wr = SKV_NEVER}, want;
+    for (int k = 0; k < 16; k++) c.banks[k] = (skv_bank){.opened = 0, .act = SKV_NEVER, .rd = SKV_NEVER, .wr = SKV_NEVER};
+    for (int k = 0; k < 4; k++) c.last[k] = SKV_NEVER;
+    MUST(is(fresh.answer, 0, 0, EDITION, 0, 0) && same(&fresh.controller, &c, sizeof c));
+    MUST(is(skv_start(1, table, 32).answer, 10, EDITION, EDITION, 0, 0));
+
+    want = c = running(1, 0); /* WR to bank 3 */
+    want.cycle = 1001, want.datas = 1, want.banks[3].opened = 1, want.banks[3].wr = 1000, want.wr = 1000;
+    goes(c, want, 3, 3, 0);
+    want = c = running(1, 1); /* WRA */
+    want.cycle = 1001, want.datas = 2, want.banks[3].opened = 0, want.banks[3].wr = 1000, want.wr = 1000;
+    goes(c, want, 4, 3, 0);
+    c = running(1, 2);
+    c.banks[9].opened = 0;
+    want = c; /* ACT to bank 9 */
+    want.cycle = 1001, want.acts = 2;
+    want.banks[9] = (skv_bank){.opened = 1, .act = 1000, .rd = SKV_NEVER, .wr = SKV_NEVER};
+    want.last[0] = 1000, want.last[1] = 300, want.last[2] = 301, want.last[3] = 302;
+    goes(c, want, 0, 9, 1);
+    want = c = running(2, 2); /* RD to bank 9 */
+    want.cycle = 1001, want.datas = 3, want.banks[9].opened = 1, want.banks[9].rd = 1000, want.rd = 1000;
+    goes(c, want, 1, 9, 1);
+    want = c = running(2, 3); /* RDA */
+    want.cycle = 1001, want.datas = 4, want.banks[9].opened = 0, want.banks[9].rd = 1000, want.rd = 1000;
+    goes(c, want, 2, 9, 1);
+
+    /* Commands and cycles apart: ACT at 0, WR at RCD, and WRA not yet. */
+    uint8_t room[24];
+    c = fresh.controller;
+    MUST(is(skv_run(&c, EDITION, table, 32, two, 1, 16, room, 24), 0, 0, EDITION, 2, 16));
+}
+
+int main(void) {
+    one_record();
+    lists();
+    verdicts();
+    running_controllers();
+    return wrong;
+}

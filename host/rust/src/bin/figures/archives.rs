@@ -1,0 +1,152 @@
+//! The archives that are measured: the one at hand, and where SKVORZHAN_BEFORE names one from before a change, that too, in the same program:
+//! `build.rs` gives its calls names of their own.
+
+use skvorzhan::raw::{self, Answer, Transaction, VerdictAnswer};
+use skvorzhan::Controller;
+
+#[rustfmt::skip]
+mod types {
+    use super::*;
+
+    pub type Schedule = unsafe extern "C" fn(u16, *const u8, usize, *const Transaction, usize, *mut u8, usize, *mut u32, usize) -> Answer;
+    pub type ScheduleBytes = unsafe extern "C" fn(u16, *const u8, usize, *const u8, usize, *mut u8, usize, *mut u32, usize) -> Answer;
+    pub type Step = unsafe extern "C" fn(*mut Controller, u16, *const u8, usize, *const Transaction, usize, *mut u8, usize) -> Answer;
+    pub type Judge = unsafe extern "C" fn(u16, *const u8, usize, *const u8, usize) -> VerdictAnswer;
+}
+
+#[derive(Clone, Copy)]
+pub struct Archive {
+    /// What is put behind the name of each figure.
+    pub name: &'static str,
+    schedule: types::Schedule,
+    schedule_bytes: types::ScheduleBytes,
+    step: types::Step,
+    judge: types::Judge,
+}
+
+const NOW: Archive = Archive {
+    name: "proved",
+    schedule: raw::skv_schedule,
+    schedule_bytes: raw::skv_schedule_bytes,
+    step: raw::skv_step,
+    judge: raw::skv_judge,
+};
+
+#[cfg(before)]
+#[rustfmt::skip]
+mod before {
+    use super::*;
+
+    extern "C" {
+        fn before_skv_schedule(e: u16, t: *const u8, tn: usize, list: *const Transaction, n: usize, room: *mut u8, rn: usize, f: *mut u32, fnn: usize) -> Answer;
+        fn before_skv_schedule_bytes(e: u16, t: *const u8, tn: usize, list: *const u8, n: usize, room: *mut u8, rn: usize, f: *mut u32, fnn: usize) -> Answer;
+        fn before_skv_step(c: *mut Controller, e: u16, t: *const u8, tn: usize, list: *const Transaction, n: usize, room: *mut u8, rn: usize) -> Answer;
+        fn before_skv_judge(e: u16, t: *const u8, tn: usize, bytes: *const u8, n: usize) -> VerdictAnswer;
+    }
+
+    pub const BEFORE: Archive = Archive {
+        name: "proved, before",
+        schedule: before_skv_schedule,
+        schedule_bytes: before_skv_schedule_bytes,
+        step: before_skv_step,
+        judge: before_skv_judge,
+    };
+}
+
+/// The one at hand first.
+pub fn all() -> Vec<Archive> {
+    #[cfg(before)]
+    return vec![NOW, before::BEFORE];
+    #[cfg(not(before))]
+    vec![NOW]
+}
+
+/// Whether nothing was refused; for a verdict, whether it accepts.
+impl Archive {
+    pub fn schedule(
+        &self,
+        expected: u16,
+        table: &[u8],
+        list: &[Transaction],
+        room: &mut [u8],
+        finishes: &mut [u32],
+    ) -> bool {
+        let (t, x, r, f) = (table, list, room, finishes);
+        let told = unsafe {
+            let (room, finishes) = (r.as_mut_ptr(), f.as_mut_ptr());
+            let list = x.as_ptr();
+            (self.schedule)(
+                expected,
+                t.as_ptr(),
+                t.len(),
+                list,
+                x.len(),
+                room,
+                r.len(),
+                finishes,
+                f.len(),
+            )
+        };
+        told.refused == 0
+    }
+
+    pub fn schedule_bytes(
+        &self,
+        expected: u16,
+        table: &[u8],
+        list: &[u8],
+        room: &mut [u8],
+        finishes: &mut [u32],
+    ) -> bool {
+        let (t, x, r, f) = (table, list, room, finishes);
+        let told = unsafe {
+            let (room, finishes) = (r.as_mut_ptr(), f.as_mut_ptr());
+            let list = x.as_ptr();
+            (self.schedule_bytes)(
+                expected,
+                t.as_ptr(),
+                t.len(),
+                list,
+                x.len(),
+                room,
+                r.len(),
+                finishes,
+                f.len(),
+            )
+        };
+        told.refused == 0
+    }
+
+    /// How many commands went.
+    pub fn step(
+        &self,
+        c: &mut Controller,
+        expected: u16,
+        table: &[u8],
+        list: &[Transaction],
+        room: &mut [u8],
+    ) -> usize {
+        let (t, x, r) = (table, list, room);
+        let told = unsafe {
+            let (list, room) = (x.as_ptr(), r.as_mut_ptr());
+            (self.step)(
+                c,
+                expected,
+                t.as_ptr(),
+                t.len(),
+                list,
+                x.len(),
+                room,
+                r.len(),
+            )
+        };
+        assert_eq!(told.refused, 0);
+        told.count as usize
+    }
+
+    pub fn judge(&self, expected: u16, table: &[u8], schedule: &[u8]) -> bool {
+        let (t, x) = (table, schedule);
+        let told = unsafe { (self.judge)(expected, t.as_ptr(), t.len(), x.as_ptr(), x.len()) };
+        told.refused == 0 && told.rule == 0
+    }
+}

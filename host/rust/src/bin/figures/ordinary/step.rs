@@ -1,0 +1,132 @@
+//! One cycle of a lent controller: all checks, the heads found from the counts, and at most one command.
+
+use model::desk::Transaction;
+use skvorzhan::{Controller, NEVER};
+
+use super::{put, Times, LONG_AGO};
+
+/// A queue's head: the transaction, the bank within it, the burst within that, and the place of its bank's ACT in the ACT queue.
+struct Head<'a> {
+    x: &'a Transaction,
+    number: usize,
+    bank: u8,
+    burst: u8,
+    act: u32,
+}
+
+/// After so many commands have left the queue that has so many for each bank; None where it's empty.
+fn head(
+    list: &[Transaction],
+    gone: u32,
+    for_each: impl Fn(&Transaction) -> u32,
+) -> Option<Head<'_>> {
+    let (mut left, mut act) = (gone, 0);
+    for (number, x) in list.iter().enumerate() {
+        let (banks, each) = (u32::from(x.bi), for_each(x));
+        if left < banks * each {
+            let bank = left / each;
+            return Some(Head {
+                x,
+                number,
+                bank: bank as u8,
+                burst: (left % each) as u8,
+                act: act + bank,
+            });
+        }
+        left -= banks * each;
+        act += banks;
+    }
+    None
+}
+
+fn bursts(x: &Transaction) -> u32 {
+    x.bc.into()
+}
+
+fn stored(cycle: u32) -> i64 {
+    if cycle == NEVER {
+        LONG_AGO
+    } else {
+        cycle.into()
+    }
+}
+
+/// The commands written, or None for a refusal.
+pub fn step(
+    c: &mut Controller,
+    expected: u16,
+    table: &[u8],
+    list: &[Transaction],
+    room: &mut [u8],
+) -> Option<usize> {
+    let t = &Times::read(expected, table)?;
+    if list.len() > 256 || !list.iter().all(|x| t.admits(x)) {
+        return None;
+    }
+    let acts: u32 = list.iter().map(|x| u32::from(x.bi)).sum();
+    let datas: u32 = list.iter().map(|x| u32::from(x.bi) * bursts(x)).sum();
+    let left = acts.saturating_sub(c.acts) + datas.saturating_sub(c.datas);
+    if left > 0 && room.len() < 8 {
+        return None;
+    }
+    let early = |cycle: u32| cycle == NEVER || cycle < c.cycle;
+    let banks = &c.banks[..usize::from(t.banks)];
+    let stamps = banks
+        .iter()
+        .all(|b| early(b.act) && early(b.rd) && early(b.wr))
+        && c.last.iter().all(|&act| early(act))
+        && early(c.rd)
+        && early(c.wr);
+    let counts = c.acts <= acts && c.datas <= datas;
+    if c.cycle >= 100_000_000 || c.edition != expected.into() || !stamps || !counts {
+        return None;
+    }
+    if c.datas > 0 && head(list, c.datas - 1, bursts)?.act >= c.acts {
+        return None;
+    }
+    if left == 0 {
+        return Some(0);
+    }
+    let now = i64::from(c.cycle);
+    c.cycle += 1;
+    if let Some(h) = head(list, c.datas, bursts).filter(|h| h.act < c.acts) {
+        let (bank, writes) = (t.bank(h.x, h.bank), usize::from(h.x.kind));
+        let own = &mut c.banks[usize::from(bank)];
+        let from = (stored(own.act) + t.rcd)
+            .max(stored(c.rd) + t.distances[0][writes])
+            .max(stored(c.wr) + t.distances[1][writes]);
+        if own.opened != 0 && from <= now {
+            let closes = h.burst + 1 == h.x.bc;
+            own.opened = (!closes).into();
+            let (of_bank, of_all) = match writes {
+                0 => (&mut own.rd, &mut c.rd),
+                _ => (&mut own.wr, &mut c.wr),
+            };
+            *of_bank = now as u32;
+            *of_all = now as u32;
+            c.datas += 1;
+            let kind = 1 + 2 * h.x.kind + closes as u8;
+            put(&mut room[..8], now, kind, bank, h.number);
+            return Some(1);
+        }
+    }
+    if let Some(h) = head(list, c.acts, |_| 1) {
+        let bank = t.bank(h.x, h.bank);
+        let own = &mut c.banks[usize::from(bank)];
+        let from = (stored(own.act) + t.act_to_act.max(t.rc))
+            .max(stored(own.rd) + t.rd_to_act)
+            .max(stored(own.wr) + t.wr_to_act)
+            .max(stored(c.last[0]) + t.rrd)
+            .max(stored(c.last[3]) + t.faw);
+        if own.opened == 0 && from <= now {
+            own.opened = 1;
+            own.act = now as u32;
+            (own.rd, own.wr) = (NEVER, NEVER);
+            c.last = [now as u32, c.last[0], c.last[1], c.last[2]];
+            c.acts += 1;
+            put(&mut room[..8], now, 0, bank, h.number);
+            return Some(1);
+        }
+    }
+    Some(0)
+}
