@@ -158,12 +158,24 @@ fn code_below(folder: &Path, text: &mut String) {
     }
 }
 
+fn alike(where_else: &str, other: &Said, raw: &Said) {
+    for (name, said) in raw {
+        assert_eq!(other.get(name), Some(said), "{name}, in {where_else}");
+    }
+    let more: Vec<_> = other
+        .keys()
+        .filter(|name| !raw.contains_key(*name))
+        .collect();
+    assert!(more.is_empty(), "only in {where_else}: {more:?}");
+}
+
 #[test]
-fn alike() {
+fn three_texts() {
     let raw = said_in(&read(&root().join("host/rust/src/raw.rs")));
     assert_eq!(raw.len(), 16 + 10);
-    assert_eq!(said_in_header(&read(&root().join("host/skvorzhan.h"))), raw);
+    let header = said_in_header(&read(&root().join("host/skvorzhan.h")));
+    alike("skvorzhan.h", &header, &raw);
     let mut code = String::new();
     code_below(&root().join("crates"), &mut code);
-    assert_eq!(said_in(&code), raw);
+    alike("the Rattle code", &said_in(&code), &raw);
 }
