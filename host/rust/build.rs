@@ -19,7 +19,6 @@ fn main() {
     for name in ["ARCHIVE", "SUM", "BEFORE", "SUM_BEFORE", "OBJCOPY"] {
         println!("cargo:rerun-if-env-changed=SKVORZHAN_{name}");
     }
-    println!("cargo:rustc-check-cfg=cfg(before)");
     let archive = match env::var_os("SKVORZHAN_ARCHIVE") {
         Some(file) => PathBuf::from(file),
         None => Path::new(&env::var_os("CARGO_MANIFEST_DIR").expect("cargo sets it"))

@@ -1,6 +1,9 @@
 //! The archives that are measured: the one at hand, and where SKVORZHAN_BEFORE names one from before a change, that too, in the same program:
 //! `build.rs` gives its calls names of their own.
 
+// `build.rs` says `before`; an older compiler doesn't know the lint.
+#![allow(unknown_lints, unexpected_cfgs)]
+
 use skvorzhan::raw::{self, Answer, Transaction, VerdictAnswer};
 use skvorzhan::Controller;
 
