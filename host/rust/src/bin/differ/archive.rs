@@ -97,9 +97,9 @@ impl Archive {
         }
     }
 
-    /// The outcome, or what was touched that may not be. What is lent for reading lies in pages that trap where they are written to; where
-    /// the call must be refused, all that is lent does, the controller too: "no buffer or state changes".
-    pub fn call(&mut self, case: &Case, refused: bool) -> Result<Outcome, String> {
+    /// The outcome, or what was touched that may not be. What is lent for reading lies in pages that trap where they are written to; and
+    /// where the call must be refused, so may all that is lent, the controller too: "no buffer or state changes".
+    pub fn call(&mut self, case: &Case, read_only: bool) -> Result<Outcome, String> {
         let (f, lies, noise) = (case.filling, case.lies, &self.noise);
         let whole = self.handed_over(case);
         let list = self.bytes.hold(&whole, lies, noise, f);
@@ -111,7 +111,7 @@ impl Archive {
         for region in [&mut self.bytes, &mut self.table] {
             region.only_reads();
         }
-        if refused {
+        if read_only {
             for region in [&mut self.room, &mut self.slots, &mut self.state] {
                 region.only_reads();
             }

@@ -70,12 +70,14 @@ fn difference(archive: &mut Archive, case: &Case) -> (Outcome, Option<String>) {
     let right = expected(case, &archive.noise);
     let number = refused(&right.answer);
     trap::in_call(case.call, number);
-    let wrong = match archive.call(case, number != 0) {
+    let mut wrong = |read_only| match archive.call(case, read_only) {
         Ok(got) if got == right => None,
         Ok(got) => Some(told(&got, &right)),
         Err(touched) => Some(touched),
     };
-    (right, wrong)
+    // What can be compared is compared first: a write to read-only pages ends the program.
+    let found = wrong(false).or_else(|| if number == 0 { None } else { wrong(true) });
+    (right, found)
 }
 
 /// What differs, in words.

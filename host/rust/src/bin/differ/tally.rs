@@ -77,7 +77,7 @@ impl Tally {
 
     pub fn print(&self) {
         println!(
-            "{:22}{:>9}{:>9}  refused with all that was lent in read-only pages, by number",
+            "{:22}{:>9}{:>9}  refused, by number; each again with all that is lent in read-only pages",
             "", "calls", "not ref."
         );
         for (at, (_, name)) in CALLS.iter().enumerate() {

@@ -60,7 +60,11 @@ fn refuse(case: &mut Case, number: usize) {
         (5, _) => case.room -= 1,
         (6, _) => case.slots -= 1,
         (8, _) => case.values[0] = 0,
-        (9, _) => case.state[CYCLE] = 100_000_000,
+        (9, _) => match case.lies {
+            0 => case.state[CYCLE] = 100_000_000,
+            1 => case.state[EDITION] += 1 << 16,
+            _ => case.state[LAST] = case.state[CYCLE],
+        },
         _ => case.expected = 8,
     }
 }
