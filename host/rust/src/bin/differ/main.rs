@@ -134,6 +134,7 @@ fn again(text: &str) -> ExitCode {
         }
     };
     trap::set(0);
+    trap::at(trap::AGAIN);
     match difference(&mut Archive::new(), &case) {
         (right, None) => {
             println!("no difference; answer {:?}", right.answer);

@@ -18,6 +18,8 @@ const SEGMENT: c_int = 11;
 pub const LAST: u64 = u64::MAX;
 /// One with a list of which no entry may be touched.
 pub const LONG: u64 = u64::MAX - 1;
+/// The one that was asked for.
+pub const AGAIN: u64 = u64::MAX - 2;
 
 static SEED: AtomicU64 = AtomicU64::new(0);
 static INDEX: AtomicU64 = AtomicU64::new(LAST);
@@ -79,6 +81,7 @@ extern "C" fn trapped(_: c_int) {
     say(b" touched memory that it may not; ");
     match INDEX.load(Relaxed) {
         LAST => say(b"the case is one of those that come last\n"),
+        AGAIN => say(b"the case is the one asked for\n"),
         LONG => say(b"its list is a long one of which no entry may be read\n"),
         index => {
             say(b"again: differ 1 --seed ");
