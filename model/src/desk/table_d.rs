@@ -21,7 +21,9 @@ fn scheduled(list: &[[u8; 4]]) -> (Vec<Row>, Vec<u32>) {
 }
 
 fn judged(rows: &[Row]) -> Verdict {
-    judge(9, &bytes_of(&TABLE_D), &bytes(rows)).expect("whole records").1
+    judge(9, &bytes_of(&TABLE_D), &bytes(rows))
+        .expect("whole records")
+        .1
 }
 
 fn repeated(rows: &[Row], length: u32) -> PatternVerdict {
