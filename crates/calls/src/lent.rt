@@ -1,0 +1,56 @@
+// The lent forms.
+use builder::build::BuildAnswer;
+use controller::controller::Controller;
+use controller::run::RunAnswer;
+use controller::run::RunTold;
+use desk::read_transactions;
+use desk::run;
+use desk::schedule;
+use desk::step;
+use lists::decode::Decoded;
+use records::transaction::Transaction;
+
+pub(crate) fn lent_schedule(
+    expected: u16,
+    table: &[u8],
+    list: [Transaction; 3],
+    commands: &mut [u8],
+    finishes: &mut [u32],
+) -> BuildAnswer {
+    schedule(expected, table, &list[..], commands, finishes)
+}
+
+pub(crate) struct ReadBack {
+    pub list: [Transaction; 3],
+    pub answer: Decoded,
+}
+
+pub(crate) fn lent_read(
+    expected: u16,
+    table: &[u8],
+    bytes: &[u8],
+    list: [Transaction; 3],
+) -> ReadBack {
+    let mut places = list;
+    let answer = read_transactions(expected, table, bytes, &mut places[..]);
+    ReadBack {
+        list: places,
+        answer: answer,
+    }
+}
+
+pub(crate) fn lent_run(
+    c: Controller,
+    expected: u16,
+    table: &[u8],
+    list: [Transaction; 3],
+    count: u32,
+    room: &mut [u8],
+) -> RunTold {
+    let mut controller = c;
+    let answer = run(&mut controller, expected, table, &list[..], count, room);
+    RunTold {
+        controller: controller,
+        answer: answer,
+    }
+}

@@ -1,0 +1,4 @@
+// Calls.
+mod lent;
+
+fn main() {}
