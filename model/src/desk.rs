@@ -11,6 +11,8 @@ mod laws;
 #[cfg(test)]
 mod refusals;
 #[cfg(test)]
+mod table_d;
+#[cfg(test)]
 mod worked;
 #[cfg(test)]
 mod wraps;

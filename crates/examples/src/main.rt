@@ -1,61 +1,84 @@
-// Runs the examples of document 01 that are not marked †, 7 and 12. What it must print is stored beside it, from the figures of the paper.
+// Runs examples 7 to 12 of document 01, and worked figures of table D, through the public calls. What it must print is stored beside it,
+// from the figures of the paper; those of table D are the worked examples' (`rules`: `Worked`).
+mod judged;
 mod told;
 
-use builder::bound::BoundAnswer;
-use builder::build::BuildAnswer;
 use desk::bound;
 use desk::judge;
 use desk::read_table;
 use desk::schedule_bytes;
 use desk::write_table;
-use judge::answer::Judged;
+use judged::example_9;
+use judged::example_11;
+use judged::one_as_pattern;
+use judged::table_d_judged;
 use records::house::table_a;
-use records::refusal::Written;
-use records::table::TableRead;
-use rules::verdict::Verdict;
-use told::number;
-use told::refused;
+use records::house::table_b;
+use records::house::table_c;
+use records::house::table_d;
+use told::bounded;
+use told::built;
+use told::read;
 use told::text;
+use told::written;
 
 fn main() {
+    with_a();
+    with_b();
+    with_c();
+    with_d();
+}
+
+fn with_a() {
+    text(b"table A\n");
     let mut bytes = [0u8; 32];
     let table = &mut bytes[..];
     written(write_table(table_a(), table));
     example_7(table);
+    text(b"8 example 1 as pattern, L 38 and 37\n");
+    one_as_pattern(table, 38, 37);
+    example_9(table);
     example_12(table);
 }
 
-fn written(answer: Written) {
-    match answer {
-        Written::Done(edition) => {
-            text(b"table of edition ");
-            number(edition as u64);
-            text(b"\n");
-        }
-        Written::Refused(r) => refused(r),
-    }
+fn with_b() {
+    text(b"table B\n");
+    let mut bytes = [0u8; 32];
+    let table = &mut bytes[..];
+    written(write_table(table_b(), table));
+    text(b"10 example 1 as pattern, L 39 and 38\n");
+    one_as_pattern(table, 39, 38);
+}
+
+fn with_c() {
+    text(b"table C\n");
+    let mut bytes = [0u8; 32];
+    let table = &mut bytes[..];
+    written(write_table(table_c(), table));
+    example_11(table);
+}
+
+fn with_d() {
+    text(b"table D\n");
+    let mut bytes = [0u8; 32];
+    let table = &mut bytes[..];
+    written(write_table(table_d(), table));
+    text(b"bounds (1,1), (2,1), (1,4), (5,1), (6,2)\n");
+    bounded(bound(9, table, 1, 1));
+    bounded(bound(9, table, 2, 1));
+    bounded(bound(9, table, 1, 4));
+    bounded(bound(9, table, 5, 1));
+    bounded(bound(9, table, 6, 2));
+    table_d_judged(table);
 }
 
 fn example_7(table: &[u8]) {
-    text(b"7 bounds\n");
-    told_bound(bound(7, table, 2, 1));
-    told_bound(bound(7, table, 1, 4));
-    told_bound(bound(7, table, 4, 2));
-    told_bound(bound(7, table, 5, 1));
-    told_bound(bound(7, table, 8, 1));
-}
-
-fn told_bound(answer: BoundAnswer) {
-    match answer {
-        BoundAnswer::Bound(edition, cycles) => {
-            text(b"edition ");
-            number(edition as u64);
-            text(b" bound ");
-            number(cycles as u64);
-            text(b"\n");
-        }
-        BoundAnswer::Refused(r) => refused(r),
-    }
+    text(b"7 bounds (2,1), (1,4), (4,2), (5,1), (8,1)\n");
+    bounded(bound(7, table, 2, 1));
+    bounded(bound(7, table, 1, 4));
+    bounded(bound(7, table, 4, 2));
+    bounded(bound(7, table, 5, 1));
+    bounded(bound(7, table, 8, 1));
 }
 
 fn example_12(table: &[u8]) {
@@ -72,7 +95,7 @@ fn example_12(table: &[u8]) {
     text(b"12 256 transactions, then 257\n");
     many(table);
     text(b"12 empty schedule\n");
-    told_verdict(judge(7, table, &[]));
+    told::judged(judge(7, table, &[]));
 }
 
 fn list(table: &[u8], bytes: &[u8]) {
@@ -80,25 +103,12 @@ fn list(table: &[u8], bytes: &[u8]) {
     let mut places = [0u32; 256];
     let commands = &mut room[..];
     let finishes = &mut places[..];
-    told_build(schedule_bytes(7, table, bytes, commands, finishes));
-}
-
-fn told_build(answer: BuildAnswer) {
-    match answer {
-        BuildAnswer::Built(edition, commands) => {
-            text(b"edition ");
-            number(edition as u64);
-            text(b" commands ");
-            number(commands as u64);
-            text(b"\n");
-        }
-        BuildAnswer::Refused(r) => refused(r),
-    }
+    built(schedule_bytes(7, table, bytes, commands, finishes));
 }
 
 // Table A as bytes, but for CCD.
 fn ccd_1() {
-    told_table(read_table(
+    read(read_table(
         &[
             7,
             0,
@@ -136,42 +146,9 @@ fn ccd_1() {
     ));
 }
 
-fn told_table(answer: TableRead) {
-    match answer {
-        TableRead::Read(t) => {
-            text(b"edition ");
-            number(t.edition as u64);
-            text(b"\n");
-        }
-        TableRead::Refused(r) => refused(r),
-    }
-}
-
 // Writes of bank 1, BI 1, BC 1: each of the four bytes is 1.
 fn many(table: &[u8]) {
     let bytes = [1u8; 1028];
     list(table, &bytes[..1024]);
     list(table, &bytes[..]);
-}
-
-fn told_verdict(answer: Judged) {
-    match answer {
-        Judged::Verdict(edition, v) => {
-            text(b"edition ");
-            number(edition as u64);
-            verdict(v);
-        }
-        Judged::Refused(r) => refused(r),
-    }
-}
-
-fn verdict(v: Verdict) {
-    match v {
-        Verdict::Accepted => text(b" accepted\n"),
-        Verdict::Refused(x, record) => {
-            text(b" refused at record ");
-            number(record as u64);
-            text(b"\n");
-        }
-    }
 }

@@ -1,18 +1,125 @@
-// Text, numbers, and a refusal's line.
+// What the calls answer, a line each.
+use builder::bound::BoundAnswer;
+use builder::build::BuildAnswer;
+use judge::answer::Judged;
+use judge::answer::PatternJudged;
 use libc::STDOUT_FILENO;
 use records::refusal::Refusal;
+use records::refusal::Written;
+use records::table::TableRead;
+use rules::verdict::PatternVerdict;
+use rules::verdict::Rule;
+use rules::verdict::Verdict;
+use rules::verdict::rule_number;
 
-pub(crate) fn refused(r: Refusal) {
+pub(crate) fn written(answer: Written) {
+    match answer {
+        Written::Done(e) => {
+            text(b"written, ");
+            edition(e);
+            text(b"\n");
+        }
+        Written::Refused(r) => refused(r),
+    }
+}
+
+pub(crate) fn read(answer: TableRead) {
+    match answer {
+        TableRead::Read(t) => {
+            edition(t.edition);
+            text(b"\n");
+        }
+        TableRead::Refused(r) => refused(r),
+    }
+}
+
+pub(crate) fn bounded(answer: BoundAnswer) {
+    match answer {
+        BoundAnswer::Bound(e, cycles) => {
+            edition(e);
+            text(b" bound ");
+            number(cycles as u64);
+            text(b"\n");
+        }
+        BoundAnswer::Refused(r) => refused(r),
+    }
+}
+
+pub(crate) fn built(answer: BuildAnswer) {
+    match answer {
+        BuildAnswer::Built(e, commands) => {
+            edition(e);
+            text(b" commands ");
+            number(commands as u64);
+            text(b"\n");
+        }
+        BuildAnswer::Refused(r) => refused(r),
+    }
+}
+
+pub(crate) fn judged(answer: Judged) {
+    match answer {
+        Judged::Verdict(e, v) => {
+            edition(e);
+            verdict(v);
+        }
+        Judged::Refused(r) => refused(r),
+    }
+}
+
+fn verdict(v: Verdict) {
+    match v {
+        Verdict::Accepted => text(b" accepted\n"),
+        Verdict::Refused(x, record) => broken(record, x),
+    }
+}
+
+pub(crate) fn repeated(answer: PatternJudged) {
+    match answer {
+        PatternJudged::Verdict(e, v) => {
+            edition(e);
+            pattern_verdict(v);
+        }
+        PatternJudged::Refused(r) => refused(r),
+    }
+}
+
+fn pattern_verdict(v: PatternVerdict) {
+    match v {
+        PatternVerdict::Accepted => text(b" accepted\n"),
+        PatternVerdict::Refused(x, copy, record) => {
+            text(b" copy ");
+            number(copy as u64);
+            broken(record, x);
+        }
+    }
+}
+
+fn broken(record: u32, x: Rule) {
+    text(b" record ");
+    number(record as u64);
+    text(b" rule ");
+    let r = rule_number(x);
+    number(r as u64);
+    text(b"\n");
+}
+
+fn refused(r: Refusal) {
     text(b"refused ");
     number(r.number as u64);
     text(b" at ");
     number(r.position as u64);
-    text(b" edition ");
-    number(r.edition as u64);
+    text(b" ");
+    edition(r.edition);
     text(b"\n");
 }
 
-pub(crate) fn number(n: u64) {
+fn edition(e: u16) {
+    text(b"edition ");
+    number(e as u64);
+}
+
+fn number(n: u64) {
     io::print_decimal(STDOUT_FILENO, n);
 }
 

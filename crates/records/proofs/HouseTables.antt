@@ -2,7 +2,7 @@
 -- Assumes nothing.
 use mathlib.Core.Path.{_≡_, refl}
 use Rattle.records.specs.Table.{Accepted}
-use Rattle.records.specs.House.{tableA, tableB, tableC}
+use Rattle.records.specs.House.{tableA, tableB, tableC, tableD}
 
-pub house-accepted : Accepted tableA × Accepted tableB × Accepted tableC
-house-accepted = (refl, refl, refl)
+pub house-accepted : Accepted tableA × Accepted tableB × Accepted tableC × Accepted tableD
+house-accepted = (refl, refl, refl, refl)

@@ -1,10 +1,10 @@
--- The examples marked † follow from the written rules themselves.
+-- The worked examples follow from the written rules themselves.
 -- Assumes nothing.
 use mathlib.Core.Path.{_≡_, refl}
-use Rattle.records.specs.House.{tableA, tableB}
+use Rattle.records.specs.House.{tableA, tableB, tableD}
 use Rattle.rules.specs.Queues.{actQueue, dataQueue}
 use Rattle.rules.specs.Bound.{bound, boundS, boundD, boundX}
-use Rattle.rules.specs.Worked.{one, five, examples, All}
+use Rattle.rules.specs.Worked.{one, five, patternD, examples, All}
 use Rattle.rules.proofs.Pattern.{five-legal}
 
 infixr 4 _⨾_
@@ -15,7 +15,11 @@ p ⨾ ps = (p, ps)
 pub worked : All examples
 unfolding bound boundS boundD boundX actQueue dataQueue
 worked =
-    record { cycles = 11; schedule = refl; acts = refl; datas = refl }
+    refl
+    ⨾ refl
+    ⨾ refl
+    ⨾ refl
+    ⨾ record { cycles = 11; schedule = refl; acts = refl; datas = refl }
     ⨾ refl
     ⨾ record { cycles = 49; schedule = refl; acts = refl; datas = refl }
     ⨾ record { cycles = 55; schedule = refl; acts = refl; datas = refl }
@@ -29,6 +33,11 @@ worked =
     ⨾ record { cycles = 39; schedule = refl; acts = refl; datas = refl }
     ⨾ record { cycles = 43; schedule = refl; acts = refl; datas = refl }
     ⨾ refl
+    ⨾ refl
+    ⨾ refl
+    ⨾ refl
+    ⨾ refl
+    ⨾ refl
     ⨾ five-legal tableA 38 one .0 refl
     ⨾ (λ n. refl)
     ⨾ five-legal tableA 39 five .0 refl
@@ -39,4 +48,31 @@ worked =
     ⨾ refl
     ⨾ refl
     ⨾ record { cycles = 17; schedule = refl; acts = refl; datas = refl }
+    ⨾ refl
+    ⨾ refl
+    ⨾ refl
+    ⨾ refl
+    ⨾ refl
+    ⨾ refl
+    ⨾ refl
+    ⨾ refl
+    ⨾ refl
+    ⨾ refl
+    ⨾ record { cycles = 49; schedule = refl; acts = refl; datas = refl }
+    ⨾ refl
+    ⨾ refl
+    ⨾ refl
+    ⨾ record { cycles = 63; schedule = refl; acts = refl; datas = refl }
+    ⨾ refl
+    ⨾ record { cycles = 45; schedule = refl; acts = refl; datas = refl }
+    ⨾ refl
+    ⨾ refl
+    ⨾ refl
+    ⨾ refl
+    ⨾ refl
+    ⨾ refl
+    ⨾ refl
+    ⨾ refl
+    ⨾ five-legal tableD 54 patternD .0 refl
+    ⨾ (λ n. refl)
     ⨾ tt

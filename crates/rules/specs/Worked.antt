@@ -1,4 +1,4 @@
--- Document 01, "Examples from the desk": those marked †, as a single list under a single claim.
+-- Document 01, "Examples from the desk": those marked †, its figures for table A, and figures for table D, as a single list under a single claim.
 use Prim.Native.Nat.{ℕ, zero, suc, _+_}
 use mathlib.Core.Path.{_≡_}
 use mathlib.Core.Bool.{true}
@@ -8,16 +8,17 @@ use Rattle.records.specs.declared.command.Kind.the-variants.{Act, Rd, Rda, Wr, 
 use Rattle.records.specs.declared.command.Command.{Command}
 use Rattle.records.specs.Command.{command}
 use Rattle.records.specs.Transaction.{transaction, fits}
-use Rattle.records.specs.House.{tableA, tableB, tableC}
+use Rattle.records.specs.House.{tableA, tableB, tableC, tableD}
 use Rattle.rules.specs.declared.state.Stamp.the-variants.{At}
-use Rattle.rules.specs.declared.verdict.Rule.the-variants.{Order, Precharge, Faw}
+use Rattle.rules.specs.declared.verdict.Rule.the-variants.{Order, Precharge, Rc, Faw}
 use Rattle.rules.specs.declared.verdict.Verdict.the-variants.{Accepted, Refused}
 use Rattle.rules.specs.declared.verdict.PatternVerdict.the-variants.{Refused as RefusedAt}
+use Rattle.rules.specs.Square.{square, writeTail}
 use Rattle.rules.specs.Verdict.{judge}
 use Rattle.rules.specs.Pattern.{copies, EveryNumberLegal}
 use Rattle.rules.specs.CycleRule.{Built}
 use Rattle.rules.specs.Finish.{lastData, finish}
-use Rattle.rules.specs.Bound.{bound}
+use Rattle.rules.specs.Bound.{boundS, boundD, boundX, bound}
 
 -- a read, and a write, of (bank, BI, BC)
 abbrev pub read : ℕ → ℕ → ℕ → Transaction
@@ -58,11 +59,49 @@ eleven t = command 0 Act 0 0 ∷ command 10 Wr 0 0 ∷ command 28 Rda 0 0 ∷ co
 abbrev pub twelve : List Command
 twelve = command 0 Act 7 0 ∷ command 6 Act 0 0 ∷ command 10 Rda 7 0 ∷ command 16 Rda 0 0 ∷ []
 
+-- Table D, whose numbers all differ. A schedule with each pair of data kinds: RD and RD, RD and WR, WR and WR, WR and RD
+abbrev pub pairsD : List Command
+pairsD =
+    command 0 Act 0 0 ∷ command 7 Act 1 1 ∷ command 11 Rd 0 0 ∷ command 14 Act 2 2 ∷ command 16 Rda 0 0 ∷ command 26 Wr 1 1
+    ∷ command 31 Wra 1 1 ∷ command 48 Rda 2 2 ∷ []
+
+-- a write and a read of one bank
+abbrev pub againD : List Command
+againD = command 0 Act 0 0 ∷ command 11 Wra 0 0 ∷ command 51 Act 0 1 ∷ command 62 Rda 0 1 ∷ []
+
+-- five ACTs
+abbrev pub fiveD : List Command
+fiveD =
+    command 0 Act 0 0 ∷ command 7 Act 1 0 ∷ command 11 Rda 0 0 ∷ command 14 Act 2 0 ∷ command 18 Rda 1 0 ∷ command 21 Act 3 0
+    ∷ command 25 Rda 2 0 ∷ command 32 Rda 3 0 ∷ command 33 Act 4 0 ∷ command 44 Rda 4 0 ∷ []
+
+-- bank 0 opened and closed, then once more from cycle t; its precharge starts by the ACT, by the RD, by the WR
+abbrev pub thenD : ℕ → List Command
+thenD t = command t Act 0 1 ∷ command (t + 11) Rda 0 1 ∷ []
+
+abbrev pub byActD : ℕ → List Command
+byActD t = command 0 Act 0 0 ∷ command 11 Rda 0 0 ∷ thenD t
+
+abbrev pub byRdD : ℕ → List Command
+byRdD t = command 0 Act 0 0 ∷ command 30 Rda 0 0 ∷ thenD t
+
+abbrev pub byWrD : ℕ → List Command
+byWrD t = command 0 Act 0 0 ∷ command 11 Wr 0 0 ∷ command 28 Rda 0 0 ∷ thenD t
+
+-- a read of bank 0 and a write of bank 1, as a pattern
+abbrev pub patternD : List Command
+patternD = command 0 Act 0 0 ∷ command 7 Act 1 1 ∷ command 11 Rda 0 0 ∷ command 21 Wra 1 1 ∷ []
+
 -- the examples, in the order of their numbers
 abbrev pub examples : List (Type 0)
 examples =
+    -- "For A: RD to WR 8, WR to RD 18, S 34, D 8, X 18."
+    (square tableA ≡ (4 ∷ 8 ∷ []) ∷ (18 ∷ 4 ∷ []) ∷ [])
+    ∷ (boundS tableA ≡ 34)
+    ∷ (boundD tableA ≡ 8)
+    ∷ (boundX tableA ≡ 18)
     -- 1 to 3, with the finishes of 1 and 3 as document 02 changes them, and 3's bound, which is met exactly
-    Built tableA (read 0 1 1 ∷ []) one
+    ∷ Built tableA (read 0 1 1 ∷ []) one
     ∷ (finish tableA (read 0 1 1) 0 one ≡ At 24)
     ∷ Built tableA (read 0 1 1 ∷ read 0 1 1 ∷ []) two
     ∷ Built tableA (write 0 1 1 ∷ read 0 1 1 ∷ []) three
@@ -78,6 +117,12 @@ examples =
     ∷ Built tableA (read 0 4 2 ∷ []) five
     ∷ Built tableA (read 0 5 1 ∷ []) six
     ∷ (finish tableA (read 0 5 1) 0 six ≡ At 56)
+    -- 7
+    ∷ (bound tableA 2 1 ≡ 53)
+    ∷ (bound tableA 1 4 ≡ 56)
+    ∷ (bound tableA 4 2 ≡ 75)
+    ∷ (bound tableA 5 1 ≡ 80)
+    ∷ (bound tableA 8 1 ≡ 107)
     -- 8 to 10: accepted, so every number of copies is legal; refused, whatever number of copies there is beyond the copy named
     ∷ EveryNumberLegal tableA 38 one
     ∷ ((n : ℕ) → copies tableA 37 one (suc (suc n)) ≡ RefusedAt Precharge 2 0)
@@ -91,6 +136,37 @@ examples =
     -- 12, as document 02 changes it: the banks go on with bank 0 after the last
     ∷ (fits tableA (read 7 2 1) ≡ true)
     ∷ Built tableA (read 7 2 1 ∷ []) twelve
+    -- table D: the distances, the write's tail, the bound
+    ∷ (square tableD ≡ (5 ∷ 10 ∷ []) ∷ (17 ∷ 5 ∷ []) ∷ [])
+    ∷ (writeTail tableD ≡ 28)
+    ∷ (boundS tableD ≡ 40)
+    ∷ (boundD tableD ≡ 9)
+    ∷ (boundX tableD ≡ 17)
+    ∷ (bound tableD 1 1 ≡ 51)
+    ∷ (bound tableD 2 1 ≡ 61)
+    ∷ (bound tableD 1 4 ≡ 66)
+    ∷ (bound tableD 5 1 ≡ 91)
+    ∷ (bound tableD 6 2 ≡ 106)
+    -- schedules, with where their transactions finish
+    ∷ Built tableD (read 0 1 2 ∷ write 1 1 2 ∷ read 2 1 1 ∷ []) pairsD
+    ∷ (finish tableD (read 0 1 2) 0 pairsD ≡ At 33)
+    ∷ (finish tableD (write 1 1 2) 1 pairsD ≡ At 31)
+    ∷ (finish tableD (read 2 1 1) 2 pairsD ≡ At 65)
+    ∷ Built tableD (write 0 1 1 ∷ read 0 1 1 ∷ []) againD
+    ∷ (lastData 1 againD ≡ At (11 + bound tableD 1 1))
+    ∷ Built tableD (read 0 5 1 ∷ []) fiveD
+    -- the three causes of a precharge, and RC
+    ∷ (judge tableD (byActD 37) ≡ Refused Precharge 2)
+    ∷ (judge tableD (byActD 38) ≡ Refused Rc 2)
+    ∷ (judge tableD (byActD 39) ≡ Refused Rc 2)
+    ∷ (judge tableD (byActD 40) ≡ Accepted)
+    ∷ (judge tableD (byRdD 49) ≡ Refused Precharge 2)
+    ∷ (judge tableD (byRdD 50) ≡ Accepted)
+    ∷ (judge tableD (byWrD 50) ≡ Refused Precharge 3)
+    ∷ (judge tableD (byWrD 51) ≡ Accepted)
+    -- a pattern: its least length, and one less
+    ∷ EveryNumberLegal tableD 54 patternD
+    ∷ ((n : ℕ) → copies tableD 53 patternD (suc (suc n)) ≡ RefusedAt Precharge 2 1)
     ∷ []
 
 -- every statement of a list holds

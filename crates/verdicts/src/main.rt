@@ -15,10 +15,10 @@ use records::refusal::Refusal;
 use rules::verdict::PatternVerdict;
 use rules::verdict::Rule;
 use rules::verdict::Verdict;
+use rules::verdict::rule_number;
 ghost use mathlib.Core.Path.{_≡_};
 ghost use Prim.Native.Nat.{_+_, _≤_};
 ghost use lib.ListN.{length};
-ghost use Rattle.rules.specs.Kinds.{ruleNumber};
 
 fn main() {
     let mut input = io::large_buffer();
@@ -137,23 +137,6 @@ fn pattern_verdict(v: PatternVerdict) {
 fn rule(x: Rule) {
     text(b" rule");
     small(rule_number(x));
-}
-
-fn rule_number(x: Rule) -> u8
-    ensures { λ r. ⌜ r ≡ ruleNumber x ⌝ }
-{
-    match x {
-        Rule::Range => 1,
-        Rule::Order => 2,
-        Rule::Opened => 3,
-        Rule::Precharge => 4,
-        Rule::Rc => 5,
-        Rule::Rrd => 6,
-        Rule::Faw => 7,
-        Rule::Rcd => 8,
-        Rule::Distance => 9,
-        Rule::End => 10,
-    }
 }
 
 fn refused(r: Refusal) {

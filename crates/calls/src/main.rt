@@ -1,0 +1,6 @@
+// Calls.
+mod lent;
+mod lent_host;
+mod told;
+
+fn main() {}
