@@ -4,7 +4,7 @@ use Prim.Native.Nat.{ℕ, _*_}
 use mathlib.Core.Bool.{true}
 use mathlib.Core.Path.{_≡_, sym, ap, _∙_, subst}
 use mathlib.Core.Logic.{_↔_}
-use mathlib.Core.List.{List, []}
+use mathlib.Core.List.{List, [], _∷_}
 use native.Mathlib.Omega.{arith}
 use lib.Dec.{ltb}
 use lib.ListN.{length, take, drop}
@@ -39,7 +39,9 @@ use Rattle.lists.specs.declared.check.Checked.the-variants.{Fine, Refused as No
 use Rattle.desk.specs.Admit.{admitted}
 use Rattle.desk.specs.Judging.{judging, PatternTold}
 use Rattle.desk.specs.Schedules.{BuildsChecked, Schedules}
+use Rattle.desk.specs.Numbers.{telling, ruleNumber, patternNumbers}
 use Rattle.desk.specs.Demands.{Demand2}
+use Rattle.desk.proofs.Rows.{row-number, by-numbers, kind-byte, judged-case, pattern-case}
 
 -- ---- of a schedule that is answered
 
@@ -81,10 +83,13 @@ module _ (τ : Table) (s : List ℕ) where
   unfolding PatternTold
   pattern-told L r z p = let a = pattern-accepts τ s L r p in (λ e. a .0 e .1, λ h. a .1 (z, h))
 
-  pattern-lowest : (L e : ℕ) (x : Rule) (c i : ℕ) → PatternTold (Read τ) s L (PatternVerdict e (BrokenAt x c i))
-      → (n : ℕ) → copies τ L (commandsIn s) n ≡ pick (ltb n c) AllPassed (BrokenAt x c i)
+  pattern-lowest : (L : ℕ) (r : PatternJudged) (e n c i : ℕ) → PatternTold (Read τ) s L r → patternNumbers r ≡ telling e (n ∷ c ∷ i ∷ [])
+      → (x : Rule) × (ruleNumber x ≡ n) × ((m : ℕ) → copies τ L (commandsIn s) m ≡ pick (ltb m c) AllPassed (BrokenAt x c i))
   unfolding PatternTold
-  pattern-lowest L e x c i p = p .2
+  pattern-lowest L r e n c i p k =
+      let w = pattern-case r e n c i k in
+      let q = subst (λ (y : PatternJudged). PatternTold (Read τ) s L y) (w .2) p in
+      (w .0, w .1, q .2)
 
 -- ---- the demand
 
@@ -99,5 +104,10 @@ demand-2 expected table τ read =
           ↔ (FineTo τ [] (commandsIn s) (length (commandsIn s)) × (allShut (τ .banks) (onto (commandsIn s) []) ≡ true))) (sym read) (judging-accepts τ s z);
       names = λ s e x i h. judging-names τ s e x i (subst (λ (a : TableRead). judging a s ≡ Verdict e (Broken x i)) read h);
       pattern = λ s L r z p. pattern-told τ s L r z (subst (λ (a : TableRead). PatternTold a s L r) read p);
-      lowest = λ s L e x c i p. pattern-lowest τ s L e x c i (subst (λ (a : TableRead). PatternTold a s L (PatternVerdict e (BrokenAt x c i))) read p);
+      lowest = λ s L r e n c i p. pattern-lowest τ s L r e n c i (subst (λ (a : TableRead). PatternTold a s L r) read p);
+      numbers = λ s e n i h.
+          let w = judged-case (judging (admitted expected table) s) e n i h in
+          by-numbers τ (commandsIn s) (w .0) n i (w .1) (judging-names τ s e (w .0) i (subst (λ (a : TableRead). judging a s ≡ Verdict e (Broken (w .0) i)) read (w .2)));
+      rowNumber = row-number τ;
+      kindByte = kind-byte;
     }

@@ -18,7 +18,7 @@ use rules::verdict::Verdict;
 ghost use mathlib.Core.Path.{_≡_};
 ghost use Prim.Native.Nat.{_+_, _≤_};
 ghost use lib.ListN.{length};
-ghost use Rattle.rules.specs.Kinds.{ruleNumber};
+ghost use Rattle.desk.specs.Numbers.{ruleNumber};
 
 fn main() {
     let mut input = io::large_buffer();
