@@ -11,3 +11,5 @@ pub mod Judges
 pub mod Serves
 pub mod Room
 pub mod RunsOn
+pub mod NeverRuns
+

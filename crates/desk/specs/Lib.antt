@@ -9,3 +9,4 @@ pub mod Causes
 pub mod Only
 pub mod Demands
 pub mod Runs
+pub mod Calls

@@ -1,17 +1,20 @@
 -- Document 01, "Running a few cycles", of the public calls `run` and `run_bytes`, with a table that is admitted and a list that fits it.
-use Prim.Native.Nat.{ℕ, _+_, _≤_}
+use Prim.Native.Nat.{ℕ, _+_, _*_, _≤_, min}
 use mathlib.Core.Path.{_≡_}
 use mathlib.Core.List.{List, []}
 use lib.ListN.{length}
 use Rattle.records.specs.declared.table.Table.{Table}
+use Rattle.records.specs.declared.table.TableRead.the-variants.{Read}
 use Rattle.records.specs.declared.transaction.Transaction.{Transaction}
 use Rattle.records.specs.declared.command.Command.{Command}
-use Rattle.records.specs.Told.{over}
+use Rattle.records.specs.Told.{refusal, over}
 use Rattle.records.specs.Command.{bytesOfAll}
 use Rattle.rules.specs.Pattern.{onto}
+use Rattle.rules.specs.Queues.{actQueue, dataQueue}
 use Rattle.rules.specs.CycleRule.{Built}
 use Rattle.rules.specs.Promise.{nextCycle}
 use Rattle.lists.specs.declared.check.Checked.{Checked}
+use Rattle.lists.specs.declared.check.Checked.the-variants.{Fine}
 use Rattle.controller.specs.declared.controller.Controller.{Controller}
 use Rattle.controller.specs.declared.run.RunReport.{RunReport}
 use Rattle.controller.specs.declared.run.RunAnswer.the-variants.{Ran}
@@ -19,7 +22,7 @@ use Rattle.controller.specs.Controller.{Ranged}
 use Rattle.controller.specs.Run.{RunLeft}
 use Rattle.controller.specs.Promise.{Together}
 use Rattle.desk.specs.Admit.{admitted}
-use Rattle.desk.specs.Running.{starting, running}
+use Rattle.desk.specs.Running.{starting, nothingRun, running}
 
 -- `check` is that of a list's records, or of its bytes
 pub record RunsOn (expected : ℕ) (table : List ℕ) (τ : Table) (check : Table → Checked) (l : List Transaction) : Type 0 where
@@ -36,3 +39,10 @@ pub record RunsOn (expected : ℕ) (table : List ℕ) (τ : Table) (check : Tabl
       → left (starting (admitted expected table) .controller) n b .told .answer ≡ Ran x
       → (left (starting (admitted expected table) .controller) n b .buffer ≡ over (bytesOfAll rs) b)
       × (x .commands ≡ length rs) × (x .cycles ≡ nextCycle (onto rs []))
+
+-- number 9 refuses every run of this controller, under any table that is admitted, with any list that the check finds fine, and room
+abbrev pub NeverRuns : Controller → Type 0
+NeverRuns c =
+    (expected : ℕ) (table : List ℕ) (τ : Table) → admitted expected table ≡ Read τ → (check : Table → Checked) (l : List Transaction) → check τ ≡ Fine
+    → (n : ℕ) (b : List ℕ) → 8 * min n (length (actQueue τ l) + length (dataQueue τ l)) ≤ length b
+    → running check (admitted expected table) c l n b ≡ nothingRun (refusal 9 0 (τ .edition)) c b
