@@ -12,4 +12,4 @@ pub mod Serves
 pub mod Room
 pub mod RunsOn
 pub mod NeverRuns
-
+pub mod Calls
