@@ -1,9 +1,9 @@
 -- Each call tells the first row of document 01's table that applies.
 -- Assumes nothing.
-use Prim.Native.Nat.{ℕ, suc, _+_, _-_, _*_, _%_, _/_, min}
+use Prim.Native.Nat.{ℕ, suc, _+_, _-_, _*_, _/_, min}
 use native.Mathlib.Omega.{arith}
 use native.Mathlib.Nat.{zero-add}
-use mathlib.Core.Bool.{Bool, true, false, not, _&&_, _||_}
+use mathlib.Core.Bool.{Bool, true, false, not, _&&_}
 use mathlib.Core.Path.{_≡_, refl, sym, ap, _∙_, subst}
 use mathlib.Core.List.{List, [], _∷_}
 use lib.Dec.{leb, ltb, eqb}
@@ -54,11 +54,11 @@ Tells a n p = (a .refused ≡ n) × (a .position ≡ p)
 
 -- ---- rows at position 0
 
-one : (n : ℕ) (b : Bool) (a : Numbers) → Tells a (firstFailed ((n, b) ∷ [])) 0 → FirstRow (row n 0 b ∷ []) a
+pub one : (n : ℕ) (b : Bool) (a : Numbers) → Tells a (firstFailed ((n, b) ∷ [])) 0 → FirstRow (row n 0 b ∷ []) a
 one n true a t = t
 one n false a t = t
 
-two : (n m : ℕ) (b c : Bool) (a : Numbers) → Tells a (firstFailed ((n, b) ∷ (m, c) ∷ [])) 0 → FirstRow (row n 0 b ∷ row m 0 c ∷ []) a
+pub two : (n m : ℕ) (b c : Bool) (a : Numbers) → Tells a (firstFailed ((n, b) ∷ (m, c) ∷ [])) 0 → FirstRow (row n 0 b ∷ row m 0 c ∷ []) a
 two n m true c a t = t
 two n m false true a t = t
 two n m false false a t = t
@@ -67,7 +67,7 @@ tells-same : (a b : Numbers) → a ≡ b → Tells a (b .refused) (b .position)
 tells-same a b e = (ap (λ (n : Numbers). n .refused) e, ap (λ (n : Numbers). n .position) e)
 
 -- an answer by a refusal's number z: f of x where it is 0, and else f of y
-by-number : {A : Type 0} (f : A → Numbers) (z : ℕ) (x y : A) → Tells (f x) 0 0 → Tells (f y) z 0 → Tells (f (pick (eqb z 0) x y)) z 0
+pub by-number : {A : Type 0} (f : A → Numbers) (z : ℕ) (x y : A) → Tells (f x) 0 0 → Tells (f y) z 0 → Tells (f (pick (eqb z 0) x y)) z 0
 by-number f z x y p q = on (eqb z 0) refl
   where
     on : (b : Bool) → eqb z 0 ≡ b → Tells (f (pick b x y)) z 0

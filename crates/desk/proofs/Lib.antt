@@ -6,10 +6,12 @@ pub mod Unique
 pub mod Stood
 pub mod Edition
 pub mod Causes
+pub mod RecordCauses
 pub mod Rows
 pub mod Judges
 pub mod Serves
 pub mod Room
 pub mod RunsOn
 pub mod NeverRuns
+pub mod CallLaws
 pub mod Calls

@@ -2,10 +2,10 @@
 -- Assumes nothing.
 use Prim.Native.Nat.{ℕ, _+_, _*_, _≤_, min}
 use native.Mathlib.Omega.{arith}
-use mathlib.Core.Bool.{Bool, true, false, _&&_}
+use mathlib.Core.Bool.{false, _&&_}
 use mathlib.Core.Path.{_≡_, refl, sym, ap, _∙_, subst}
 use mathlib.Core.List.{List}
-use lib.Dec.{leb, ltb, eqb}
+use lib.Dec.{leb, eqb}
 use lib.ListN.{length}
 use borrow.Author.Tests.{leb-true, le-ltb, ne-eqb}
 use Rattle.records.specs.declared.table.Table.{Table}
@@ -20,12 +20,11 @@ use Rattle.rules.specs.Queues.{actQueue, dataQueue}
 use Rattle.engine.specs.Run.{commandsLeft}
 use Rattle.refusals.specs.Refused.{sound, runRefusal}
 use Rattle.lists.specs.declared.check.Checked.{Checked}
-use Rattle.lists.specs.declared.check.Checked.the-variants.{Fine}
 use Rattle.controller.specs.Controller.{tells, kept}
 use Rattle.controller.specs.Run.{runController}
 use Rattle.desk.specs.declared.running.StartAnswer.the-variants.{Refused as NotStarted}
 use Rattle.desk.specs.Admit.{admitted}
-use Rattle.desk.specs.Running.{noController, starting, runsChecked, nothingRun, running}
+use Rattle.desk.specs.Running.{noController, starting, runsChecked, running}
 use Rattle.desk.specs.Runs.{NeverRuns}
 use Rattle.desk.proofs.Laws.{read-accepted}
 

@@ -2,33 +2,34 @@
 -- Assumes nothing.
 use Prim.Native.Nat.{ℕ, zero, suc, _+_, _<_}
 use native.Mathlib.Omega.{arith}
+use native.Mathlib.Nat.{zero-add}
 use mathlib.Core.Bool.{Bool, true, false}
 use mathlib.Core.Path.{_≡_, refl, sym, ap, _∙_, subst}
 use mathlib.Core.Logic.{_⊎_, inl, inr, ⊎-elim}
-use mathlib.Core.Option.{some}
-use mathlib.Core.List.{List, [], _∷_}
-use lib.ListN.{length, getD, getElem?, take}
+use mathlib.Core.List.{List, [], _∷_, _++_}
+use lib.ListN.{length, getD, take}
 use Rattle.records.specs.declared.table.Table.{Table}
 use Rattle.records.specs.declared.command.Command.{Command}
-use Rattle.records.specs.declared.refusal.Refusal.{Refusal}
 use Rattle.records.specs.Little.{num, num32}
 use Rattle.records.specs.Command.{readCommand}
 use Rattle.records.proofs.Inverse.{kind-number}
 use Rattle.rules.specs.declared.verdict.Rule.{Rule}
-use Rattle.rules.specs.declared.verdict.Found.the-variants.{Fine, Broken as Breaks}
+use Rattle.rules.specs.declared.verdict.Found.the-variants.{Broken as Breaks}
 use Rattle.rules.specs.declared.verdict.Verdict.{Verdict}
 use Rattle.rules.specs.declared.verdict.Verdict.the-variants.{Accepted as Passed, Refused as Broken}
 use Rattle.rules.specs.declared.verdict.PatternVerdict.{PatternVerdict}
 use Rattle.rules.specs.declared.verdict.PatternVerdict.the-variants.{Accepted as AllPassed, Refused as BrokenAt}
 use Rattle.rules.specs.Kinds.{firstBroken, rulesInOrder}
 use Rattle.rules.specs.History.{rules, broken}
-use Rattle.rules.specs.Pattern.{onto}
-use Rattle.rules.specs.Demands.{FineTo, FirstBroken}
+use Rattle.rules.specs.Verdict.{judgeFrom}
+use Rattle.rules.specs.Pattern.{onto, copy, endToEnd, copiesFrom, copies}
+use Rattle.rules.specs.Demands.{FirstBroken}
+use Rattle.rules.proofs.Demands.{names-from}
 use Rattle.judge.specs.declared.answer.Judged.{Judged}
 use Rattle.judge.specs.declared.answer.Judged.the-variants.{Verdict as Says, Refused as NotJudged}
 use Rattle.judge.specs.declared.answer.PatternJudged.{PatternJudged}
 use Rattle.judge.specs.declared.answer.PatternJudged.the-variants.{Verdict as PatternSays, Refused as PatternNotJudged}
-use Rattle.desk.specs.Numbers.{Numbers, telling, ruleNumber, commandNumbers, judgedNumbers, patternNumbers}
+use Rattle.desk.specs.Numbers.{Numbers, telling, ruleNumber, commandNumbers, verdictValues, judgedNumbers, patternValues, patternNumbers}
 use Rattle.desk.specs.Demands.{FirstFails, BreaksNumber}
 
 -- the rules of a list have the numbers from n on
@@ -51,21 +52,63 @@ first-fails (true ∷ ts) (y ∷ l) n x w e = let q = first-fails ts l (suc n) x
 in-order : NumberedFrom 1 rulesInOrder
 in-order = (refl, (refl, (refl, (refl, (refl, (refl, (refl, (refl, (refl, tt)))))))))
 
-pub row-number : (τ : Table) (r : Command) (h : List Command) (x : Rule) → broken τ r h ≡ Breaks x → FirstFails (rules τ r h) (ruleNumber x)
+row-number : (τ : Table) (r : Command) (h : List Command) (x : Rule) → broken τ r h ≡ Breaks x → FirstFails (rules τ r h) (ruleNumber x)
 row-number τ r h x e = let q = first-fails (rules τ r h) rulesInOrder 1 x in-order e in (q .0, omega (arith, q .1), q .2, q .3)
 
-pub by-numbers : (τ : Table) (rs : List Command) (x : Rule) (n i : ℕ) → ruleNumber x ≡ n → FirstBroken τ [] rs x i → FineTo τ [] rs i × BreaksNumber τ rs n i
-by-numbers τ rs x n i e b =
-    let h = onto (take i rs) [] in (
+pub by-numbers : (τ : Table) (h rs : List Command) (x : Rule) (n i : ℕ) → ruleNumber x ≡ n → FirstBroken τ h rs x i → BreaksNumber τ h rs n i
+by-numbers τ h rs x n i e b =
+    let g = onto (take i rs) h in (
       b .0,
-      ⊎-elim (λ k. inl (k .0, k .1, subst (FirstFails (rules τ (k .0) h)) e (row-number τ (k .0) h x (k .2)))) (λ k. inr (sym e ∙ ap ruleNumber (k .0), k .1, k .2)) (b .1),
+      ⊎-elim (λ k. inl (k .0, k .1, subst (FirstFails (rules τ (k .0) g)) e (row-number τ (k .0) g x (k .2)))) (λ k. inr (sym e ∙ ap ruleNumber (k .0), k .1, k .2)) (b .1),
     )
+
+-- ---- a pattern
+
+onto-append : (a b h : List Command) → onto (a ++ b) h ≡ onto b (onto a h)
+onto-append [] b h = refl
+onto-append (r ∷ a) b h = onto-append a b (r ∷ h)
+
+-- where a verdict on copies names copy c, that copy is refused after those before it
+named : (τ : Table) (L : ℕ) (p : List Command) (n k : ℕ) (h : List Command) (x : Rule) (c i : ℕ) → copiesFrom τ L p n k h ≡ BrokenAt x c i
+    → (j : ℕ) × (c ≡ k + j + 1) × (judgeFrom τ (copy L p (k + j)) 0 (onto (endToEnd L p j k) h) ≡ Broken x i)
+named τ L p zero k h x c i e = let z : _≡_ {A = ℕ} 0 1 = cc in absurd (omega arith)
+named τ L p (suc n) k h x c i e = on (judgeFrom τ (copy L p k) 0 h) refl e (named τ L p n (suc k) (onto (copy L p k) h) x c i)
+  where
+    on : (v : Verdict) → judgeFrom τ (copy L p k) 0 h ≡ v
+        → (elim v [ Passed ↦ copiesFrom τ L p n (suc k) (onto (copy L p k) h) | Broken y m ↦ BrokenAt y (suc k) m ]) ≡ BrokenAt x c i
+        → (copiesFrom τ L p n (suc k) (onto (copy L p k) h) ≡ BrokenAt x c i
+        → (j : ℕ) × (c ≡ suc k + j + 1) × (judgeFrom τ (copy L p (suc k + j)) 0 (onto (endToEnd L p j (suc k)) (onto (copy L p k) h)) ≡ Broken x i))
+        → (j : ℕ) × (c ≡ k + j + 1) × (judgeFrom τ (copy L p (k + j)) 0 (onto (endToEnd L p j k) h) ≡ Broken x i)
+    on Passed q e ih =
+        let w = ih e in
+        let same : suc k + w .0 ≡ k + suc (w .0) = omega arith in (
+          suc (w .0),
+          omega (arith, w .1),
+          ap (λ (m : ℕ). judgeFrom τ (copy L p m) 0 (onto (endToEnd L p (suc (w .0)) k) h)) (sym same)
+              ∙ (ap (judgeFrom τ (copy L p (suc k + w .0)) 0) (onto-append (copy L p k) (endToEnd L p (w .0) (suc k)) h) ∙ w .2),
+        )
+    on (Broken y m) q e ih =
+        let rule : y ≡ x = cc in
+        let number : suc k ≡ c = cc in
+        let place : m ≡ i = cc in
+        let same : k + 0 ≡ k = omega arith in
+        (0, omega arith, ap (λ (m : ℕ). judgeFrom τ (copy L p m) 0 h) same ∙ (q ∙ (ap (λ (y : Rule). Broken y m) rule ∙ ap (Broken x) place)))
+
+pub within-copy : (τ : Table) (L : ℕ) (p : List Command) (x : Rule) (n m c i : ℕ) → ruleNumber x ≡ n → copies τ L p m ≡ BrokenAt x c i
+    → (k : ℕ) × (c ≡ k + 1) × BreaksNumber τ (onto (endToEnd L p k 0) []) (copy L p k) n i
+within-copy τ L p x n m c i e h =
+    let w = named τ L p m 0 [] x c i h in
+    let g = onto (endToEnd L p (w .0) 0) [] in
+    let z = zero-add (w .0) in
+    let y = names-from τ (copy L p (w .0)) 0 g x i (ap (λ (j : ℕ). judgeFrom τ (copy L p j) 0 g) (sym z) ∙ w .2) in
+    (w .0, omega (arith, w .1), by-numbers τ g (copy L p (w .0)) x n i e (subst (FirstBroken τ g (copy L p (w .0)) x) (omega (arith, y .1)) (y .2)))
+
+-- ---- kinds, and the case of an answer by its numbers
 
 pub kind-byte : (s : List ℕ) → length s ≡ 8 → commandNumbers (readCommand s) ≡ telling 0 (num32 s 0 ∷ getD s 4 0 ∷ getD s 5 0 ∷ num s 6 ∷ [])
 unfolding readCommand
 kind-byte s e = rw e (ap (λ (k : ℕ). telling 0 (num32 s 0 ∷ k ∷ getD s 5 0 ∷ num s 6 ∷ [])) (kind-number (getD s 4 0)))
 
--- the case of an answer, by its numbers
 pub judged-case : (r : Judged) (e n i : ℕ) → judgedNumbers r ≡ telling e (n ∷ i ∷ []) → (x : Rule) × (ruleNumber x ≡ n) × (r ≡ Says e (Broken x i))
 judged-case (NotJudged y) e n i h = let z : _≡_ {A = ℕ} 0 2 = ap (λ (a : Numbers). length (a .values)) h in absurd (omega arith)
 judged-case (Says d v) e n i h = on v h
@@ -93,3 +136,11 @@ pattern-case (PatternSays d v) e n c i h = on v h
           ap (λ (a : Numbers). getD (a .values) 0 0) h,
           ap (λ (k : ℕ). PatternSays k (BrokenAt x b j)) its ∙ ap (λ (k : ℕ). PatternSays e (BrokenAt x k j)) copy ∙ ap (λ (k : ℕ). PatternSays e (BrokenAt x c k)) same,
         )
+
+pub passed-case : (v : Verdict) → verdictValues v ≡ [] → v ≡ Passed
+passed-case Passed h = refl
+passed-case (Broken x i) h = let z : _≡_ {A = ℕ} 2 0 = ap length h in absurd (omega arith)
+
+pub all-passed-case : (v : PatternVerdict) → patternValues v ≡ [] → v ≡ AllPassed
+all-passed-case AllPassed h = refl
+all-passed-case (BrokenAt x c i) h = let z : _≡_ {A = ℕ} 3 0 = ap length h in absurd (omega arith)

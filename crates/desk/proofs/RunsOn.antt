@@ -1,8 +1,8 @@
 -- Runs of the public calls are the runs of the controller: n cycles and then m, and to the end.
 -- Assumes nothing.
-use Prim.Native.Nat.{ℕ, _+_, _%_}
+use Prim.Native.Nat.{ℕ, _%_}
 use mathlib.Core.Bool.{true}
-use mathlib.Core.Path.{_≡_, refl, sym, ap, _∙_, subst}
+use mathlib.Core.Path.{_≡_, sym, ap, _∙_}
 use mathlib.Core.List.{List}
 use lib.ListN.{length}
 use Rattle.records.specs.declared.table.Table.{Table}
@@ -16,7 +16,7 @@ use Rattle.lists.specs.Check.{checkList, checkBytes}
 use Rattle.lists.proofs.Checks.{fits-fine, bytes-list}
 use Rattle.controller.specs.declared.controller.Controller.{Controller}
 use Rattle.controller.specs.Controller.{freshController}
-use Rattle.controller.specs.Run.{RunLeft, runController}
+use Rattle.controller.specs.Run.{runController}
 use Rattle.controller.proofs.Halves.{together}
 use Rattle.controller.proofs.Fresh.{fresh-ends}
 use Rattle.desk.specs.Admit.{admitted}

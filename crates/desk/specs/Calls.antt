@@ -228,6 +228,7 @@ scheduleCalls =
     ∷ BuildsBytes 7 A (recordsOf (fine ∷ [])) (replicate 15 9) [] (told 5 0 7) (replicate 15 9) []
     ∷ BuildsBytes 7 A (recordsOf (fine ∷ [])) (replicate 16 9) [] (told 6 0 7) (replicate 16 9) []
     ∷ BuildsBytes 7 A (recordsOf (fine ∷ [])) (replicate 17 9) (8 ∷ []) (telling 7 (2 ∷ [])) (bytesOfAll one ++ (9 ∷ [])) (24 ∷ [])
+    ∷ ((s b f : List ℕ) → length s ≡ 1028 → BuildsBytes 7 A s b f (told 3 0 7) b f)
     ∷ []
 
 -- ---- the running controller
@@ -273,6 +274,7 @@ runCalls =
     ∷ (runsBytes 7 A (gone 8 0 0 0) (recordsOf (fine ∷ [])) 1 7 ≡ told 5 0 7)
     ∷ (runsBytes 7 A (gone 8 0 0 0) (recordsOf (fine ∷ [])) 1 8 ≡ told 9 0 7)
     ∷ (runsBytes 7 A (gone 7 0 0 0) (recordsOf (fine ∷ [])) 99 16 ≡ telling 7 (2 ∷ 11 ∷ []))
+    ∷ ((c : Controller) (s : List ℕ) (n room : ℕ) → length s ≡ 1028 → runsBytes 7 A c s n room ≡ told 3 0 7)
     ∷ []
 
 abbrev pub calls : List (Type 0)

@@ -1,16 +1,18 @@
--- Document 01, "What the caller is told": for each call that takes a table, the rows of its table, each with its number, its position and
--- whether it applies. "Checks go in the order of these numbers", with number 10 "straight after number 2" (document 02, request 1).
+-- Document 01, "What the caller is told": for each call, the rows of its table, each with its number, its position and whether it applies.
+-- "Checks go in the order of these numbers", with number 10 "straight after number 2" (document 02, request 1).
 use Prim.Native.Nat.{ℕ, suc, _+_, _-_, _*_, _%_, _/_, min}
-use mathlib.Core.Bool.{Bool, true, false, not, _&&_, _||_}
+use mathlib.Core.Bool.{Bool, not, _&&_, _||_}
 use mathlib.Core.Path.{_≡_}
-use mathlib.Core.List.{List, [], _∷_, _++_}
+use mathlib.Core.List.{List, [], _∷_}
 use lib.Dec.{leb, ltb, eqb}
 use lib.ListN.{length}
 use Rattle.records.specs.declared.table.Table.{Table}
 use Rattle.records.specs.declared.transaction.Transaction.{Transaction}
+use Rattle.records.specs.declared.command.Command.{Command}
 use Rattle.records.specs.Tests.{pick, every, within}
-use Rattle.records.specs.Table.{tableAt, inRange}
-use Rattle.records.specs.Transaction.{transactionsIn, fits}
+use Rattle.records.specs.Table.{tableOf, tableAt, inRange, readTable, writeTable}
+use Rattle.records.specs.Transaction.{transactionAt, transactionsIn, fitsIn, fits, readTransaction, writeTransaction}
+use Rattle.records.specs.Command.{readCommand, writeCommand}
 use Rattle.rules.specs.Queues.{actQueue, dataQueue}
 use Rattle.judge.specs.declared.answer.PatternJudged.{PatternJudged}
 use Rattle.builder.specs.declared.build.BuildAnswer.{BuildAnswer}
@@ -24,7 +26,7 @@ use Rattle.desk.specs.Bounds.{bounding}
 use Rattle.desk.specs.Transactions.{reading}
 use Rattle.desk.specs.Schedules.{Schedules}
 use Rattle.desk.specs.Running.{starting, running}
-use Rattle.desk.specs.Numbers.{Numbers, judgedNumbers, patternNumbers, boundNumbers, readNumbers, buildNumbers, startNumbers, runNumbers}
+use Rattle.desk.specs.Numbers.{Numbers, writtenNumbers, tableNumbers, transactionNumbers, commandNumbers, judgedNumbers, patternNumbers, boundNumbers, readNumbers, buildNumbers, startNumbers, runNumbers}
 
 -- a row: its number, its position, and whether it applies
 pub record Row : Type 0 where
@@ -40,14 +42,14 @@ abbrev pub FirstRow : List Row → Numbers → Type 0
 FirstRow [] a = (a .refused ≡ 0) × (a .position ≡ 0)
 FirstRow (r ∷ l) a = pick (r .applies) ((a .refused ≡ r .number) × (a .position ≡ r .position)) (FirstRow l a)
 
--- 1: "table not 32 bytes, or its last number not 0"; 2: "a table number out of range, CCD below 2 or below B"; 10: the table's edition is not
--- the expected one, "position the table's edition"; then the rows that the call has besides
+-- 1: "table not 32 bytes, or its last number not 0"; 2: "a table number out of range, CCD below 2 or below B"; then the rows that the call has
+-- besides
+abbrev pub readRows : ℕ → Table → List Row → List Row
+readRows size τ rest = row 1 0 (not (eqb size 32 && eqb (τ .last) 0)) ∷ row 2 0 (not (inRange τ)) ∷ rest
+
+-- 10: the table's edition is not the expected one, "position the table's edition"
 abbrev pub tableRows : ℕ → List ℕ → List Row → List Row
-tableRows expected s l =
-    row 1 0 (not (eqb (length s) 32 && eqb (tableAt s .last) 0))
-    ∷ row 2 0 (not (inRange (tableAt s)))
-    ∷ row 10 (tableAt s .edition) (not (eqb (tableAt s .edition) expected))
-    ∷ l
+tableRows expected s rest = readRows (length s) (tableAt s) (row 10 (tableAt s .edition) (not (eqb (tableAt s .edition) expected)) ∷ rest)
 
 -- the number of the lowest transaction that is out of range
 abbrev pub lowestOut : Table → List Transaction → ℕ
@@ -106,3 +108,15 @@ pub record Causes (expected : ℕ) (table : List ℕ) : Type 0 where
   pub runBytes : (c : Controller) (s : List ℕ) (n : ℕ) (b : List ℕ)
       → FirstRow (tableRows expected table (listRows (tableAt table) (fewBytes s) (transactionsIn s) (runRows (tableAt table) (transactionsIn s) c n (length b))))
       (runNumbers (running (λ τ. checkBytes τ s) (admitted expected table) c (transactionsIn s) n b .told .answer))
+
+-- the calls on one record: s is the bytes read, or what the buffer held. "A call that writes a record checks the values as a reader would, and
+-- the room: number 1 for a table buffer that isn't 32 bytes, 3 for a transaction buffer that isn't 4, 5 for a command buffer under 8. A reader of
+-- one record gives 1, 3 or 7 for any size but 32, 4 or 8." "Where no table is given, banks counts as 16."
+pub record RecordCauses (s : List ℕ) : Type 0 where
+  pub tableRead : FirstRow (readRows (length s) (tableAt s) []) (tableNumbers (readTable s))
+  pub tableWritten : (l : List ℕ) → FirstRow (readRows (length s) (tableOf l) []) (writtenNumbers (writeTable l s .answer))
+  pub transactionRead : FirstRow (row 3 0 (not (eqb (length s) 4)) ∷ row 4 0 (not (fitsIn 16 (transactionAt s 0))) ∷ []) (transactionNumbers (readTransaction s))
+  pub transactionWritten : (x : Transaction)
+      → FirstRow (row 3 0 (not (eqb (length s) 4)) ∷ row 4 0 (not (fitsIn 16 x)) ∷ []) (writtenNumbers (writeTransaction x s .answer))
+  pub commandRead : FirstRow (row 7 0 (not (eqb (length s) 8)) ∷ []) (commandNumbers (readCommand s))
+  pub commandWritten : (c : Command) → FirstRow (row 5 0 (not (leb 8 (length s))) ∷ []) (writtenNumbers (writeCommand c s .answer))

@@ -22,21 +22,19 @@ use Rattle.records.specs.Transaction.{transactionsIn, writeTransaction}
 use Rattle.records.specs.Command.{commandsIn, bytesOfAll, readCommand, writeCommand}
 use Rattle.rules.specs.declared.state.Stamp.the-variants.{At}
 use Rattle.rules.specs.declared.verdict.Rule.{Rule}
-use Rattle.rules.specs.declared.verdict.Found.the-variants.{Broken as Breaks}
-use Rattle.rules.specs.declared.verdict.Verdict.the-variants.{Accepted as Passed, Refused as Broken}
+use Rattle.rules.specs.declared.verdict.Verdict.the-variants.{Accepted as Passed}
 use Rattle.rules.specs.declared.verdict.PatternVerdict.the-variants.{Accepted as AllPassed, Refused as BrokenAt}
-use Rattle.rules.specs.History.{rules, broken}
+use Rattle.rules.specs.History.{rules}
 use Rattle.rules.specs.Verdict.{allShut}
-use Rattle.rules.specs.Pattern.{onto, copies, EveryNumberLegal}
+use Rattle.rules.specs.Pattern.{onto, copy, endToEnd, copies, EveryNumberLegal}
 use Rattle.rules.specs.Queues.{actQueue, dataQueue}
 use Rattle.rules.specs.CycleRule.{Built as IsBuilt}
 use Rattle.rules.specs.Finish.{lastData, finishOf, finish}
 use Rattle.rules.specs.Bound.{bound}
 use Rattle.rules.specs.Promise.{ofFirst, cycleOf, lastDataCycle}
-use Rattle.rules.specs.Demands.{FineTo, FirstBroken}
+use Rattle.rules.specs.Demands.{FineTo}
 use Rattle.judge.specs.declared.answer.Judged.the-variants.{Verdict}
 use Rattle.judge.specs.declared.answer.PatternJudged.{PatternJudged}
-use Rattle.judge.specs.declared.answer.PatternJudged.the-variants.{Verdict as PatternVerdict}
 use Rattle.judge.specs.Answer.{scheduleRefusal, patternRefusal}
 use Rattle.builder.specs.declared.bound.BoundAnswer.the-variants.{Bound}
 use Rattle.builder.specs.declared.build.BuildAnswer.{BuildAnswer}
@@ -97,35 +95,36 @@ pub record Demand1 (expected : ℕ) (table : List ℕ) : Type 0 where
 abbrev pub FirstFails : List Bool → ℕ → Type 0
 FirstFails ts n = (k : ℕ) × (n ≡ k + 1) × (getD ts k true ≡ false) × ((m : ℕ) → m < k → getD ts m true ≡ true)
 
--- record i breaks rule n, 1 to 9, against all records before it; or n is 10, "at the end a bank is open; the record number is then the count"
-abbrev pub BreaksNumber : Table → List Command → ℕ → ℕ → Type 0
-BreaksNumber τ rs n i =
-    ((r : Command) × (getElem? rs i ≡ some r) × FirstFails (rules τ r (onto (take i rs) [])) n)
-    ⊎ ((n ≡ 10) × (i ≡ length rs) × (allShut (τ .banks) (onto rs []) ≡ false))
+-- record i of rs breaks rule n, 1 to 9, against all records before it, of which those of h are the oldest, and no record before it breaks a
+-- rule; or n is 10, "at the end a bank is open; the record number is then the count"
+abbrev pub BreaksNumber : Table → List Command → List Command → ℕ → ℕ → Type 0
+BreaksNumber τ h rs n i =
+    FineTo τ h rs i
+    × (((r : Command) × (getElem? rs i ≡ some r) × FirstFails (rules τ r (onto (take i rs) h)) n)
+    ⊎ ((n ≡ 10) × (i ≡ length rs) × (allShut (τ .banks) (onto rs h) ≡ false)))
 
 -- Demand 2, of a table that is admitted: "calls whose editions agree" (document 02, request 1).
 pub record Demand2 (expected : ℕ) (table : List ℕ) (τ : Table) : Type 0 where
   -- "The schedule built is exactly the one the cycle rule of document 01 gives", by either check of a list
   pub built : (check : Table → Checked) (l : List Transaction) (b₀ b f₀ f : List ℕ) (e n : ℕ) → Schedules check (admitted expected table) l b₀ b f₀ f (Built e n)
       → (rs : List Command) × IsBuilt τ l rs × (n ≡ length rs) × (take (8 * n) b ≡ bytesOfAll rs)
-  -- "The judge accepts a schedule exactly when every timing rule there holds, and otherwise names the first broken record and rule."
+  -- "The judge accepts a schedule exactly when every timing rule there holds, and otherwise names the first broken record and rule": it tells
+  -- the edition alone, or rule n and record i
   pub accepts : (s : List ℕ) → scheduleRefusal (length s) ≡ 0
-      → (judging (admitted expected table) s ≡ Verdict (τ .edition) Passed)
+      → (judgedNumbers (judging (admitted expected table) s) ≡ telling (τ .edition) [])
       ↔ (FineTo τ [] (commandsIn s) (length (commandsIn s)) × (allShut (τ .banks) (onto (commandsIn s) []) ≡ true))
-  pub names : (s : List ℕ) (e : ℕ) (x : Rule) (i : ℕ) → judging (admitted expected table) s ≡ Verdict e (Broken x i) → FirstBroken τ [] (commandsIn s) x i
-  -- the same by the numbers told: rule n is broken by record i, and no rule by a record before it
-  pub numbers : (s : List ℕ) (e n i : ℕ) → judgedNumbers (judging (admitted expected table) s) ≡ telling e (n ∷ i ∷ [])
-      → FineTo τ [] (commandsIn s) i × BreaksNumber τ (commandsIn s) n i
-  -- a rule's number is that of its row, whatever the records before: so it is in a pattern's verdict too
-  pub rowNumber : (r : Command) (h : List Command) (x : Rule) → broken τ r h ≡ Breaks x → FirstFails (rules τ r h) (ruleNumber x)
-  -- the number of a command's kind is the byte that its record holds
-  pub kindByte : (s : List ℕ) → length s ≡ 8 → commandNumbers (readCommand s) ≡ telling 0 (num32 s 0 ∷ getD s 4 0 ∷ getD s 5 0 ∷ num s 6 ∷ [])
+  pub names : (s : List ℕ) (e n i : ℕ) → judgedNumbers (judging (admitted expected table) s) ≡ telling e (n ∷ i ∷ []) → BreaksNumber τ [] (commandsIn s) n i
   -- "It accepts a repeated pattern exactly when every number of copies, set end to end, is a legal schedule."
   pub pattern : (s : List ℕ) (L : ℕ) (r : PatternJudged) → patternRefusal (length s) L ≡ 0 → PatternTold (admitted expected table) s L r
-      → (r ≡ PatternVerdict (τ .edition) AllPassed) ↔ EveryNumberLegal τ L (commandsIn s)
+      → (patternNumbers r ≡ telling (τ .edition) []) ↔ EveryNumberLegal τ L (commandsIn s)
   -- and a refusal names the lowest copy: fewer copies are accepted, and from that copy on all are refused alike
   pub lowest : (s : List ℕ) (L : ℕ) (r : PatternJudged) (e n c i : ℕ) → PatternTold (admitted expected table) s L r → patternNumbers r ≡ telling e (n ∷ c ∷ i ∷ [])
       → (x : Rule) × (ruleNumber x ≡ n) × ((m : ℕ) → copies τ L (commandsIn s) m ≡ pick (ltb m c) AllPassed (BrokenAt x c i))
+  -- "then the record within it": record i of copy c, which is k + 1, breaks rule n after k copies
+  pub within : (s : List ℕ) (L : ℕ) (r : PatternJudged) (e n c i : ℕ) → PatternTold (admitted expected table) s L r → patternNumbers r ≡ telling e (n ∷ c ∷ i ∷ [])
+      → (k : ℕ) × (c ≡ k + 1) × BreaksNumber τ (onto (endToEnd L (commandsIn s) k 0) []) (copy L (commandsIn s) k) n i
+  -- the number of a command's kind is the byte that its record holds
+  pub kindByte : (s : List ℕ) → length s ≡ 8 → commandNumbers (readCommand s) ≡ telling 0 (num32 s 0 ∷ getD s 4 0 ∷ getD s 5 0 ∷ num s 6 ∷ [])
 
 -- Demand 3: "For every accepted table and transaction list with room for the result". b and f are what the two buffers hold after the call.
 pub record Demand3 (expected : ℕ) (table : List ℕ) (τ : Table) (l : List Transaction) (b₀ b f₀ f : List ℕ) (r : BuildAnswer) : Type 0 where
