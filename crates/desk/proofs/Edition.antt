@@ -54,6 +54,8 @@ use Rattle.desk.specs.Running.{starting, runsChecked, running}
 use Rattle.desk.specs.Numbers.{judgedNumbers, patternNumbers, boundNumbers, readNumbers, buildNumbers, startNumbers, runNumbers}
 use Rattle.desk.specs.Demands.{NotAdmitted, Demand1}
 use Rattle.desk.proofs.Laws.{expected-read, read-accepted}
+use Rattle.desk.proofs.Causes.{causes}
+use Rattle.desk.proofs.RecordCauses.{record-causes}
 use Rattle.desk.proofs.Stood.{unread, unbuilt, unrun, table-unwritten, transaction-unwritten, command-unwritten}
 
 -- ---- the table
@@ -254,6 +256,8 @@ demand-1 expected table =
     record {
       refused = refused-by expected table;
       admits = admits expected table;
+      causes = causes expected table;
+      recordCauses = record-causes;
       unread = unread a;
       unbuilt = λ check l b₀ b f₀ f x. unbuilt l b₀ b f₀ f x check a;
       unrun = λ check c l n b x. unrun c l n b x check a;

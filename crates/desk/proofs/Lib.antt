@@ -3,10 +3,10 @@ pub mod Laws
 pub mod Told
 pub mod Lent
 pub mod Unique
-pub mod Stood
-pub mod Edition
 pub mod Causes
 pub mod RecordCauses
+pub mod Stood
+pub mod Edition
 pub mod Rows
 pub mod Judges
 pub mod Serves

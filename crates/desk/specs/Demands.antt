@@ -1,5 +1,6 @@
 -- The customer's three demands, of the public calls: on a table's bytes, the bytes or records of a list, a schedule's bytes, a controller. What
--- the calls promise is in the files beside this one; here is what follows from it. Read this file first.
+-- the calls promise is in the files beside this one; here is what follows from it, by the numbers and values that `Numbers` gives for each case of
+-- an answer. Read this file first.
 use Prim.Native.Nat.{ℕ, suc, _+_, _*_, _≤_, _<_}
 use mathlib.Core.Bool.{Bool, true, false}
 use mathlib.Core.Path.{_≡_}
@@ -50,6 +51,7 @@ use Rattle.desk.specs.Bounds.{bounding}
 use Rattle.desk.specs.Transactions.{reading}
 use Rattle.desk.specs.Schedules.{Schedules}
 use Rattle.desk.specs.Running.{starting, running}
+use Rattle.desk.specs.Causes.{Causes, RecordCauses}
 use Rattle.desk.specs.Numbers.{telling, ruleNumber, commandNumbers, judgedNumbers, patternNumbers, boundNumbers, readNumbers, buildNumbers, startNumbers, runNumbers}
 
 -- why a table is not admitted: number 1 by its size or its last number, number 2 by a number out of range, number 10 by its edition
@@ -65,6 +67,9 @@ pub record Demand1 (expected : ℕ) (table : List ℕ) : Type 0 where
   -- a table is refused by number 1, 2 or 10, each with its cause, or it is the 32 bytes' own, accepted, and of the expected edition
   pub refused : (x : Refusal) → admitted expected table ≡ Refused x → NotAdmitted expected table x
   pub admits : (τ : Table) → admitted expected table ≡ Read τ → (length table ≡ 32) × (τ ≡ tableAt table) × Accepted τ × (τ .edition ≡ expected)
+  -- each call tells the number and the position of the first row of "What the caller is told" that applies, and so where it takes no table
+  pub causes : Causes expected table
+  pub recordCauses : (s : List ℕ) → RecordCauses s
   -- no byte, no place of a run of records, and nothing of a controller changes; by either check of a list, of its records or of its bytes
   pub unread : (s : List ℕ) (l : List Transaction) (x : Refusal) → reading (admitted expected table) s l .answer ≡ NotDone x → reading (admitted expected table) s l .list ≡ l
   pub unbuilt : (check : Table → Checked) (l : List Transaction) (b₀ b f₀ f : List ℕ) (x : Refusal) → Schedules check (admitted expected table) l b₀ b f₀ f (NotBuilt x)
