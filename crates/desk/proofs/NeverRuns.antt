@@ -2,10 +2,10 @@
 -- Assumes nothing.
 use Prim.Native.Nat.{ℕ, _+_, _*_, _≤_, min}
 use native.Mathlib.Omega.{arith}
-use mathlib.Core.Bool.{false, _&&_}
+use mathlib.Core.Bool.{Bool, true, false, _&&_}
 use mathlib.Core.Path.{_≡_, refl, sym, ap, _∙_, subst}
-use mathlib.Core.List.{List}
-use lib.Dec.{leb, eqb}
+use mathlib.Core.List.{List, [], _∷_}
+use lib.Dec.{leb, ltb, eqb}
 use lib.ListN.{length}
 use borrow.Author.Tests.{leb-true, le-ltb, ne-eqb}
 use Rattle.records.specs.declared.table.Table.{Table}
@@ -13,12 +13,13 @@ use Rattle.records.specs.declared.table.TableRead.{TableRead}
 use Rattle.records.specs.declared.table.TableRead.the-variants.{Read, Refused}
 use Rattle.records.specs.declared.transaction.Transaction.{Transaction}
 use Rattle.records.specs.declared.refusal.Refusal.{Refusal}
-use Rattle.records.specs.Tests.{every, within}
+use Rattle.records.specs.Tests.{allOf, every, within}
 use Rattle.records.specs.Table.{timings, Accepted}
 use Rattle.records.proofs.Laws.{and-left, and-right}
+use Rattle.rules.specs.declared.state.State.{State}
 use Rattle.rules.specs.Queues.{actQueue, dataQueue}
 use Rattle.engine.specs.Run.{commandsLeft}
-use Rattle.refusals.specs.Refused.{sound, runRefusal}
+use Rattle.refusals.specs.Refused.{banksBefore, lastBefore, goneBacked, sound, runRefusal}
 use Rattle.lists.specs.declared.check.Checked.{Checked}
 use Rattle.controller.specs.Controller.{tells, kept}
 use Rattle.controller.specs.Run.{runController}
@@ -35,15 +36,31 @@ some-edition τ acc =
     let e = and-right (eqb (τ .last) 0) (within 1 65535 (τ .edition) && (within 1 16 (τ .banks) && rest)) acc in
     leb-true 1 (τ .edition) (and-left (leb 1 (τ .edition)) (leb (τ .edition) 65535) (and-left (within 1 65535 (τ .edition)) (within 1 16 (τ .banks) && rest) e))
 
+edition-0 : tells noController .edition ≡ 0
+unfolding tells kept
+edition-0 = refl
+
 -- nothing has left a queue
 nothing-gone : (τ : Table) (l : List Transaction) → commandsLeft τ l (tells noController) ≡ length (actQueue τ l) + length (dataQueue τ l)
 unfolding tells kept
 nothing-gone τ l = omega arith
 
+second-false : (a b c : Bool) → b ≡ false → (a && (b && c)) ≡ false
+second-false true false c e = refl
+second-false false b c e = refl
+second-false true true c e = let z : _≡_ {A = ℕ} 0 1 = cc in absurd (omega arith)
+
 module _ (τ : Table) (acc : Accepted τ) (l : List Transaction) where
+  -- number 9 refuses a state of edition 0
+  no-edition : (s : State) → s .edition ≡ 0 → sound τ l s ≡ false
+  unfolding sound
+  no-edition s e =
+      second-false (ltb (s .cycle) 100000000) (eqb (s .edition) (τ .edition))
+      (allOf (banksBefore (s .cycle) (τ .banks) (s .banks) ∷ lastBefore (s .cycle) s ∷ leb (s .acts) (length (actQueue τ l)) ∷ goneBacked τ l (s .acts) (s .datas) ∷ []))
+      (ne-eqb (s .edition) (τ .edition) (λ k. omega (arith, some-edition τ acc, e, k)))
+
   unsound : sound τ l (tells noController) ≡ false
-  unfolding sound tells kept
-  unsound = rw (ne-eqb 0 (τ .edition) (λ e. omega (arith, some-edition τ acc, e))) refl
+  unsound = no-edition (tells noController) edition-0
 
   by-nine : (n room : ℕ) → 8 * min n (length (actQueue τ l) + length (dataQueue τ l)) ≤ room → runRefusal τ l (tells noController) n room ≡ 9
   unfolding runRefusal
