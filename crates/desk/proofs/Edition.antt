@@ -8,7 +8,7 @@ use mathlib.Core.List.{List, [], _∷_}
 use native.Mathlib.Omega.{arith}
 use lib.Dec.{eqb, leb}
 use lib.ListN.{length}
-use borrow.Author.Tests.{eqb-false}
+use borrow.Author.Tests.{eqb-true, eqb-false}
 use Rattle.records.specs.declared.table.Table.{Table}
 use Rattle.records.specs.declared.table.TableRead.{TableRead}
 use Rattle.records.specs.declared.table.TableRead.the-variants.{Read, Refused}
@@ -23,51 +23,63 @@ use Rattle.records.proofs.Laws.{read-was, table-size}
 use Rattle.rules.specs.Verdict.{judge}
 use Rattle.rules.specs.Bound.{bound}
 use Rattle.rules.specs.Run.{run}
+use Rattle.judge.specs.declared.answer.Judged.{Judged}
 use Rattle.judge.specs.declared.answer.Judged.the-variants.{Verdict, Refused as NotJudged}
 use Rattle.judge.specs.declared.answer.PatternJudged.{PatternJudged}
 use Rattle.judge.specs.declared.answer.PatternJudged.the-variants.{Verdict as PatternVerdict, Refused as PatternNotJudged}
 use Rattle.judge.specs.Answer.{scheduleRefusal, judged}
+use Rattle.builder.specs.declared.bound.BoundAnswer.{BoundAnswer}
 use Rattle.builder.specs.declared.bound.BoundAnswer.the-variants.{Bound, Refused as NoBound}
 use Rattle.builder.specs.declared.build.BuildAnswer.{BuildAnswer}
 use Rattle.builder.specs.declared.build.BuildAnswer.the-variants.{Built, Refused as NotBuilt}
 use Rattle.builder.specs.Bound.{boundRefusal, boundTold}
 use Rattle.lists.specs.declared.check.Checked.{Checked}
 use Rattle.lists.specs.declared.check.Checked.the-variants.{Fine, Refused as NotFine}
-use Rattle.lists.specs.declared.decode.Decoded.the-variants.{Refused as NotDone}
+use Rattle.lists.specs.declared.decode.Decoded.{Decoded}
 use Rattle.lists.specs.Check.{rangeFrom, checkSized, checkList, checkBytes, checkInto}
 use Rattle.lists.specs.Decode.{decodedBy, decoding}
-use Rattle.lists.proofs.Promises.{decode-kept}
 use Rattle.controller.specs.declared.controller.Controller.{Controller}
-use Rattle.controller.specs.declared.run.RunAnswer.the-variants.{Refused as NotRun}
+use Rattle.controller.specs.declared.run.RunAnswer.{RunAnswer}
 use Rattle.controller.specs.Controller.{tells}
 use Rattle.refusals.specs.Refused.{runRefusal}
 use Rattle.controller.specs.Run.{RunLeft, ranLeft, refusedLeft, runController}
 use Rattle.controller.proofs.Halves.{refused}
-use Rattle.desk.specs.Admit.{expecting, admitted}
+use Rattle.desk.specs.declared.running.StartAnswer.{StartAnswer}
+use Rattle.desk.specs.Admit.{expecting, admitted, editionOf}
 use Rattle.desk.specs.Judging.{judging, PatternTold}
 use Rattle.desk.specs.Bounds.{bounding}
 use Rattle.desk.specs.Transactions.{reading}
 use Rattle.desk.specs.Schedules.{BuildsChecked, Schedules}
 use Rattle.desk.specs.Running.{starting, runsChecked, running}
-use Rattle.desk.specs.Named.{editionOf, judgedNames, patternNames, boundNames, readNames, buildNames, startNames, runNames}
+use Rattle.desk.specs.Numbers.{judgedNumbers, patternNumbers, boundNumbers, readNumbers, buildNumbers, startNumbers, runNumbers}
 use Rattle.desk.specs.Demands.{NotAdmitted, Demand1}
 use Rattle.desk.proofs.Laws.{expected-read, read-accepted}
+use Rattle.desk.proofs.Causes.{causes}
+use Rattle.desk.proofs.RecordCauses.{record-causes}
+use Rattle.desk.proofs.Stood.{unread, unbuilt, unrun, table-unwritten, transaction-unwritten, command-unwritten}
 
 -- ---- the table
 
+-- why the reader refuses a table
+abbrev NotRead : List ℕ → Refusal → Type 0
+NotRead s x =
+    ((x ≡ refusal 1 0 0) × ((length s ≡ 32 → ⊥) ⊎ (tableAt s .last ≡ 0 → ⊥)))
+    ⊎ ((x ≡ refusal 2 0 0) × (length s ≡ 32) × (tableAt s .last ≡ 0) × (inRange (tableAt s) ≡ false))
+
 -- a table is refused by the first of numbers 1 and 2 that fails
-read-refused : (s : List ℕ) (x : Refusal) → readTable s ≡ Refused x → (x ≡ refusal 1 0 0) ⊎ (x ≡ refusal 2 0 0)
+read-refused : (s : List ℕ) (x : Refusal) → readTable s ≡ Refused x → NotRead s x
 unfolding readTable
-read-refused s x r = on (not (eqb (length s) 32 && eqb (tableAt s .last) 0)) (not (inRange (tableAt s))) r
+read-refused s x r = on (eqb (length s) 32) refl (eqb (tableAt s .last) 0) refl (inRange (tableAt s)) refl r
   where
     by : Bool → Bool → ℕ
-    by one two = firstFailed ((1, one) ∷ (2, two) ∷ [])
+    by one two = firstFailed ((1, not one) ∷ (2, not two) ∷ [])
 
-    on : (one two : Bool) → pick (eqb (by one two) 0) (Read (tableAt s)) (Refused (refusal (by one two) 0 0)) ≡ Refused x
-        → (x ≡ refusal 1 0 0) ⊎ (x ≡ refusal 2 0 0)
-    on true two e = inl (cc)
-    on false true e = inr (cc)
-    on false false e = let z : _≡_ {A = ℕ} 0 1 = cc in absurd (omega arith)
+    on : (a : Bool) → eqb (length s) 32 ≡ a → (b : Bool) → eqb (tableAt s .last) 0 ≡ b → (c : Bool) → inRange (tableAt s) ≡ c
+        → pick (eqb (by (a && b) c) 0) (Read (tableAt s)) (Refused (refusal (by (a && b) c) 0 0)) ≡ Refused x → NotRead s x
+    on false p b q c h e = inl (cc, inl (eqb-false (length s) 32 p))
+    on true p false q c h e = inl (cc, inr (eqb-false (tableAt s .last) 0 q))
+    on true p true q false h e = inr (cc, eqb-true (length s) 32 p, eqb-true (tableAt s .last) 0 q, h)
+    on true p true q true h e = let z : _≡_ {A = ℕ} 0 1 = cc in absurd (omega arith)
 
 -- the three ways in which a table is not admitted
 refused-by : (e : ℕ) (s : List ℕ) (x : Refusal) → admitted e s ≡ Refused x → NotAdmitted e s x
@@ -77,11 +89,11 @@ refused-by e s x h = on (readTable s) refl h
     other : (τ : Table) → readTable s ≡ Read τ → (b : Bool) → eqb (τ .edition) e ≡ b
         → pick b (Read τ) (Refused (refusal 10 (τ .edition) (τ .edition))) ≡ Refused x → NotAdmitted e s x
     other τ q true t h = let z : _≡_ {A = ℕ} 0 1 = cc in absurd (omega arith)
-    other τ q false t h = let w : refusal 10 (τ .edition) (τ .edition) ≡ x = cc in inr (τ, q, eqb-false (τ .edition) e t, sym w)
+    other τ q false t h = let w : refusal 10 (τ .edition) (τ .edition) ≡ x = cc in inr (inr (τ, q, eqb-false (τ .edition) e t, sym w))
 
     on : (a : TableRead) → readTable s ≡ a → expecting e a ≡ Refused x → NotAdmitted e s x
     on (Read τ) q h = other τ q (eqb (τ .edition) e) refl h
-    on (Refused y) q h = inl (read-refused s x (q ∙ h))
+    on (Refused y) q h = ⊎-elim (λ k. inl k) (λ k. inr (inl k)) (read-refused s x (q ∙ h))
 
 -- what a refusal by the table, or an answer, names: the table's own edition
 abbrev told : TableRead → ℕ
@@ -99,7 +111,7 @@ own e s = on (readTable s) refl
     -- "Refusals 1 and 2 name edition 0"
     on : (a : TableRead) → readTable s ≡ a → told (expecting e a) ≡ editionOf a
     on (Read τ) q = same τ (eqb (τ .edition) e)
-    on (Refused x) q = ⊎-elim (λ k. ap (λ (y : Refusal). y .edition) k) (λ k. ap (λ (y : Refusal). y .edition) k) (read-refused s x q)
+    on (Refused x) q = ⊎-elim (λ k. ap (λ (y : Refusal). y .edition) (k .0)) (λ k. ap (λ (y : Refusal). y .edition) (k .0)) (read-refused s x q)
 
 admits : (e : ℕ) (s : List ℕ) (τ : Table) → admitted e s ≡ Read τ → (length s ≡ 32) × (τ ≡ tableAt s) × Accepted τ × (τ .edition ≡ e)
 unfolding readTable
@@ -138,40 +150,28 @@ module _ (τ : Table) (x : Refusal) where
   unfolding checkInto
   into-names s places e = sized-names (eqb (length s % 4) 0 && (leb (length s / 4) 256 && leb (length s / 4) places)) (transactionsIn s) e
 
--- ---- what a refused call leaves
-
-unread : (a : TableRead) (s : List ℕ) (l : List Transaction) (x : Refusal) → reading a s l .answer ≡ NotDone x → reading a s l .list ≡ l
-unfolding reading
-unread (Read τ) s l x e = decode-kept τ s l .refused x e
-unread (Refused y) s l x e = refl
-
-module _ (l : List Transaction) (b₀ b f₀ f : List ℕ) (x : Refusal) where
-  unbuilt-checked : (c : Checked) (τ : Table) → BuildsChecked c τ l b₀ b f₀ f (NotBuilt x) → (b ≡ b₀) × (f ≡ f₀)
-  unfolding BuildsChecked
-  unbuilt-checked Fine τ h = (h .2, h .3)
-  unbuilt-checked (NotFine y) τ h = (h .1, h .2)
-
-  unbuilt : (check : Table → Checked) (a : TableRead) → Schedules check a l b₀ b f₀ f (NotBuilt x) → (b ≡ b₀) × (f ≡ f₀)
-  unfolding Schedules
-  unbuilt check (Read τ) h = unbuilt-checked (check τ) τ h
-  unbuilt check (Refused y) h = (h .1, h .2)
-
-module _ (c : Controller) (l : List Transaction) (n : ℕ) (b : List ℕ) (x : Refusal) where
-  -- the controller and the buffer are as they stood
-  abbrev Stood : RunLeft → Type 0
-  Stood w = (w .told .controller ≡ c) × (w .buffer ≡ b)
-
-  unrun-checked : (d : Checked) (τ : Table) → runsChecked d c τ l n b .told .answer ≡ NotRun x → Stood (runsChecked d c τ l n b)
-  unfolding runsChecked
-  unrun-checked Fine τ e = let w = refused τ l c n b x e in (ap (λ (v : RunLeft). v .told .controller) w, ap (λ (v : RunLeft). v .buffer) w)
-  unrun-checked (NotFine y) τ e = (refl, refl)
-
-  unrun : (check : Table → Checked) (a : TableRead) → running check a c l n b .told .answer ≡ NotRun x → Stood (running check a c l n b)
-  unfolding running
-  unrun check (Read τ) e = unrun-checked (check τ) τ e
-  unrun check (Refused y) e = (refl, refl)
-
 -- ---- what each answer names, by what `admit` answered
+
+abbrev judgedNames : Judged → ℕ
+judgedNames r = judgedNumbers r .edition
+
+abbrev patternNames : PatternJudged → ℕ
+patternNames r = patternNumbers r .edition
+
+abbrev boundNames : BoundAnswer → ℕ
+boundNames r = boundNumbers r .edition
+
+abbrev readNames : Decoded → ℕ
+readNames r = readNumbers r .edition
+
+abbrev buildNames : BuildAnswer → ℕ
+buildNames r = buildNumbers r .edition
+
+abbrev startNames : StartAnswer → ℕ
+startNames r = startNumbers r .edition
+
+abbrev runNames : RunAnswer → ℕ
+runNames r = runNumbers r .edition
 
 -- an answer and a refusal that name the same
 either : {A : Type 0} (names : A → ℕ) (b : Bool) (x y : A) (e : ℕ) → names x ≡ e → names y ≡ e → names (pick b x y) ≡ e
@@ -256,9 +256,14 @@ demand-1 expected table =
     record {
       refused = refused-by expected table;
       admits = admits expected table;
+      causes = causes expected table;
+      recordCauses = record-causes;
       unread = unread a;
       unbuilt = λ check l b₀ b f₀ f x. unbuilt l b₀ b f₀ f x check a;
       unrun = λ check c l n b x. unrun c l n b x check a;
+      tableUnwritten = table-unwritten;
+      transactionUnwritten = transaction-unwritten;
+      commandUnwritten = command-unwritten;
       judge = λ s. judge-names a s ∙ e;
       pattern = λ s L r p. pattern-names a s L r p ∙ e;
       bound = λ bi bc. bound-names a bi bc ∙ e;

@@ -1,20 +1,22 @@
--- Runs of the public call are the runs of the controller: n cycles and then m, and to the end.
+-- Runs of the public calls are the runs of the controller: n cycles and then m, and to the end.
 -- Assumes nothing.
-use Prim.Native.Nat.{ℕ, _+_}
+use Prim.Native.Nat.{ℕ, _%_}
 use mathlib.Core.Bool.{true}
-use mathlib.Core.Path.{_≡_, refl, sym, ap, _∙_, subst}
+use mathlib.Core.Path.{_≡_, sym, ap, _∙_}
 use mathlib.Core.List.{List}
+use lib.ListN.{length}
 use Rattle.records.specs.declared.table.Table.{Table}
 use Rattle.records.specs.declared.table.TableRead.{TableRead}
 use Rattle.records.specs.declared.table.TableRead.the-variants.{Read}
 use Rattle.records.specs.declared.transaction.Transaction.{Transaction}
-use Rattle.records.specs.Transaction.{listFits}
+use Rattle.records.specs.Transaction.{transactionsIn, listFits}
 use Rattle.lists.specs.declared.check.Checked.{Checked}
-use Rattle.lists.specs.Check.{checkList}
-use Rattle.lists.proofs.Checks.{fits-fine}
+use Rattle.lists.specs.declared.check.Checked.the-variants.{Fine}
+use Rattle.lists.specs.Check.{checkList, checkBytes}
+use Rattle.lists.proofs.Checks.{fits-fine, bytes-list}
 use Rattle.controller.specs.declared.controller.Controller.{Controller}
 use Rattle.controller.specs.Controller.{freshController}
-use Rattle.controller.specs.Run.{RunLeft, runController}
+use Rattle.controller.specs.Run.{runController}
 use Rattle.controller.proofs.Halves.{together}
 use Rattle.controller.proofs.Fresh.{fresh-ends}
 use Rattle.desk.specs.Admit.{admitted}
@@ -22,22 +24,29 @@ use Rattle.desk.specs.Running.{starting, runsChecked, running}
 use Rattle.desk.specs.Runs.{RunsOn}
 use Rattle.desk.proofs.Laws.{read-accepted}
 
-module _ (expected : ℕ) (table : List ℕ) (τ : Table) (read : admitted expected table ≡ Read τ) (l : List Transaction) (fit : listFits τ l ≡ true) where
-  same : (c : Controller) (n : ℕ) (b : List ℕ) → runController c τ l n b ≡ running (λ τ. checkList τ l) (admitted expected table) c l n b
-  unfolding running runsChecked
-  same c n b =
-      ap (λ (d : Checked). runsChecked d c τ l n b) (sym (fits-fine τ l fit))
-      ∙ ap (λ (a : TableRead). running (λ τ. checkList τ l) a c l n b) (sym read)
-
+module _ (expected : ℕ) (table : List ℕ) (τ : Table) (read : admitted expected table ≡ Read τ) where
   fresh : starting (admitted expected table) .controller ≡ freshController τ
   unfolding starting
   fresh = ap (λ (a : TableRead). starting a .controller) read
 
-  pub runs-on : RunsOn expected table τ l
-  runs-on =
-      record {
-        left = λ c n b. runController c τ l n b;
-        isLeft = same;
-        halves = λ c rg n m b₁ b₂ b x y z. together τ l c rg n m b₁ b₂ b x y z;
-        toEnd = λ rs built n h b x. rw fresh (fresh-ends τ (read-accepted expected table τ read) l fit rs built n h b x);
-      }
+  -- of a list that fits, which the check finds fine
+  module _ (check : Table → Checked) (l : List Transaction) (fit : listFits τ l ≡ true) (fine : check τ ≡ Fine) where
+    same : (c : Controller) (n : ℕ) (b : List ℕ) → runController c τ l n b ≡ running check (admitted expected table) c l n b
+    unfolding running runsChecked
+    same c n b = ap (λ (d : Checked). runsChecked d c τ l n b) (sym fine) ∙ ap (λ (a : TableRead). running check a c l n b) (sym read)
+
+    by-check : RunsOn expected table τ check l
+    by-check =
+        record {
+          left = λ c n b. runController c τ l n b;
+          isLeft = same;
+          halves = λ c rg n m b₁ b₂ b x y z. together τ l c rg n m b₁ b₂ b x y z;
+          toEnd = λ rs built n h b x. rw fresh (fresh-ends τ (read-accepted expected table τ read) l fit rs built n h b x);
+        }
+
+  -- of a lent run of records, and of a list's bytes
+  pub runs-on : (l : List Transaction) → listFits τ l ≡ true → RunsOn expected table τ (λ τ. checkList τ l) l
+  runs-on l fit = by-check (λ τ. checkList τ l) l fit (fits-fine τ l fit)
+
+  pub runs-on-bytes : (s : List ℕ) → length s % 4 ≡ 0 → listFits τ (transactionsIn s) ≡ true → RunsOn expected table τ (λ τ. checkBytes τ s) (transactionsIn s)
+  runs-on-bytes s whole fit = by-check (λ τ. checkBytes τ s) (transactionsIn s) fit (bytes-list τ s whole ∙ fits-fine τ (transactionsIn s) fit)

@@ -1,5 +1,5 @@
 -- "Checks go in the order of these numbers": each call that takes a table admits it first, by numbers 1 and 2, which name edition 0, and then by
--- number 10.
+-- number 10, which names the table's.
 use Prim.Native.Nat.{ℕ}
 use mathlib.Core.List.{List}
 use lib.Dec.{eqb}
@@ -28,3 +28,8 @@ admitted e s = expecting e (readTable s)
 abbrev pub tooMany : TableRead → Refusal
 tooMany (Read τ) = refusal 3 0 (τ .edition)
 tooMany (Refused x) = x
+
+-- the edition that every answer must name: "Refusals 1 and 2 name edition 0"
+abbrev pub editionOf : TableRead → ℕ
+editionOf (Read τ) = τ .edition
+editionOf (Refused x) = 0

@@ -6,7 +6,7 @@ use Rattle.builder.specs.declared.bound.BoundAnswer.{BoundAnswer}
 use Rattle.builder.specs.declared.bound.BoundAnswer.the-variants.{Refused as NoBound}
 use Rattle.builder.specs.Bound.{boundTold}
 
--- numbers 1 and 2; then number 4 and the bound for (BI, BC)
+-- numbers 1, 2 and 10; then number 4 and the bound for (BI, BC)
 unfoldable pub bounding : TableRead → ℕ → ℕ → BoundAnswer
 bounding (Read τ) bi bc = boundTold τ bi bc
 bounding (Refused x) bi bc = NoBound x

@@ -1,11 +1,12 @@
 -- The customer's three demands, of the public calls: on a table's bytes, the bytes or records of a list, a schedule's bytes, a controller. What
--- the calls promise is in the files beside this one; here is what follows from it. Read this file first.
+-- the calls promise is in the files beside this one; here is what follows from it, by the numbers and values that `Numbers` gives for each case of
+-- an answer. Read this file first.
 use Prim.Native.Nat.{ℕ, suc, _+_, _*_, _≤_, _<_}
-use mathlib.Core.Bool.{true}
+use mathlib.Core.Bool.{Bool, true, false}
 use mathlib.Core.Path.{_≡_}
 use mathlib.Core.Logic.{_↔_, _⊎_}
 use mathlib.Core.Option.{some}
-use mathlib.Core.List.{List, []}
+use mathlib.Core.List.{List, [], _∷_}
 use lib.Dec.{ltb}
 use lib.ListN.{length, getElem?, getD, take, drop}
 use Rattle.records.specs.declared.table.Table.{Table}
@@ -13,26 +14,28 @@ use Rattle.records.specs.declared.table.TableRead.the-variants.{Read, Refused}
 use Rattle.records.specs.declared.transaction.Transaction.{Transaction}
 use Rattle.records.specs.declared.command.Command.{Command}
 use Rattle.records.specs.declared.refusal.Refusal.{Refusal}
+use Rattle.records.specs.declared.refusal.Written.the-variants.{Refused as NotWritten}
 use Rattle.records.specs.Tests.{pick}
 use Rattle.records.specs.Told.{refusal}
-use Rattle.records.specs.Table.{tableAt, readTable, Accepted}
-use Rattle.records.specs.Transaction.{transactionsIn}
-use Rattle.records.specs.Command.{commandsIn, bytesOfAll}
+use Rattle.records.specs.Little.{num, num32}
+use Rattle.records.specs.Table.{tableAt, inRange, readTable, writeTable, Accepted}
+use Rattle.records.specs.Transaction.{transactionsIn, writeTransaction}
+use Rattle.records.specs.Command.{commandsIn, bytesOfAll, readCommand, writeCommand}
 use Rattle.rules.specs.declared.state.Stamp.the-variants.{At}
 use Rattle.rules.specs.declared.verdict.Rule.{Rule}
-use Rattle.rules.specs.declared.verdict.Verdict.the-variants.{Accepted as Passed, Refused as Broken}
+use Rattle.rules.specs.declared.verdict.Verdict.the-variants.{Accepted as Passed}
 use Rattle.rules.specs.declared.verdict.PatternVerdict.the-variants.{Accepted as AllPassed, Refused as BrokenAt}
+use Rattle.rules.specs.History.{rules}
 use Rattle.rules.specs.Verdict.{allShut}
-use Rattle.rules.specs.Pattern.{onto, copies, EveryNumberLegal}
+use Rattle.rules.specs.Pattern.{onto, copy, endToEnd, copies, EveryNumberLegal}
 use Rattle.rules.specs.Queues.{actQueue, dataQueue}
 use Rattle.rules.specs.CycleRule.{Built as IsBuilt}
 use Rattle.rules.specs.Finish.{lastData, finishOf, finish}
 use Rattle.rules.specs.Bound.{bound}
 use Rattle.rules.specs.Promise.{ofFirst, cycleOf, lastDataCycle}
-use Rattle.rules.specs.Demands.{FineTo, FirstBroken}
+use Rattle.rules.specs.Demands.{FineTo}
 use Rattle.judge.specs.declared.answer.Judged.the-variants.{Verdict}
 use Rattle.judge.specs.declared.answer.PatternJudged.{PatternJudged}
-use Rattle.judge.specs.declared.answer.PatternJudged.the-variants.{Verdict as PatternVerdict}
 use Rattle.judge.specs.Answer.{scheduleRefusal, patternRefusal}
 use Rattle.builder.specs.declared.bound.BoundAnswer.the-variants.{Bound}
 use Rattle.builder.specs.declared.build.BuildAnswer.{BuildAnswer}
@@ -42,26 +45,31 @@ use Rattle.lists.specs.declared.check.Checked.{Checked}
 use Rattle.lists.specs.Check.{checkList, checkBytes}
 use Rattle.controller.specs.declared.controller.Controller.{Controller}
 use Rattle.controller.specs.declared.run.RunAnswer.the-variants.{Refused as NotRun}
-use Rattle.desk.specs.Admit.{admitted}
+use Rattle.desk.specs.Admit.{admitted, editionOf}
 use Rattle.desk.specs.Judging.{judging, PatternTold}
 use Rattle.desk.specs.Bounds.{bounding}
 use Rattle.desk.specs.Transactions.{reading}
 use Rattle.desk.specs.Schedules.{Schedules}
 use Rattle.desk.specs.Running.{starting, running}
-use Rattle.desk.specs.Named.{editionOf, judgedNames, patternNames, boundNames, readNames, buildNames, startNames, runNames}
+use Rattle.desk.specs.Causes.{Causes, RecordCauses}
+use Rattle.desk.specs.Numbers.{telling, ruleNumber, commandNumbers, judgedNumbers, patternNumbers, boundNumbers, readNumbers, buildNumbers, startNumbers, runNumbers}
 
--- why a table is not admitted: its bytes are refused, or its edition is not the expected one
+-- why a table is not admitted: number 1 by its size or its last number, number 2 by a number out of range, number 10 by its edition
 abbrev pub NotAdmitted : ℕ → List ℕ → Refusal → Type 0
 NotAdmitted expected table x =
-    ((x ≡ refusal 1 0 0) ⊎ (x ≡ refusal 2 0 0))
-    ⊎ ((τ : Table) × (readTable table ≡ Read τ) × (τ .edition ≡ expected → ⊥) × (x ≡ refusal 10 (τ .edition) (τ .edition)))
+    ((x ≡ refusal 1 0 0) × ((length table ≡ 32 → ⊥) ⊎ (tableAt table .last ≡ 0 → ⊥)))
+    ⊎ (((x ≡ refusal 2 0 0) × (length table ≡ 32) × (tableAt table .last ≡ 0) × (inRange (tableAt table) ≡ false))
+    ⊎ ((τ : Table) × (readTable table ≡ Read τ) × (τ .edition ≡ expected → ⊥) × (x ≡ refusal 10 (τ .edition) (τ .edition))))
 
 -- Demand 1: "Any bytes at all can be handed in" (no call requires anything), "A refused call writes no byte", "Every answer worked out from a
 -- table names that table's edition".
 pub record Demand1 (expected : ℕ) (table : List ℕ) : Type 0 where
-  -- a table is refused by number 1, 2 or 10, or it is the 32 bytes' own, accepted, and of the expected edition
+  -- a table is refused by number 1, 2 or 10, each with its cause, or it is the 32 bytes' own, accepted, and of the expected edition
   pub refused : (x : Refusal) → admitted expected table ≡ Refused x → NotAdmitted expected table x
   pub admits : (τ : Table) → admitted expected table ≡ Read τ → (length table ≡ 32) × (τ ≡ tableAt table) × Accepted τ × (τ .edition ≡ expected)
+  -- each call tells the number and the position of the first row of "What the caller is told" that applies, and so where it takes no table
+  pub causes : Causes expected table
+  pub recordCauses : (s : List ℕ) → RecordCauses s
   -- no byte, no place of a run of records, and nothing of a controller changes; by either check of a list, of its records or of its bytes
   pub unread : (s : List ℕ) (l : List Transaction) (x : Refusal) → reading (admitted expected table) s l .answer ≡ NotDone x → reading (admitted expected table) s l .list ≡ l
   pub unbuilt : (check : Table → Checked) (l : List Transaction) (b₀ b f₀ f : List ℕ) (x : Refusal) → Schedules check (admitted expected table) l b₀ b f₀ f (NotBuilt x)
@@ -69,37 +77,59 @@ pub record Demand1 (expected : ℕ) (table : List ℕ) : Type 0 where
   pub unrun : (check : Table → Checked) (c : Controller) (l : List Transaction) (n : ℕ) (b : List ℕ) (x : Refusal)
       → running check (admitted expected table) c l n b .told .answer ≡ NotRun x
       → (running check (admitted expected table) c l n b .told .controller ≡ c) × (running check (admitted expected table) c l n b .buffer ≡ b)
+  -- nor a byte of the buffer of a call that writes one record
+  pub tableUnwritten : (l s : List ℕ) (x : Refusal) → writeTable l s .answer ≡ NotWritten x → writeTable l s .buffer ≡ s
+  pub transactionUnwritten : (t : Transaction) (s : List ℕ) (x : Refusal) → writeTransaction t s .answer ≡ NotWritten x → writeTransaction t s .buffer ≡ s
+  pub commandUnwritten : (c : Command) (s : List ℕ) (x : Refusal) → writeCommand c s .answer ≡ NotWritten x → writeCommand c s .buffer ≡ s
   -- the table's edition, in every answer and every refusal, whichever was expected
-  pub judge : (s : List ℕ) → judgedNames (judging (admitted expected table) s) ≡ editionOf (readTable table)
-  pub pattern : (s : List ℕ) (L : ℕ) (r : PatternJudged) → PatternTold (admitted expected table) s L r → patternNames r ≡ editionOf (readTable table)
-  pub bound : (bi bc : ℕ) → boundNames (bounding (admitted expected table) bi bc) ≡ editionOf (readTable table)
-  pub read : (s : List ℕ) (l : List Transaction) → readNames (reading (admitted expected table) s l .answer) ≡ editionOf (readTable table)
+  pub judge : (s : List ℕ) → judgedNumbers (judging (admitted expected table) s) .edition ≡ editionOf (readTable table)
+  pub pattern : (s : List ℕ) (L : ℕ) (r : PatternJudged) → PatternTold (admitted expected table) s L r → patternNumbers r .edition ≡ editionOf (readTable table)
+  pub bound : (bi bc : ℕ) → boundNumbers (bounding (admitted expected table) bi bc) .edition ≡ editionOf (readTable table)
+  pub read : (s : List ℕ) (l : List Transaction) → readNumbers (reading (admitted expected table) s l .answer) .edition ≡ editionOf (readTable table)
   pub schedule : (l : List Transaction) (b₀ b f₀ f : List ℕ) (r : BuildAnswer) → Schedules (λ τ. checkList τ l) (admitted expected table) l b₀ b f₀ f r
-      → buildNames r ≡ editionOf (readTable table)
+      → buildNumbers r .edition ≡ editionOf (readTable table)
   pub scheduleBytes : (s b₀ b f₀ f : List ℕ) (r : BuildAnswer) → Schedules (λ τ. checkBytes τ s) (admitted expected table) (transactionsIn s) b₀ b f₀ f r
-      → buildNames r ≡ editionOf (readTable table)
-  pub start : startNames (starting (admitted expected table) .answer) ≡ editionOf (readTable table)
+      → buildNumbers r .edition ≡ editionOf (readTable table)
+  pub start : startNumbers (starting (admitted expected table) .answer) .edition ≡ editionOf (readTable table)
   pub run : (c : Controller) (l : List Transaction) (n : ℕ) (b : List ℕ)
-      → runNames (running (λ τ. checkList τ l) (admitted expected table) c l n b .told .answer) ≡ editionOf (readTable table)
+      → runNumbers (running (λ τ. checkList τ l) (admitted expected table) c l n b .told .answer) .edition ≡ editionOf (readTable table)
   pub runBytes : (c : Controller) (s : List ℕ) (n : ℕ) (b : List ℕ)
-      → runNames (running (λ τ. checkBytes τ s) (admitted expected table) c (transactionsIn s) n b .told .answer) ≡ editionOf (readTable table)
+      → runNumbers (running (λ τ. checkBytes τ s) (admitted expected table) c (transactionsIn s) n b .told .answer) .edition ≡ editionOf (readTable table)
+
+-- of a record's tests, which stand in the order of the rules' numbers, from 1: number n is the first that fails
+abbrev pub FirstFails : List Bool → ℕ → Type 0
+FirstFails ts n = (k : ℕ) × (n ≡ k + 1) × (getD ts k true ≡ false) × ((m : ℕ) → m < k → getD ts m true ≡ true)
+
+-- record i of rs breaks rule n, 1 to 9, against all records before it, of which those of h are the oldest, and no record before it breaks a
+-- rule; or n is 10, "at the end a bank is open; the record number is then the count"
+abbrev pub BreaksNumber : Table → List Command → List Command → ℕ → ℕ → Type 0
+BreaksNumber τ h rs n i =
+    FineTo τ h rs i
+    × (((r : Command) × (getElem? rs i ≡ some r) × FirstFails (rules τ r (onto (take i rs) h)) n)
+    ⊎ ((n ≡ 10) × (i ≡ length rs) × (allShut (τ .banks) (onto rs h) ≡ false)))
 
 -- Demand 2, of a table that is admitted: "calls whose editions agree" (document 02, request 1).
 pub record Demand2 (expected : ℕ) (table : List ℕ) (τ : Table) : Type 0 where
   -- "The schedule built is exactly the one the cycle rule of document 01 gives", by either check of a list
   pub built : (check : Table → Checked) (l : List Transaction) (b₀ b f₀ f : List ℕ) (e n : ℕ) → Schedules check (admitted expected table) l b₀ b f₀ f (Built e n)
       → (rs : List Command) × IsBuilt τ l rs × (n ≡ length rs) × (take (8 * n) b ≡ bytesOfAll rs)
-  -- "The judge accepts a schedule exactly when every timing rule there holds, and otherwise names the first broken record and rule."
+  -- "The judge accepts a schedule exactly when every timing rule there holds, and otherwise names the first broken record and rule": it tells
+  -- the edition alone, or rule n and record i
   pub accepts : (s : List ℕ) → scheduleRefusal (length s) ≡ 0
-      → (judging (admitted expected table) s ≡ Verdict (τ .edition) Passed)
+      → (judgedNumbers (judging (admitted expected table) s) ≡ telling (τ .edition) [])
       ↔ (FineTo τ [] (commandsIn s) (length (commandsIn s)) × (allShut (τ .banks) (onto (commandsIn s) []) ≡ true))
-  pub names : (s : List ℕ) (e : ℕ) (x : Rule) (i : ℕ) → judging (admitted expected table) s ≡ Verdict e (Broken x i) → FirstBroken τ [] (commandsIn s) x i
+  pub names : (s : List ℕ) (e n i : ℕ) → judgedNumbers (judging (admitted expected table) s) ≡ telling e (n ∷ i ∷ []) → BreaksNumber τ [] (commandsIn s) n i
   -- "It accepts a repeated pattern exactly when every number of copies, set end to end, is a legal schedule."
   pub pattern : (s : List ℕ) (L : ℕ) (r : PatternJudged) → patternRefusal (length s) L ≡ 0 → PatternTold (admitted expected table) s L r
-      → (r ≡ PatternVerdict (τ .edition) AllPassed) ↔ EveryNumberLegal τ L (commandsIn s)
+      → (patternNumbers r ≡ telling (τ .edition) []) ↔ EveryNumberLegal τ L (commandsIn s)
   -- and a refusal names the lowest copy: fewer copies are accepted, and from that copy on all are refused alike
-  pub lowest : (s : List ℕ) (L e : ℕ) (x : Rule) (c i : ℕ) → PatternTold (admitted expected table) s L (PatternVerdict e (BrokenAt x c i))
-      → (n : ℕ) → copies τ L (commandsIn s) n ≡ pick (ltb n c) AllPassed (BrokenAt x c i)
+  pub lowest : (s : List ℕ) (L : ℕ) (r : PatternJudged) (e n c i : ℕ) → PatternTold (admitted expected table) s L r → patternNumbers r ≡ telling e (n ∷ c ∷ i ∷ [])
+      → (x : Rule) × (ruleNumber x ≡ n) × ((m : ℕ) → copies τ L (commandsIn s) m ≡ pick (ltb m c) AllPassed (BrokenAt x c i))
+  -- "then the record within it": record i of copy c, which is k + 1, breaks rule n after k copies
+  pub within : (s : List ℕ) (L : ℕ) (r : PatternJudged) (e n c i : ℕ) → PatternTold (admitted expected table) s L r → patternNumbers r ≡ telling e (n ∷ c ∷ i ∷ [])
+      → (k : ℕ) × (c ≡ k + 1) × BreaksNumber τ (onto (endToEnd L (commandsIn s) k 0) []) (copy L (commandsIn s) k) n i
+  -- the number of a command's kind is the byte that its record holds
+  pub kindByte : (s : List ℕ) → length s ≡ 8 → commandNumbers (readCommand s) ≡ telling 0 (num32 s 0 ∷ getD s 4 0 ∷ getD s 5 0 ∷ num s 6 ∷ [])
 
 -- Demand 3: "For every accepted table and transaction list with room for the result". b and f are what the two buffers hold after the call.
 pub record Demand3 (expected : ℕ) (table : List ℕ) (τ : Table) (l : List Transaction) (b₀ b f₀ f : List ℕ) (r : BuildAnswer) : Type 0 where

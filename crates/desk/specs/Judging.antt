@@ -10,12 +10,12 @@ use Rattle.judge.specs.declared.answer.PatternJudged.{PatternJudged}
 use Rattle.judge.specs.declared.answer.PatternJudged.the-variants.{Refused as PatternNotJudged}
 use Rattle.judge.specs.Answer.{judged, PatternAnswers}
 
--- numbers 1 and 2; then number 7 and the verdict on the schedule's bytes
+-- numbers 1, 2 and 10; then number 7 and the verdict on the schedule's bytes
 unfoldable pub judging : TableRead → List ℕ → Judged
 judging (Read τ) s = judged τ s
 judging (Refused x) s = NotJudged x
 
--- numbers 1 and 2; then 7, 8 and the verdict on every number of copies
+-- numbers 1, 2 and 10; then 7, 8 and the verdict on every number of copies
 unfoldable pub PatternTold : TableRead → List ℕ → ℕ → PatternJudged → Type 0
 PatternTold (Read τ) s L r = PatternAnswers τ s L r
 PatternTold (Refused x) s L r = r ≡ PatternNotJudged x

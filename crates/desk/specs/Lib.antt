@@ -4,7 +4,9 @@ pub mod Bounds
 pub mod Transactions
 pub mod Schedules
 pub mod Running
-pub mod Named
+pub mod Numbers
+pub mod Causes
 pub mod Only
 pub mod Demands
 pub mod Runs
+pub mod Calls

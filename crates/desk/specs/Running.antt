@@ -23,7 +23,7 @@ use Rattle.desk.specs.declared.running.StartAnswer.the-variants.{Started
 abbrev pub noController : Controller
 noController = freshController (tableOf (replicate 16 0))
 
--- numbers 1 and 2; then "the table's edition, cycle 0, all banks closed and "never" throughout"
+-- numbers 1, 2 and 10; then "the table's edition, cycle 0, all banks closed and "never" throughout"
 unfoldable pub starting : TableRead → StartTold
 starting (Read τ) = record { controller = freshController τ; answer = Started (τ .edition) }
 starting (Refused x) = record { controller = noController; answer = NotStarted x }
@@ -37,7 +37,7 @@ unfoldable pub runsChecked : Checked → Controller → Table → List Transacti
 runsChecked Fine c τ l count b = runController c τ l count b
 runsChecked (NotFine x) c τ l count b = nothingRun x c b
 
--- numbers 1 and 2; then the check of the list by the table, and the rest
+-- numbers 1, 2 and 10; then the check of the list by the table, and the rest
 unfoldable pub running : (Table → Checked) → TableRead → Controller → List Transaction → ℕ → List ℕ → RunLeft
 running check (Read τ) c l count b = runsChecked (check τ) c τ l count b
 running check (Refused x) c l count b = nothingRun x c b

@@ -22,7 +22,7 @@ unfoldable pub BuildsChecked : Checked → Table → List Transaction → List �
 BuildsChecked Fine τ l b₀ b f₀ f r = LeavesBuild τ l b₀ b f₀ f r
 BuildsChecked (NotFine x) τ l b₀ b f₀ f r = NothingBuilt x b₀ b f₀ f r
 
--- numbers 1 and 2; then the check of the list by the table, and the rest
+-- numbers 1, 2 and 10; then the check of the list by the table, and the rest
 unfoldable pub Schedules : (Table → Checked) → TableRead → List Transaction → List ℕ → List ℕ → List ℕ → List ℕ → BuildAnswer → Type 0
 Schedules check (Read τ) l b₀ b f₀ f r = BuildsChecked (check τ) τ l b₀ b f₀ f r
 Schedules check (Refused x) l b₀ b f₀ f r = NothingBuilt x b₀ b f₀ f r

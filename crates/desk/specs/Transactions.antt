@@ -8,7 +8,7 @@ use Rattle.lists.specs.declared.decode.Decoded.the-variants.{Refused as NotDone
 use Rattle.lists.specs.declared.decode.Plan.{Plan}
 use Rattle.lists.specs.Decode.{Decoding, decoding, plan}
 
--- numbers 1 and 2; then 3, 4 and the transactions of the bytes s from the start of the run that held l
+-- numbers 1, 2 and 10; then 3, 4 and the transactions of the bytes s from the start of the run that held l
 unfoldable pub reading : TableRead → List ℕ → List Transaction → Decoding
 reading (Read τ) s l = decoding τ s l
 reading (Refused x) s l = record { answer = NotDone x; list = l }

@@ -3,6 +3,7 @@
 pub mod admit;
 pub mod bounding;
 pub mod judging;
+pub mod numbers;
 pub mod running;
 pub mod schedules;
 pub mod transactions;

@@ -7,10 +7,10 @@ use libc::STDOUT_FILENO;
 use records::refusal::Refusal;
 use records::refusal::Written;
 use records::table::TableRead;
+use desk::numbers::rule_number;
 use rules::verdict::PatternVerdict;
 use rules::verdict::Rule;
 use rules::verdict::Verdict;
-use rules::verdict::rule_number;
 
 pub(crate) fn written(answer: Written) {
     match answer {

@@ -1,39 +1,38 @@
--- "A verdict is acceptance, or a refusal that carries the rule inside it with the record number, from 0": the judges' answers as plain numbers.
+-- "A verdict is acceptance, or a refusal that carries the rule inside it with the record number, from 0": the judges' answers as structs of the
+-- desk's `Numbers`, with 0 for a value that the answer's case does not have.
 use Prim.Native.Nat.{ℕ}
 use Rattle.records.specs.declared.refusal.Refusal.{Refusal}
 use Rattle.rules.specs.declared.verdict.Verdict.{Verdict}
-use Rattle.rules.specs.declared.verdict.Verdict.the-variants.{Accepted, Refused}
 use Rattle.rules.specs.declared.verdict.PatternVerdict.{PatternVerdict}
-use Rattle.rules.specs.declared.verdict.PatternVerdict.the-variants.{Accepted as AllAccepted, Refused as RefusedAt}
-use Rattle.rules.specs.Kinds.{ruleNumber}
 use Rattle.judge.specs.declared.answer.Judged.{Judged}
-use Rattle.judge.specs.declared.answer.Judged.the-variants.{Verdict as Says, Refused as NotJudged}
+use Rattle.judge.specs.declared.answer.Judged.the-variants.{Verdict as Says}
 use Rattle.judge.specs.declared.answer.PatternJudged.{PatternJudged}
-use Rattle.judge.specs.declared.answer.PatternJudged.the-variants.{Verdict as PatternSays, Refused as PatternNotJudged}
+use Rattle.judge.specs.declared.answer.PatternJudged.the-variants.{Verdict as PatternSays}
+use Rattle.desk.specs.Numbers.{Numbers, refusing, judgedNumbers, patternNumbers}
 use Rattle.host.specs.declared.verdict.VerdictAnswer.{VerdictAnswer}
+use Rattle.host.specs.Answers.{value}
 
 -- the table's edition, the rule broken (0 where none is), the copy and the record in it
 abbrev pub saying : ℕ → ℕ → ℕ → ℕ → VerdictAnswer
 saying e rule copy i = record { refused = 0; position = 0; edition = e; rule = rule; copy = copy; «record» = i }
 
+abbrev pub sayingOf : Numbers → ℕ → ℕ → ℕ → VerdictAnswer
+sayingOf a rule copy i = record { refused = a .refused; position = a .position; edition = a .edition; rule = rule; copy = copy; «record» = i }
+
 -- nothing was judged
 abbrev pub notSaying : Refusal → VerdictAnswer
-notSaying x = record { refused = x .number; position = x .position; edition = x .edition; rule = 0; copy = 0; «record» = 0 }
+notSaying x = sayingOf (refusing x) 0 0 0
 
--- on a schedule: no copy
-abbrev pub verdictSaid : ℕ → Verdict → VerdictAnswer
-verdictSaid e Accepted = saying e 0 0 0
-verdictSaid e (Refused x i) = saying e (ruleNumber x) 0 i
-
+-- on a schedule: the rule and the record, no copy
 abbrev pub verdictOf : Judged → VerdictAnswer
-verdictOf (Says e v) = verdictSaid e v
-verdictOf (NotJudged x) = notSaying x
+verdictOf r = let a = judgedNumbers r in sayingOf a (value a 0) 0 (value a 1)
 
--- on a pattern: "the lowest copy, then the record within it"
-abbrev pub patternSaid : ℕ → PatternVerdict → VerdictAnswer
-patternSaid e AllAccepted = saying e 0 0 0
-patternSaid e (RefusedAt x k i) = saying e (ruleNumber x) k i
+abbrev pub verdictSaid : ℕ → Verdict → VerdictAnswer
+verdictSaid e v = verdictOf (Says e v)
 
+-- on a pattern: the rule, "the lowest copy, then the record within it"
 abbrev pub patternOf : PatternJudged → VerdictAnswer
-patternOf (PatternSays e v) = patternSaid e v
-patternOf (PatternNotJudged x) = notSaying x
+patternOf r = let a = patternNumbers r in sayingOf a (value a 0) (value a 1) (value a 2)
+
+abbrev pub patternSaid : ℕ → PatternVerdict → VerdictAnswer
+patternSaid e v = patternOf (PatternSays e v)

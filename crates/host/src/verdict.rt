@@ -8,7 +8,7 @@ use rules::verdict::PatternVerdict;
 use rules::verdict::Rule;
 use rules::verdict::Verdict;
 ghost use mathlib.Core.Path.{_≡_};
-ghost use Rattle.rules.specs.Kinds.{ruleNumber};
+ghost use Rattle.desk.specs.Numbers.{ruleNumber};
 ghost use Rattle.host.specs.Verdicts.{saying, notSaying, verdictSaid, verdictOf, patternSaid, patternOf};
 
 // `rule` is 0 where the records are accepted; `copy` counts from 1, and is 0 for a schedule; `record` counts from 0.

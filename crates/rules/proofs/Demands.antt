@@ -66,7 +66,7 @@ accepts-all τ (r ∷ rs) n h f e =
     rw (f zero r (omega arith) refl, judgeFrom) (accepts-all τ rs (suc n) (r ∷ h) (fine-rest τ h r rs (length rs) f) e)
 
 -- a refusal at k is at record k − n of those left
-names-from : (τ : Table) (rs : List Command) (n : ℕ) (h : List Command) (x : Rule) (k : ℕ) → judgeFrom τ rs n h ≡ Refused x k
+pub names-from : (τ : Table) (rs : List Command) (n : ℕ) (h : List Command) (x : Rule) (k : ℕ) → judgeFrom τ rs n h ≡ Refused x k
     → (i : ℕ) × (k ≡ n + i) × FirstBroken τ h rs x i
 names-from τ [] n h x k e = on (allShut (τ .banks) h) refl e
   where

@@ -1,11 +1,10 @@
--- "RD meaning RD or RDA and WR meaning WR or WRA"; the rules by their numbers.
-use Prim.Native.Nat.{ℕ}
+-- "RD meaning RD or RDA and WR meaning WR or WRA"; the rules in the order of their numbers.
 use mathlib.Core.Bool.{Bool, true, false, _||_}
 use mathlib.Core.List.{List, [], _∷_}
 use Rattle.records.specs.declared.command.Kind.{Kind}
 use Rattle.records.specs.declared.command.Kind.the-variants.{Act, Rd, Rda, Wr, Wra, Other}
 use Rattle.rules.specs.declared.verdict.Rule.{Rule}
-use Rattle.rules.specs.declared.verdict.Rule.the-variants.{Range, Order, Opened, Precharge, Rc, Rrd, Faw, Rcd, Distance, End}
+use Rattle.rules.specs.declared.verdict.Rule.the-variants.{Range, Order, Opened, Precharge, Rc, Rrd, Faw, Rcd, Distance}
 use Rattle.rules.specs.declared.verdict.Found.{Found}
 use Rattle.rules.specs.declared.verdict.Found.the-variants.{Fine, Broken}
 
@@ -45,19 +44,6 @@ isKnown Rda = true
 isKnown Wr = true
 isKnown Wra = true
 isKnown (Other n) = false
-
--- document 01's number of a rule
-abbrev pub ruleNumber : Rule → ℕ
-ruleNumber Range = 1
-ruleNumber Order = 2
-ruleNumber Opened = 3
-ruleNumber Precharge = 4
-ruleNumber Rc = 5
-ruleNumber Rrd = 6
-ruleNumber Faw = 7
-ruleNumber Rcd = 8
-ruleNumber Distance = 9
-ruleNumber End = 10
 
 -- the rules that one record is tested by, in the order of their numbers
 abbrev pub rulesInOrder : List Rule

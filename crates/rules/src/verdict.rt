@@ -1,6 +1,4 @@
 // What the judge answers.
-ghost use mathlib.Core.Path.{_≡_};
-ghost use Rattle.rules.specs.Kinds.{ruleNumber};
 
 // The rules of document 01, in the order of their numbers, 1 to 10.
 pub enum Rule {
@@ -32,22 +30,4 @@ pub enum Verdict {
 pub enum PatternVerdict {
     Accepted,
     Refused(Rule, u32, u32),
-}
-
-// Document 01's number of a rule.
-pub fn rule_number(x: Rule) -> u8
-    ensures { λ r. ⌜ r ≡ ruleNumber x ⌝ }
-{
-    match x {
-        Rule::Range => 1,
-        Rule::Order => 2,
-        Rule::Opened => 3,
-        Rule::Precharge => 4,
-        Rule::Rc => 5,
-        Rule::Rrd => 6,
-        Rule::Faw => 7,
-        Rule::Rcd => 8,
-        Rule::Distance => 9,
-        Rule::End => 10,
-    }
 }

@@ -1,0 +1,130 @@
+-- Laws for the list of worked calls: what every answer that keeps a promise tells, and calls by the length of their bytes alone.
+-- Assumes nothing.
+use Prim.Native.Nat.{ℕ, zero, suc, _%_, _/_}
+use native.Mathlib.Omega.{arith}
+use mathlib.Core.Bool.{Bool, true, false, not, _&&_, _||_}
+use mathlib.Core.Path.{_≡_, refl, sym, ap, subst}
+use mathlib.Core.List.{List, [], _∷_}
+use lib.Dec.{leb, ltb, eqb}
+use lib.ListN.{length, replicate}
+use borrow.Author.Tests.{le-ltb}
+use Rattle.records.specs.declared.transaction.Transaction.{Transaction}
+use Rattle.records.specs.Tests.{pick, every}
+use Rattle.records.specs.Told.{refusal}
+use Rattle.records.specs.declared.command.Kind.the-variants.{Act}
+use Rattle.records.specs.Table.{readTable}
+use Rattle.records.specs.Transaction.{transactionsIn, fits}
+use Rattle.records.specs.Command.{command, commandsIn}
+use Rattle.records.specs.House.{tableA, tableB}
+use Rattle.rules.specs.declared.verdict.Rule.the-variants.{Precharge, Faw, End}
+use Rattle.rules.specs.declared.verdict.PatternVerdict.the-variants.{Accepted as AllPassed, Refused as BrokenAt}
+use Rattle.rules.specs.Verdict.{judge}
+use Rattle.rules.specs.Pattern.{copies}
+use Rattle.rules.specs.Worked.{one}
+use Rattle.judge.specs.declared.answer.Judged.{Judged}
+use Rattle.judge.specs.declared.answer.Judged.the-variants.{Verdict, Refused as NotJudged}
+use Rattle.judge.specs.declared.answer.PatternJudged.{PatternJudged}
+use Rattle.judge.specs.Answer.{scheduleRefusal, judged}
+use Rattle.builder.specs.declared.build.BuildAnswer.{BuildAnswer}
+use Rattle.builder.specs.declared.build.BuildAnswer.the-variants.{Refused as NotBuilt}
+use Rattle.lists.specs.declared.check.Checked.{Checked}
+use Rattle.lists.specs.declared.check.Checked.the-variants.{Refused as NotFine}
+use Rattle.lists.specs.Check.{rangeFrom, checkList, checkBytes, checkInto}
+use Rattle.lists.specs.Decode.{decodedBy, decoding}
+use Rattle.controller.specs.Controller.{tells}
+use Rattle.desk.specs.Admit.{admitted}
+use Rattle.desk.specs.Judging.{judging, PatternTold}
+use Rattle.desk.specs.Transactions.{reading}
+use Rattle.desk.specs.Schedules.{BuildsChecked, Schedules}
+use Rattle.desk.specs.Running.{runsChecked, running}
+use Rattle.desk.specs.Numbers.{Numbers, judgedNumbers, patternNumbers, readNumbers, buildNumbers, runNumbers}
+use Rattle.desk.specs.Causes.{row, FirstRow, lowestOut, fewInto}
+use Rattle.desk.specs.Calls.{A, told, judgesBytes, Patterns, reads, Builds, BuildsBytes, runsBytes}
+use Rattle.desk.proofs.Unique.{only}
+use Rattle.desk.proofs.Causes.{causes}
+use Rattle.controller.specs.declared.controller.Controller.{Controller}
+
+-- ---- what every answer that keeps a promise tells is what one does
+
+pub pattern-tells : (e : ℕ) (t s : List ℕ) (L : ℕ) (v : PatternJudged) → PatternTold (admitted e t) s L v → Patterns e t s L (patternNumbers v)
+pattern-tells e t s L v w r p = ap patternNumbers (only e t .judgePattern s L r v p w)
+
+module _ (e : ℕ) (t b₀ f₀ b f : List ℕ) (v : BuildAnswer) where
+  pub build-tells : (l : List Transaction) → Schedules (λ τ. checkList τ l) (admitted e t) l b₀ b f₀ f v → Builds e t l b₀ f₀ (buildNumbers v) b f
+  build-tells l w r b' f' p = let q = only e t .schedule l b₀ f₀ r v b' b f' f p w in (ap buildNumbers (q .0), q .1, q .2)
+
+  pub bytes-tell : (s : List ℕ) → Schedules (λ τ. checkBytes τ s) (admitted e t) (transactionsIn s) b₀ b f₀ f v → BuildsBytes e t s b₀ f₀ (buildNumbers v) b f
+  bytes-tell s w r b' f' p = let q = only e t .scheduleBytes s b₀ f₀ r v b' b f' f p w in (ap buildNumbers (q .0), q .1, q .2)
+
+-- a number that is not 0
+pub some : (n : ℕ) → suc n ≡ 0 → ⊥
+some n e = omega arith
+
+-- ---- by length alone
+
+pub few-records : (s : List ℕ) → length s ≡ 557056 → judgesBytes 7 A s .refused ≡ 0
+few-records s e =
+    subst (λ (n : ℕ). FirstRow (row 7 0 (not (eqb (n % 8) 0) || ltb 69632 (n / 8)) ∷ []) (judgesBytes 7 A s)) e (causes 7 A .judge s) .0
+
+pub many-records : (s : List ℕ) → length s ≡ 557064 → judgesBytes 7 A s ≡ told 7 0 7
+unfolding admitted readTable judging judged
+many-records s e = by (scheduleRefusal (length s)) (Verdict 7 (judge tableA (commandsIn s))) (ap scheduleRefusal e)
+  where
+    by : (z : ℕ) (x : Judged) → z ≡ 7 → judgedNumbers (pick (eqb z 0) x (NotJudged (refusal z 0 7))) ≡ told 7 0 7
+    by z x e = rw e refl
+
+pub few-transactions : (s : List ℕ) (l : List Transaction) → length s ≡ 1024 → length l ≡ 256 → reads 7 A s l .refused ≡ 3 → ⊥
+few-transactions s l e k = not-three (fewInto s (length l)) (not (every (fits tableA) (transactionsIn s))) (lowestOut tableA (transactionsIn s)) (reads 7 A s l) good (causes 7 A .readTransactions s l)
+  where
+    good : fewInto s (length l) ≡ true
+    good = rw (e, k) refl
+
+    not-three : (g b : Bool) (p : ℕ) (a : Numbers) → g ≡ true → FirstRow (row 3 0 (not g) ∷ row 4 p b ∷ []) a → a .refused ≡ 3 → ⊥
+    not-three false b p a e f h = let z : _≡_ {A = ℕ} 0 1 = cc in omega arith
+    not-three true true p a e f h = omega (arith, f .0, h)
+    not-three true false p a e f h = omega (arith, f .0, h)
+
+pub many-transactions : (s : List ℕ) (l : List Transaction) → length s ≡ 1028 → length l ≡ 257 → reads 7 A s l ≡ told 3 0 7
+unfolding admitted readTable reading decoding checkInto
+many-transactions s l e k =
+    by (fewInto s (length l)) (rangeFrom 8 7 (transactionsIn s) 0) (ap (λ (n : ℕ). eqb (n % 4) 0 && (leb (n / 4) 256 && leb (n / 4) (length l))) e)
+  where
+    by : (g : Bool) (x : Checked) → g ≡ false → readNumbers (decodedBy (pick g x (NotFine (refusal 3 0 7))) tableA s l .answer) ≡ told 3 0 7
+    by g x e = rw e refl
+
+-- the check of so many bytes
+bytes-many : (s : List ℕ) → length s ≡ 1028 → checkBytes tableA s ≡ NotFine (refusal 3 0 7)
+unfolding checkBytes
+bytes-many s e = by (eqb (length s % 4) 0 && leb (length s / 4) 256) (rangeFrom 8 7 (transactionsIn s) 0) (ap (λ (n : ℕ). eqb (n % 4) 0 && leb (n / 4) 256) e)
+  where
+    by : (g : Bool) (x : Checked) → g ≡ false → pick g x (NotFine (refusal 3 0 7)) ≡ NotFine (refusal 3 0 7)
+    by g x e = rw e refl
+
+pub many-built : (s b f : List ℕ) → length s ≡ 1028 → BuildsBytes 7 A s b f (told 3 0 7) b f
+unfolding admitted readTable Schedules BuildsChecked
+many-built s b f e =
+    bytes-tell 7 A b f b f (NotBuilt (refusal 3 0 7)) s
+    (subst (λ (c : Checked). BuildsChecked c tableA (transactionsIn s) b b f f (NotBuilt (refusal 3 0 7))) (sym (bytes-many s e)) (refl, refl, refl))
+
+pub many-run : (c : Controller) (s : List ℕ) (n room : ℕ) → length s ≡ 1028 → runsBytes 7 A c s n room ≡ told 3 0 7
+unfolding admitted readTable running runsChecked
+many-run c s n room e = ap (λ (d : Checked). runNumbers (runsChecked d c tableA (transactionsIn s) n (replicate room 9) .told .answer)) (bytes-many s e)
+
+-- ---- patterns that are refused, for every number of copies
+
+pub refused-37 : (n : ℕ) → copies tableA 37 one n ≡ pick (ltb n 2) AllPassed (BrokenAt Precharge 2 0)
+refused-37 zero = refl
+refused-37 (suc zero) = refl
+refused-37 (suc (suc n)) = rw (le-ltb (suc (suc n)) 2 (omega arith)) refl
+
+pub left-open : (n : ℕ) → copies tableA 1 (command 0 Act 0 0 ∷ []) n ≡ pick (ltb n 1) AllPassed (BrokenAt End 1 1)
+left-open zero = refl
+left-open (suc n) = rw (le-ltb (suc n) 1 (omega arith)) refl
+
+pub refused-38 : (n : ℕ) → copies tableB 38 one n ≡ pick (ltb n 5) AllPassed (BrokenAt Faw 5 0)
+refused-38 zero = refl
+refused-38 (suc zero) = refl
+refused-38 (suc (suc zero)) = refl
+refused-38 (suc (suc (suc zero))) = refl
+refused-38 (suc (suc (suc (suc zero)))) = refl
+refused-38 (suc (suc (suc (suc (suc n))))) = rw (le-ltb (suc (suc (suc (suc (suc n))))) 5 (omega arith)) refl

@@ -1,0 +1,57 @@
+-- Each call on one record tells the first row of document 01's table that applies.
+-- Assumes nothing.
+use Prim.Native.Nat.{ℕ}
+use mathlib.Core.Bool.{not, _&&_}
+use mathlib.Core.Path.{refl}
+use mathlib.Core.List.{List, []}
+use lib.Dec.{leb, eqb}
+use lib.ListN.{length}
+use Rattle.records.specs.declared.table.TableRead.the-variants.{Read as TableIs, Refused as NoTable}
+use Rattle.records.specs.declared.transaction.Transaction.{Transaction}
+use Rattle.records.specs.declared.transaction.TransactionRead.the-variants.{Read as TransactionIs, Refused as NoTransaction}
+use Rattle.records.specs.declared.command.Command.{Command}
+use Rattle.records.specs.declared.command.CommandRead.the-variants.{Read as CommandIs, Refused as NoCommand}
+use Rattle.records.specs.declared.refusal.Written.the-variants.{Done, Refused as NotWritten}
+use Rattle.records.specs.Told.{refusal, over, Wrote}
+use Rattle.records.specs.Little.{bytes16}
+use Rattle.records.specs.Table.{tableOf, tableAt, inRange, tableRefusal, readTable, writeTable}
+use Rattle.records.specs.Transaction.{transactionAt, fitsIn, transactionRefusal, readTransaction, writeTransaction, bytesOf as transactionBytes}
+use Rattle.records.specs.Command.{commandAt, commandRefusal, roomRefusal, readCommand, writeCommand, bytesOf as commandBytes}
+use Rattle.desk.specs.Numbers.{writtenNumbers, tableNumbers, transactionNumbers, commandNumbers}
+use Rattle.desk.specs.Causes.{RecordCauses}
+use Rattle.desk.proofs.Causes.{one, two, by-number}
+
+module _ (s : List ℕ) where
+  -- what a writer that z refuses leaves
+  abbrev kept : ℕ → Wrote
+  kept z = record { answer = NotWritten (refusal z 0 0); buffer = s }
+
+  pub record-causes : RecordCauses s
+  unfolding readTable writeTable readTransaction writeTransaction readCommand writeCommand
+  record-causes =
+      record {
+        tableRead =
+            let z = tableRefusal (length s) (tableAt s) in
+            two 1 2 (not (eqb (length s) 32 && eqb (tableAt s .last) 0)) (not (inRange (tableAt s))) (tableNumbers (readTable s))
+            (by-number tableNumbers z (TableIs (tableAt s)) (NoTable (refusal z 0 0)) (refl, refl) (refl, refl));
+        tableWritten = λ l.
+            let z = tableRefusal (length s) (tableOf l) in
+            two 1 2 (not (eqb (length s) 32 && eqb (tableOf l .last) 0)) (not (inRange (tableOf l))) (writtenNumbers (writeTable l s .answer))
+            (by-number (λ (w : Wrote). writtenNumbers (w .answer)) z (record { answer = Done (tableOf l .edition); buffer = over (bytes16 l) s }) (kept z) (refl, refl) (refl, refl));
+        transactionRead =
+            let z = transactionRefusal (length s) (transactionAt s 0) in
+            two 3 4 (not (eqb (length s) 4)) (not (fitsIn 16 (transactionAt s 0))) (transactionNumbers (readTransaction s))
+            (by-number transactionNumbers z (TransactionIs (transactionAt s 0)) (NoTransaction (refusal z 0 0)) (refl, refl) (refl, refl));
+        transactionWritten = λ x.
+            let z = transactionRefusal (length s) x in
+            two 3 4 (not (eqb (length s) 4)) (not (fitsIn 16 x)) (writtenNumbers (writeTransaction x s .answer))
+            (by-number (λ (w : Wrote). writtenNumbers (w .answer)) z (record { answer = Done 0; buffer = over (transactionBytes x) s }) (kept z) (refl, refl) (refl, refl));
+        commandRead =
+            let z = commandRefusal (length s) in
+            one 7 (not (eqb (length s) 8)) (commandNumbers (readCommand s))
+            (by-number commandNumbers z (CommandIs (commandAt s 0)) (NoCommand (refusal z 0 0)) (refl, refl) (refl, refl));
+        commandWritten = λ c.
+            let z = roomRefusal (length s) in
+            one 5 (not (leb 8 (length s))) (writtenNumbers (writeCommand c s .answer))
+            (by-number (λ (w : Wrote). writtenNumbers (w .answer)) z (record { answer = Done 0; buffer = over (commandBytes c) s }) (kept z) (refl, refl) (refl, refl));
+      }

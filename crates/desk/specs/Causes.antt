@@ -1,0 +1,122 @@
+-- Document 01, "What the caller is told": for each call, the rows of its table, each with its number, its position and whether it applies.
+-- "Checks go in the order of these numbers", with number 10 "straight after number 2" (document 02, request 1).
+use Prim.Native.Nat.{ℕ, suc, _+_, _-_, _*_, _%_, _/_, min}
+use mathlib.Core.Bool.{Bool, not, _&&_, _||_}
+use mathlib.Core.Path.{_≡_}
+use mathlib.Core.List.{List, [], _∷_}
+use lib.Dec.{leb, ltb, eqb}
+use lib.ListN.{length}
+use Rattle.records.specs.declared.table.Table.{Table}
+use Rattle.records.specs.declared.transaction.Transaction.{Transaction}
+use Rattle.records.specs.declared.command.Command.{Command}
+use Rattle.records.specs.Tests.{pick, every, within}
+use Rattle.records.specs.Table.{tableOf, tableAt, inRange, readTable, writeTable}
+use Rattle.records.specs.Transaction.{transactionAt, transactionsIn, fitsIn, fits, readTransaction, writeTransaction}
+use Rattle.records.specs.Command.{readCommand, writeCommand}
+use Rattle.rules.specs.Queues.{actQueue, dataQueue}
+use Rattle.judge.specs.declared.answer.PatternJudged.{PatternJudged}
+use Rattle.builder.specs.declared.build.BuildAnswer.{BuildAnswer}
+use Rattle.lists.specs.Check.{checkList, checkBytes}
+use Rattle.refusals.specs.Refused.{sound}
+use Rattle.controller.specs.declared.controller.Controller.{Controller}
+use Rattle.controller.specs.Controller.{tells}
+use Rattle.desk.specs.Admit.{admitted}
+use Rattle.desk.specs.Judging.{judging, PatternTold}
+use Rattle.desk.specs.Bounds.{bounding}
+use Rattle.desk.specs.Transactions.{reading}
+use Rattle.desk.specs.Schedules.{Schedules}
+use Rattle.desk.specs.Running.{starting, running}
+use Rattle.desk.specs.Numbers.{Numbers, writtenNumbers, tableNumbers, transactionNumbers, commandNumbers, judgedNumbers, patternNumbers, boundNumbers, readNumbers, buildNumbers, startNumbers, runNumbers}
+
+-- a row: its number, its position, and whether it applies
+pub record Row : Type 0 where
+  pub number : ℕ
+  pub position : ℕ
+  pub applies : Bool
+
+abbrev pub row : ℕ → ℕ → Bool → Row
+row n p b = record { number = n; position = p; applies = b }
+
+-- an answer tells the number and the position of the first row that applies, 0 and 0 where none does
+abbrev pub FirstRow : List Row → Numbers → Type 0
+FirstRow [] a = (a .refused ≡ 0) × (a .position ≡ 0)
+FirstRow (r ∷ l) a = pick (r .applies) ((a .refused ≡ r .number) × (a .position ≡ r .position)) (FirstRow l a)
+
+-- 1: "table not 32 bytes, or its last number not 0"; 2: "a table number out of range, CCD below 2 or below B"; then the rows that the call has
+-- besides
+abbrev pub readRows : ℕ → Table → List Row → List Row
+readRows size τ rest = row 1 0 (not (eqb size 32 && eqb (τ .last) 0)) ∷ row 2 0 (not (inRange τ)) ∷ rest
+
+-- 10: the table's edition is not the expected one, "position the table's edition"
+abbrev pub tableRows : ℕ → List ℕ → List Row → List Row
+tableRows expected s rest = readRows (length s) (tableAt s) (row 10 (tableAt s .edition) (not (eqb (tableAt s .edition) expected)) ∷ rest)
+
+-- the number of the lowest transaction that is out of range
+abbrev pub lowestOut : Table → List Transaction → ℕ
+lowestOut τ [] = 0
+lowestOut τ (x ∷ l) = pick (fits τ x) (suc (lowestOut τ l)) 0
+
+-- 3, by whether the size is good; 4: "a transaction out of range", position "its number, the lowest"
+abbrev pub listRows : Table → Bool → List Transaction → List Row → List Row
+listRows τ good l rest = row 3 0 (not good) ∷ row 4 (lowestOut τ l) (not (every (fits τ) l)) ∷ rest
+
+-- 3: "transaction bytes not a multiple of 4, or over 256 records, as bytes or decoded, or too few places to decode into"
+abbrev pub fewBytes : List ℕ → Bool
+fewBytes s = eqb (length s % 4) 0 && leb (length s / 4) 256
+
+abbrev pub fewInto : List ℕ → ℕ → Bool
+fewInto s places = eqb (length s % 4) 0 && (leb (length s / 4) 256 && leb (length s / 4) places)
+
+-- 5: "command room under 8 × commands due"; 6: "finishing slice shorter than the list"
+abbrev pub buildRows : Table → List Transaction → ℕ → ℕ → List Row
+buildRows τ l room places =
+    row 5 0 (ltb room (8 * (length (actQueue τ l) + length (dataQueue τ l)))) ∷ row 6 0 (ltb places (length l)) ∷ []
+
+-- 5: "for a run, under 8 × the lesser of count and commands left, which are what each queue still holds, counted queue by queue and added"; 9, by
+-- what the controller tells
+abbrev pub runRows : Table → List Transaction → Controller → ℕ → ℕ → List Row
+runRows τ l c count room =
+    row 5 0 (ltb room (8 * min count ((length (actQueue τ l) - c .acts) + (length (dataQueue τ l) - c .datas))))
+    ∷ row 9 0 (not (sound τ l (tells c)))
+    ∷ []
+
+-- 7: "schedule bytes not a multiple of 8, or over 69,632 records"
+abbrev pub scheduleRow : List ℕ → Row
+scheduleRow s = row 7 0 (not (eqb (length s % 8) 0) || ltb 69632 (length s / 8))
+
+-- "A call makes only the checks on things it's given"
+pub record Causes (expected : ℕ) (table : List ℕ) : Type 0 where
+  pub judge : (s : List ℕ) → FirstRow (tableRows expected table (scheduleRow s ∷ [])) (judgedNumbers (judging (admitted expected table) s))
+  -- 8: "pattern length 0"
+  pub judgePattern : (s : List ℕ) (L : ℕ) (r : PatternJudged) → PatternTold (admitted expected table) s L r
+      → FirstRow (tableRows expected table (scheduleRow s ∷ row 8 0 (eqb L 0) ∷ [])) (patternNumbers r)
+  -- "the bound gives 4, position 0, for BI or BC outside 1 to 16 or BI above banks"
+  pub bound : (bi bc : ℕ) → FirstRow (tableRows expected table (row 4 0 (not (within 1 16 bi && (within 1 16 bc && leb bi (tableAt table .banks)))) ∷ []))
+      (boundNumbers (bounding (admitted expected table) bi bc))
+  pub readTransactions : (s : List ℕ) (l : List Transaction)
+      → FirstRow (tableRows expected table (listRows (tableAt table) (fewInto s (length l)) (transactionsIn s) [])) (readNumbers (reading (admitted expected table) s l .answer))
+  pub schedule : (l : List Transaction) (b₀ b f₀ f : List ℕ) (r : BuildAnswer) → Schedules (λ τ. checkList τ l) (admitted expected table) l b₀ b f₀ f r
+      → FirstRow (tableRows expected table (listRows (tableAt table) (leb (length l) 256) l (buildRows (tableAt table) l (length b₀) (length f₀)))) (buildNumbers r)
+  pub scheduleBytes : (s b₀ b f₀ f : List ℕ) (r : BuildAnswer) → Schedules (λ τ. checkBytes τ s) (admitted expected table) (transactionsIn s) b₀ b f₀ f r
+      → FirstRow (tableRows expected table (listRows (tableAt table) (fewBytes s) (transactionsIn s) (buildRows (tableAt table) (transactionsIn s) (length b₀) (length f₀))))
+      (buildNumbers r)
+  pub start : FirstRow (tableRows expected table []) (startNumbers (starting (admitted expected table) .answer))
+  -- a step is a run of one cycle
+  pub run : (c : Controller) (l : List Transaction) (n : ℕ) (b : List ℕ)
+      → FirstRow (tableRows expected table (listRows (tableAt table) (leb (length l) 256) l (runRows (tableAt table) l c n (length b))))
+      (runNumbers (running (λ τ. checkList τ l) (admitted expected table) c l n b .told .answer))
+  pub runBytes : (c : Controller) (s : List ℕ) (n : ℕ) (b : List ℕ)
+      → FirstRow (tableRows expected table (listRows (tableAt table) (fewBytes s) (transactionsIn s) (runRows (tableAt table) (transactionsIn s) c n (length b))))
+      (runNumbers (running (λ τ. checkBytes τ s) (admitted expected table) c (transactionsIn s) n b .told .answer))
+
+-- the calls on one record: s is the bytes read, or what the buffer held. "A call that writes a record checks the values as a reader would, and
+-- the room: number 1 for a table buffer that isn't 32 bytes, 3 for a transaction buffer that isn't 4, 5 for a command buffer under 8. A reader of
+-- one record gives 1, 3 or 7 for any size but 32, 4 or 8." "Where no table is given, banks counts as 16."
+pub record RecordCauses (s : List ℕ) : Type 0 where
+  pub tableRead : FirstRow (readRows (length s) (tableAt s) []) (tableNumbers (readTable s))
+  pub tableWritten : (l : List ℕ) → FirstRow (readRows (length s) (tableOf l) []) (writtenNumbers (writeTable l s .answer))
+  pub transactionRead : FirstRow (row 3 0 (not (eqb (length s) 4)) ∷ row 4 0 (not (fitsIn 16 (transactionAt s 0))) ∷ []) (transactionNumbers (readTransaction s))
+  pub transactionWritten : (x : Transaction)
+      → FirstRow (row 3 0 (not (eqb (length s) 4)) ∷ row 4 0 (not (fitsIn 16 x)) ∷ []) (writtenNumbers (writeTransaction x s .answer))
+  pub commandRead : FirstRow (row 7 0 (not (eqb (length s) 8)) ∷ []) (commandNumbers (readCommand s))
+  pub commandWritten : (c : Command) → FirstRow (row 5 0 (not (leb 8 (length s))) ∷ []) (writtenNumbers (writeCommand c s .answer))

@@ -1,0 +1,22 @@
+// The numbers that document 01 gives the rules.
+use rules::verdict::Rule;
+ghost use mathlib.Core.Path.{_≡_};
+ghost use Rattle.desk.specs.Numbers.{ruleNumber};
+
+// Document 01's number of a rule.
+pub fn rule_number(x: Rule) -> u8
+    ensures { λ r. ⌜ r ≡ ruleNumber x ⌝ }
+{
+    match x {
+        Rule::Range => 1,
+        Rule::Order => 2,
+        Rule::Opened => 3,
+        Rule::Precharge => 4,
+        Rule::Rc => 5,
+        Rule::Rrd => 6,
+        Rule::Faw => 7,
+        Rule::Rcd => 8,
+        Rule::Distance => 9,
+        Rule::End => 10,
+    }
+}
