@@ -6,7 +6,7 @@ use mathlib.Core.List.{List, [], _∷_, _++_}
 use native.Mathlib.Omega.{arith}
 use native.Mathlib.Numerals.{add-one, towards-suc}
 use lib.ListN.{length, set, getD, take, drop, replicate, length-take, length-replicate}
-use lib.Seq.{take-suc, sets}
+use lib.Seq.{take-all, take-suc, sets}
 use Rattle.records.specs.declared.table.Table.{Table}
 use Rattle.records.specs.declared.transaction.Transaction.{Transaction}
 use Rattle.records.specs.Told.{over, putAt}
@@ -62,6 +62,9 @@ module _ (l : List Transaction) where
       let size : n ≡ length (take n l) = omega (arith, length-take n l) in
       ap (λ (m : ℕ). transactionsFrom (over (recordsOf (take n l)) zeros) m 0) size
       ∙ from-records (take n l) (drop (length (recordsOf (take n l))) zeros)
+
+  pub held-whole : held (length l) (packed (length l) l) ≡ l
+  held-whole = held-packed (length l) (omega arith) ∙ take-all (length l) l (omega arith)
 
 -- ---- the bytes lent on: those of the n records
 
