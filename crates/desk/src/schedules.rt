@@ -49,7 +49,12 @@ pub fn schedule_bytes(
 }
 
 // The same of a lent run of records, gathered.
-fn schedule_held(w: WayIn, bytes: [u8; 1024], commands: &mut [u8], finishes: &mut [u32]) -> BuildAnswer
+fn schedule_held(
+    w: WayIn,
+    bytes: [u8; 1024],
+    commands: &mut [u8],
+    finishes: &mut [u32],
+) -> BuildAnswer
     requires { ⌜ Ways w ⌝ }
     ensures { λ r. ⌜ Schedules (λ τ. checkList τ (held (w .n) bytes)) (w .table) (held (w .n) bytes) (now (commands .entry)) (now (commands .exit)) (now (finishes .entry)) (now (finishes .exit)) r ⌝ }
 {

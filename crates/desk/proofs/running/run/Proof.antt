@@ -298,8 +298,9 @@ unfolding code.routine tablesOf
 run-spec 𝓤 H 𝓜 𝓖 𝓡 =
     entered 𝓤 H (tripleOf 𝓤 H (𝓖 .A) f.signature (f.spec 𝓤 H (𝓖 .A) (𝓜 .mem) (𝓡 .run)))
     (tables 𝓤 H 𝓜 𝓡 code.env .C) (tables 𝓤 H 𝓜 𝓡 code.env .Λ) #run code.function (code.unfolded 𝓤 H 𝓜 𝓡)
-    (meets 𝓤 H (𝓖 .A) (givenOf 𝓤 H 𝓜 𝓖) (𝓜 .mem) (𝓡 .run) (tablesOf 𝓤 H 𝓜 (tables 𝓤 H 𝓜 𝓡 code.env))
-    (cited 𝓤 H (Way 𝓤 H (𝓖 .A) (𝓜 .mem) (𝓡 .run)) 𝓜 𝓡 code.env #admit-lent e-def.routine code.calls-desk·admit·admit-lent (e-thm.met 𝓤 H 𝓜 𝓖 𝓡),
-    cited 𝓤 H (Gather 𝓤 H (𝓖 .A) (𝓜 .mem) (𝓡 .run)) 𝓜 𝓡 code.env #gather g-def.routine code.calls-lists·packed·gather (g-thm.met 𝓤 H 𝓜 𝓖 𝓡),
-    cited 𝓤 H (Held 𝓤 H (𝓖 .A) (𝓜 .mem) (𝓡 .run)) 𝓜 𝓡 code.env #run-held h-def.routine code.calls-desk·running·run-held (h-thm.met 𝓤 H 𝓜 𝓖 𝓡),
-    cited 𝓤 H (Has 𝓤 H (𝓖 .A) (𝓜 .mem) (𝓡 .run)) 𝓜 𝓡 code.env #has-run p-def.routine code.calls-desk·running·has-run (p-thm.met 𝓤 H 𝓜 𝓖 𝓡)))
+    (meets 𝓤 H (𝓖 .A) (givenOf 𝓤 H 𝓜 𝓖) (𝓜 .mem) (𝓡 .run) (tablesOf 𝓤 H 𝓜 (tables 𝓤 H 𝓜 𝓡 code.env)) (
+      cited 𝓤 H (Way 𝓤 H (𝓖 .A) (𝓜 .mem) (𝓡 .run)) 𝓜 𝓡 code.env #admit-lent e-def.routine code.calls-desk·admit·admit-lent (e-thm.met 𝓤 H 𝓜 𝓖 𝓡),
+      cited 𝓤 H (Gather 𝓤 H (𝓖 .A) (𝓜 .mem) (𝓡 .run)) 𝓜 𝓡 code.env #gather g-def.routine code.calls-lists·packed·gather (g-thm.met 𝓤 H 𝓜 𝓖 𝓡),
+      cited 𝓤 H (Held 𝓤 H (𝓖 .A) (𝓜 .mem) (𝓡 .run)) 𝓜 𝓡 code.env #run-held h-def.routine code.calls-desk·running·run-held (h-thm.met 𝓤 H 𝓜 𝓖 𝓡),
+      cited 𝓤 H (Has 𝓤 H (𝓖 .A) (𝓜 .mem) (𝓡 .run)) 𝓜 𝓡 code.env #has-run p-def.routine code.calls-desk·running·has-run (p-thm.met 𝓤 H 𝓜 𝓖 𝓡),
+    ))
