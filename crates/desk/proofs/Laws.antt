@@ -7,7 +7,7 @@ use mathlib.Core.List.{List, [], _∷_}
 use native.Mathlib.Omega.{arith}
 use lib.Dec.{eqb}
 use lib.ListN.{length, take, length-take}
-use borrow.Author.Tests.{not-false, eqb-true, eq-eqb, ne-eqb}
+use borrow.Author.Tests.{not-false, eqb-true, eq-eqb, ne-eqb, le-leb, lt-leb}
 use Rattle.records.specs.declared.table.Table.{Table}
 use Rattle.records.specs.declared.table.TableRead.{TableRead}
 use Rattle.records.specs.declared.table.TableRead.the-variants.{Read, Refused}
@@ -22,11 +22,8 @@ use Rattle.rules.proofs.Ranges.{ranges}
 use Rattle.heads.specs.Queue.{Listed}
 use Rattle.lists.specs.declared.check.Checked.{Checked}
 use Rattle.lists.specs.declared.check.Checked.the-variants.{Fine, Refused as NotFine}
-use Rattle.lists.specs.declared.packed.Packed.{Packed}
 use Rattle.lists.specs.Check.{checkBytes, checkList}
-use Rattle.lists.specs.Packed.{held, lent}
 use Rattle.lists.proofs.Checks.{into-256, into-list, fine-fits, bytes-list, over-list}
-use Rattle.lists.proofs.Packing.{length-held, lent-held, lent-check}
 use Rattle.builder.specs.declared.build.BuildAnswer.{BuildAnswer}
 use Rattle.builder.specs.declared.build.BuildAnswer.the-variants.{Refused as NotBuilt}
 use Rattle.builder.specs.Build.{LeavesBuild}
@@ -34,7 +31,7 @@ use Rattle.controller.specs.declared.controller.Controller.{Controller}
 use Rattle.controller.specs.declared.run.RunTold.{RunTold}
 use Rattle.controller.specs.declared.run.RunAnswer.the-variants.{Refused as NotRun}
 use Rattle.controller.specs.Run.{RunLeft, runController, LeavesRun}
-use Rattle.desk.specs.Admit.{expects, expecting, admitted, tooMany}
+use Rattle.desk.specs.Admit.{expects, expecting, admitted, noWay, ways}
 use Rattle.desk.specs.Schedules.{BuildsChecked, Schedules}
 use Rattle.desk.specs.Running.{runsChecked, running}
 
@@ -86,6 +83,13 @@ pub admit-refused : (e : ℕ) (s : List ℕ) (a : TableRead) (x : Refusal) → a
 unfolding admitted
 admit-refused e s a x q k = ap (expecting e) (sym k ∙ q)
 
+-- a lent run by its length
+pub ways-few : (n : ℕ) (τ : Table) → n ≤ 256 → record { n = n; table = Read τ } ≡ ways n τ
+ways-few n τ h = rw (le-leb n 256 h)
+
+pub ways-many : (n : ℕ) (τ : Table) (x : Refusal) → 256 < n → x ≡ refusal 3 0 (τ .edition) → noWay x ≡ ways n τ
+ways-many n τ x h e = rw (lt-leb n 256 h, e)
+
 -- a is what `admit` answered
 pub told-accepted : (w : ℕ) (s : List ℕ) (a : TableRead) (τ : Table) → a ≡ admitted w s → a ≡ Read τ → Accepted τ
 told-accepted w s a τ e t = read-accepted w s τ (sym e ∙ t)
@@ -121,21 +125,3 @@ unfolding running
 running-same f g (Read τ) c l m count b e s =
     ap (λ (d : Checked). runsChecked d c τ l count b) (e τ) ∙ ap (λ (k : List Transaction). runsChecked (g τ) c τ k count b) s
 running-same f g (Refused x) c l m count b e s = refl
-
--- ---- more than 256
-
--- the check refuses every table's list by number 3
-abbrev pub Over : (Table → Checked) → Type 0
-Over check = (τ : Table) → NotFine (refusal 3 0 (τ .edition)) ≡ check τ
-
-pub schedules-over : (check : Table → Checked) (a : TableRead) (l : List Transaction) (b f : List ℕ) (x : Refusal) → Over check → x ≡ tooMany a → Schedules check a l b b f f (NotBuilt x)
-unfolding Schedules BuildsChecked
-schedules-over check (Read τ) l b f x o e = subst (λ (d : Checked). BuildsChecked d τ l b b f f (NotBuilt x)) (o τ) (ap NotBuilt e, refl, refl)
-schedules-over check (Refused y) l b f x o e = (ap NotBuilt e, refl, refl)
-
-pub running-over : (check : Table → Checked) (a : TableRead) (c : Controller) (l : List Transaction) (count : ℕ) (b : List ℕ) (x : Refusal) → Over check → x ≡ tooMany a
-    → LeavesRun (running check a c l count b) (record { controller = c; answer = NotRun x }) b
-unfolding running runsChecked
-running-over check (Read τ) c l count b x o e =
-    subst (λ (d : Checked). LeavesRun (runsChecked d c τ l count b) (record { controller = c; answer = NotRun x }) b) (o τ) (ap (λ (y : Refusal). record { controller = c; answer = NotRun y }) e, refl)
-running-over check (Refused y) c l count b x o e = (ap (λ (y : Refusal). record { controller = c; answer = NotRun y }) e, refl)

@@ -47,10 +47,9 @@ use Rattle.builder.specs.Bound.{boundTold}
 use Rattle.builder.specs.Build.{buildRefusal, LeavesBuild}
 use Rattle.lists.specs.declared.check.Checked.{Checked}
 use Rattle.lists.specs.Check.{checkList, checkBytes}
-use Rattle.lists.specs.Packed.{lent, packed}
+use Rattle.lists.specs.Packed.{packed}
 use Rattle.lists.proofs.Checks.{bytes-list, fits-fine}
-use Rattle.lists.proofs.Packing.{lent-check, packed-full}
-use Rattle.lists.proofs.Promises.{gather-kept}
+use Rattle.lists.proofs.Packing.{length-packed, held-whole, lent-held, lent-check}
 use Rattle.desk.specs.Admit.{admitted}
 use Rattle.desk.specs.Judging.{judging}
 use Rattle.desk.specs.Bounds.{bounding}
@@ -65,10 +64,11 @@ use Rattle.desk.proofs.Judges.{bytes-stand}
 few-due : (τ : Table) → Accepted τ → (l : List Transaction) → listFits τ l ≡ true → length (actQueue τ l) + length (dataQueue τ l) ≤ 69632
 few-due τ acc l fit =
     let few : length l ≤ 256 = leb-true (length l) 256 (and-left (leb (length l) 256) (every (fits τ) l) fit) in
-    let g = gather-kept l .few few in
-    let fine = lent-check (packed l) (omega (arith, few, g .0)) (packed-full l) τ ∙ (gather-kept l .checked τ ∙ fits-fine τ l fit) in
-    let k = fine-listed τ (lent (packed l)) (checkBytes τ (lent (packed l))) acc refl fine in
-    subst (λ (m : List Transaction). length (actQueue τ m) + length (dataQueue τ m) ≤ 69632) (g .2) (omega (arith, acts-due k, datas-due k))
+    let s = packed (length l) l in
+    let inside : 4 * length l ≤ length s = omega (arith, few, length-packed l (length l) few) in
+    let fine = lent-check (length l) s inside τ ∙ ap (checkList τ) (held-whole l) ∙ fits-fine τ l fit in
+    let k = fine-listed τ (take (4 * length l) s) (checkBytes τ (take (4 * length l) s)) acc refl fine in
+    subst (λ (m : List Transaction). length (actQueue τ m) + length (dataQueue τ m) ≤ 69632) (lent-held (length l) s inside ∙ held-whole l) (omega (arith, acts-due k, datas-due k))
 
 -- number 7 does not refuse so many records
 few-judged : (size n : ℕ) → size ≡ 8 * n → n ≤ 69632 → scheduleRefusal size ≡ 0

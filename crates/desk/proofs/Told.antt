@@ -1,15 +1,14 @@
 -- Each call's definition, by what `admit` answered: a, of the expected edition w and the table's bytes s.
 -- Assumes nothing.
-use Prim.Native.Nat.{ℕ, _≤_}
-use mathlib.Core.Path.{_≡_, refl, subst}
+use Prim.Native.Nat.{ℕ, _*_, _≤_}
+use mathlib.Core.Path.{_≡_, refl, sym, subst}
 use mathlib.Core.List.{List}
-use lib.ListN.{length, replicate}
+use lib.ListN.{length, take, replicate}
 use Rattle.records.specs.declared.table.Table.{Table}
 use Rattle.records.specs.declared.table.TableRead.{TableRead}
 use Rattle.records.specs.declared.table.TableRead.the-variants.{Read, Refused}
 use Rattle.records.specs.declared.transaction.Transaction.{Transaction}
 use Rattle.records.specs.declared.refusal.Refusal.{Refusal}
-use Rattle.records.specs.Told.{refusal}
 use Rattle.records.specs.Table.{tableOf}
 use Rattle.records.specs.Transaction.{transactionsIn}
 use Rattle.judge.specs.declared.answer.Judged.{Judged}
@@ -25,9 +24,8 @@ use Rattle.builder.specs.Bound.{boundTold}
 use Rattle.builder.specs.Build.{LeavesBuild}
 use Rattle.lists.specs.declared.check.Checked.{Checked}
 use Rattle.lists.specs.declared.check.Checked.the-variants.{Fine, Refused as NotFine}
-use Rattle.lists.specs.declared.packed.Packed.{Packed}
 use Rattle.lists.specs.Check.{checkList, checkBytes}
-use Rattle.lists.specs.Packed.{held, lent}
+use Rattle.lists.specs.Packed.{held}
 use Rattle.lists.proofs.Packing.{lent-held, lent-check}
 use Rattle.lists.specs.declared.decode.Decoded.the-variants.{Refused as NotDone}
 use Rattle.lists.specs.declared.decode.Plan.{Plan}
@@ -39,7 +37,8 @@ use Rattle.controller.specs.Controller.{freshController}
 use Rattle.controller.specs.Run.{RunLeft, runController, LeavesRun}
 use Rattle.desk.specs.declared.running.StartTold.{StartTold}
 use Rattle.desk.specs.declared.running.StartAnswer.the-variants.{Started, Refused as NotStarted}
-use Rattle.desk.specs.Admit.{admitted, tooMany}
+use Rattle.desk.specs.declared.admit.WayIn.{WayIn}
+use Rattle.desk.specs.Admit.{admitted, noWay, ways, wayIn}
 use Rattle.desk.specs.Judging.{judging, PatternTold}
 use Rattle.desk.specs.Bounds.{bounding}
 use Rattle.desk.specs.Transactions.{readingPlan}
@@ -65,8 +64,8 @@ module _ (w : ℕ) (s : List ℕ) (a : TableRead) (e : a ≡ admitted w s) where
     unfolding readingPlan
     plan-read b places r h = by-admitted (λ (z : TableRead). r ≡ readingPlan z b places) w s a (Read τ) e t h
 
-    pub many-read : (x : Refusal) → x ≡ refusal 3 0 (τ .edition) → x ≡ tooMany (admitted w s)
-    many-read x h = by-admitted (λ (z : TableRead). x ≡ tooMany z) w s a (Read τ) e t h
+    pub way-read : (n : ℕ) (r : WayIn) → r ≡ ways n τ → r ≡ wayIn n (admitted w s)
+    way-read n r h = by-admitted (λ (z : TableRead). r ≡ wayIn n z) w s a (Read τ) e t h
 
     pub start-read : (c : Controller) → c ≡ freshController τ → record { controller = c; answer = Started (τ .edition) } ≡ starting (admitted w s)
     unfolding starting
@@ -99,8 +98,8 @@ module _ (w : ℕ) (s : List ℕ) (a : TableRead) (e : a ≡ admitted w s) where
     unfolding readingPlan
     plan-refused b places = by-admitted (λ (z : TableRead). record { n = 0; answer = NotDone x } ≡ readingPlan z b places) w s a (Refused x) e t refl
 
-    pub many-refused : x ≡ tooMany (admitted w s)
-    many-refused = by-admitted (λ (z : TableRead). x ≡ tooMany z) w s a (Refused x) e t refl
+    pub way-refused : (n : ℕ) → noWay x ≡ wayIn n (admitted w s)
+    way-refused n = by-admitted (λ (z : TableRead). noWay x ≡ wayIn n z) w s a (Refused x) e t refl
 
     pub start-refused : (c : Controller) (n : Table) → n ≡ tableOf (replicate 16 0) → c ≡ freshController n → record { controller = c; answer = NotStarted x } ≡ starting (admitted w s)
     unfolding starting
@@ -137,15 +136,30 @@ module _ (τ : Table) (s : List ℕ) (d : Checked) (e : d ≡ checkBytes τ s) w
   ran-refused x t c l count b =
       by-checked (λ (z : Checked). LeavesRun (runsChecked z c τ l count b) (record { controller = c; answer = NotRun x }) b) τ s d (NotFine x) e t (refl, refl)
 
--- by the list that a packed list p of at most 256 holds, whose bytes are lent on
-module _ (p : Packed) (few : p .n ≤ 256) (full : length (p .bytes) ≡ 1024) where
-  pub schedule-held : (a : TableRead) (b₀ b f₀ f : List ℕ) (r : BuildAnswer) → Schedules (λ τ. checkBytes τ (lent p)) a (transactionsIn (lent p)) b₀ b f₀ f r
-      → Schedules (λ τ. checkList τ (held p)) a (held p) b₀ b f₀ f r
-  schedule-held a b₀ b f₀ f r h =
-      schedules-same (λ τ. checkBytes τ (lent p)) (λ τ. checkList τ (held p)) a (transactionsIn (lent p)) (held p) b₀ b f₀ f r (lent-check p few full) (lent-held p few full) h
+-- by what the way in found: a, of the n records that the bytes s hold, which are lent on
+module _ (n : ℕ) (s : List ℕ) (inside : 4 * n ≤ length s) (a : TableRead) where
+  module _ (τ : Table) (t : a ≡ Read τ) where
+    pub held-built : (b₀ b f₀ f : List ℕ) (r : BuildAnswer) → BuildsChecked (checkBytes τ (take (4 * n) s)) τ (transactionsIn (take (4 * n) s)) b₀ b f₀ f r
+        → Schedules (λ τ. checkList τ (held n s)) a (held n s) b₀ b f₀ f r
+    unfolding Schedules
+    held-built b₀ b f₀ f r h =
+        schedules-same (λ τ. checkBytes τ (take (4 * n) s)) (λ τ. checkList τ (held n s)) a (transactionsIn (take (4 * n) s)) (held n s) b₀ b f₀ f r (lent-check n s inside) (lent-held n s inside)
+        (subst (λ (z : TableRead). Schedules (λ τ. checkBytes τ (take (4 * n) s)) z (transactionsIn (take (4 * n) s)) b₀ b f₀ f r) (sym t) h)
 
-  pub run-held : (a : TableRead) (c : Controller) (count : ℕ) (b₀ b : List ℕ) (r : RunTold) → LeavesRun (running (λ τ. checkBytes τ (lent p)) a c (transactionsIn (lent p)) count b₀) r b
-      → LeavesRun (running (λ τ. checkList τ (held p)) a c (held p) count b₀) r b
-  run-held a c count b₀ b r h =
-      subst (λ (w : RunLeft). LeavesRun w r b)
-      (running-same (λ τ. checkBytes τ (lent p)) (λ τ. checkList τ (held p)) a c (transactionsIn (lent p)) (held p) count b₀ (lent-check p few full) (lent-held p few full)) h
+    pub held-ran : (c : Controller) (count : ℕ) (b₀ b : List ℕ) (r : RunTold) → LeavesRun (runsChecked (checkBytes τ (take (4 * n) s)) c τ (transactionsIn (take (4 * n) s)) count b₀) r b
+        → LeavesRun (running (λ τ. checkList τ (held n s)) a c (held n s) count b₀) r b
+    unfolding running
+    held-ran c count b₀ b r h =
+        subst (λ (w : RunLeft). LeavesRun w r b)
+        (running-same (λ τ. checkBytes τ (take (4 * n) s)) (λ τ. checkList τ (held n s)) a c (transactionsIn (take (4 * n) s)) (held n s) count b₀ (lent-check n s inside) (lent-held n s inside))
+        (subst (λ (z : TableRead). LeavesRun (running (λ τ. checkBytes τ (take (4 * n) s)) z c (transactionsIn (take (4 * n) s)) count b₀) r b) (sym t) h)
+
+-- and where it refused
+module _ (check : Table → Checked) (a : TableRead) (x : Refusal) (t : a ≡ Refused x) (l : List Transaction) where
+  pub held-not-built : (b f : List ℕ) → Schedules check a l b b f f (NotBuilt x)
+  unfolding Schedules
+  held-not-built b f = subst (λ (z : TableRead). Schedules check z l b b f f (NotBuilt x)) (sym t) (refl, refl, refl)
+
+  pub held-not-run : (c : Controller) (count : ℕ) (b : List ℕ) → LeavesRun (running check a c l count b) (record { controller = c; answer = NotRun x }) b
+  unfolding running
+  held-not-run c count b = subst (λ (z : TableRead). LeavesRun (running check z c l count b) (record { controller = c; answer = NotRun x }) b) (sym t) (refl, refl)

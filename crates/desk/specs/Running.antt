@@ -1,5 +1,6 @@
 -- What a start and a run answer, and what they leave of the controller and the buffer, refused or not.
 use Prim.Native.Nat.{ℕ}
+use mathlib.Core.Bool.{Bool, true, false}
 use mathlib.Core.Path.{_≡_}
 use mathlib.Core.List.{List}
 use lib.ListN.{replicate}
@@ -13,7 +14,7 @@ use Rattle.lists.specs.declared.check.Checked.{Checked}
 use Rattle.lists.specs.declared.check.Checked.the-variants.{Fine, Refused as NotFine}
 use Rattle.controller.specs.declared.controller.Controller.{Controller}
 use Rattle.controller.specs.declared.run.RunAnswer.{RunAnswer}
-use Rattle.controller.specs.declared.run.RunAnswer.the-variants.{Refused as NotRun}
+use Rattle.controller.specs.declared.run.RunAnswer.the-variants.{Ran, Refused as NotRun}
 use Rattle.controller.specs.Controller.{freshController}
 use Rattle.controller.specs.Run.{RunLeft, runController}
 use Rattle.desk.specs.declared.running.StartTold.{StartTold}
@@ -45,3 +46,8 @@ running check (Refused x) c l count b = nothingRun x c b
 -- the promise of a run where the controller lies: r is its answer, c the controller and b the buffer as it returns
 abbrev pub Runs : RunLeft → RunAnswer → Controller → List ℕ → Type 0
 Runs w r c b = (r ≡ w .told .answer) × (c ≡ w .told .controller) × (b ≡ w .buffer)
+
+-- whether a run is told of: a refused one writes no byte of the controller
+abbrev pub hasRun : RunAnswer → Bool
+hasRun (Ran x) = true
+hasRun (NotRun x) = false

@@ -4,7 +4,7 @@ ghost use mathlib.Core.Path.{_≡_};
 ghost use Rattle.desk.specs.Numbers.{ruleNumber};
 
 // Document 01's number of a rule.
-pub fn rule_number(x: Rule) -> u8
+pub fn rule_number(x: Rule) -> u32
     ensures { λ r. ⌜ r ≡ ruleNumber x ⌝ }
 {
     match x {

@@ -1,6 +1,7 @@
 // A controller that is run a few cycles at a time.
+use crate::admit::WayIn;
 use crate::admit::admit;
-use crate::schedules::too_many;
+use crate::admit::admit_lent;
 use controller::controller::Controller;
 use controller::controller::start_of;
 use controller::run::RunAnswer;
@@ -8,7 +9,6 @@ use controller::run::RunTold;
 use controller::run::run_controller;
 use lists::check::Checked;
 use lists::check::check_bytes;
-use lists::packed::Packed;
 use lists::packed::gather;
 use records::refusal::Refusal;
 use records::table::Table;
@@ -21,8 +21,8 @@ ghost use Rattle.records.specs.Transaction.{transactionsIn};
 ghost use Rattle.lists.specs.Check.{checkList, checkBytes};
 ghost use Rattle.lists.specs.Packed.{held};
 ghost use Rattle.controller.specs.Run.{LeavesRun};
-ghost use Rattle.desk.specs.Admit.{admitted};
-ghost use Rattle.desk.specs.Running.{starting, running, runsChecked, Runs};
+ghost use Rattle.desk.specs.Admit.{admitted, Ways};
+ghost use Rattle.desk.specs.Running.{starting, running, runsChecked, Runs, hasRun};
 
 // The table's edition, or the refusal.
 pub enum StartAnswer {
@@ -92,27 +92,28 @@ pub fn run_bytes(
     }
 }
 
-// The same of a list by value.
-pub fn run_held(
-    c: Controller,
-    expected: u16,
-    table: &[u8],
-    p: Packed,
-    count: u32,
-    room: &mut [u8],
-) -> RunTold
-    ensures { λ r. ⌜ LeavesRun (running (λ τ. checkList τ (held p)) (admitted expected (now (table .entry))) c (held p) count (now (room .entry))) r (now (room .exit)) ⌝ }
+// The same of a lent run of records, gathered.
+fn run_held(c: Controller, w: WayIn, bytes: [u8; 1024], count: u32, room: &mut [u8]) -> RunTold
+    requires { ⌜ Ways w ⌝ }
+    ensures { λ r. ⌜ LeavesRun (running (λ τ. checkList τ (held (w .n) bytes)) (w .table) c (held (w .n) bytes) count (now (room .entry))) r (now (room .exit)) ⌝ }
 {
-    let n = p.n;
-    if n <= 256 {
-        let bytes = p.bytes;
-        let end = 4 * n;
-        return run_bytes(c, expected, table, &bytes[..end], count, room);
+    let end = 4 * w.n;
+    let table = w.table;
+    match table {
+        TableRead::Read(t) => run_by(c, t, &bytes[..end], count, room),
+        TableRead::Refused(r) => RunTold {
+            controller: c,
+            answer: RunAnswer::Refused(r),
+        },
     }
-    let refusal = too_many(expected, table);
-    RunTold {
-        controller: c,
-        answer: RunAnswer::Refused(refusal),
+}
+
+fn has_run(a: RunAnswer) -> bool
+    ensures { λ r. ⌜ r ≡ hasRun a ⌝ }
+{
+    match a {
+        RunAnswer::Ran(x) => true,
+        RunAnswer::Refused(r) => false,
     }
 }
 
@@ -127,9 +128,12 @@ pub fn run(
 ) -> RunAnswer
     ensures { λ r. ⌜ Runs (running (λ τ. checkList τ (now (list .entry))) (admitted expected (now (table .entry))) (now (c .entry)) (now (list .entry)) count (now (room .entry))) r (now (c .exit)) (now (room .exit)) ⌝ }
 {
-    let p = gather(list);
-    let o = run_held(*c, expected, table, p, count, room);
-    *c = o.controller;
+    let w = admit_lent(expected, table, list.len());
+    let bytes = gather(list, w.n);
+    let o = run_held(*c, w, bytes, count, room);
+    if has_run(o.answer) {
+        *c = o.controller;
+    }
     o.answer
 }
 
@@ -143,8 +147,5 @@ pub fn step(
 ) -> RunAnswer
     ensures { λ r. ⌜ Runs (running (λ τ. checkList τ (now (list .entry))) (admitted expected (now (table .entry))) (now (c .entry)) (now (list .entry)) 1 (now (room .entry))) r (now (c .exit)) (now (room .exit)) ⌝ }
 {
-    let p = gather(list);
-    let o = run_held(*c, expected, table, p, 1, room);
-    *c = o.controller;
-    o.answer
+    run(c, expected, table, list, 1, room)
 }

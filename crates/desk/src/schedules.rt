@@ -1,13 +1,12 @@
 // The schedule of the cycle rule, with a finishing cycle for each transaction.
+use crate::admit::WayIn;
 use crate::admit::admit;
+use crate::admit::admit_lent;
 use builder::build::BuildAnswer;
 use builder::build::build_schedule;
 use lists::check::Checked;
 use lists::check::check_bytes;
-use lists::packed::Packed;
 use lists::packed::gather;
-use records::refusal::Refusal;
-use records::refusal::refuse;
 use records::table::Table;
 use records::table::TableRead;
 use records::transaction::Transaction;
@@ -16,7 +15,7 @@ ghost use Rattle.records.specs.Table.{Accepted};
 ghost use Rattle.records.specs.Transaction.{transactionsIn};
 ghost use Rattle.lists.specs.Check.{checkList, checkBytes};
 ghost use Rattle.lists.specs.Packed.{held};
-ghost use Rattle.desk.specs.Admit.{admitted, tooMany};
+ghost use Rattle.desk.specs.Admit.{admitted, Ways};
 ghost use Rattle.desk.specs.Schedules.{Schedules, BuildsChecked};
 
 // Numbers 3 to 6, by an accepted table; then the schedule.
@@ -49,33 +48,22 @@ pub fn schedule_bytes(
     }
 }
 
-// How a list of more than 256 transactions is refused.
-pub fn too_many(expected: u16, table: &[u8]) -> Refusal
-    ensures { λ r. ⌜ r ≡ tooMany (admitted expected (now (table .entry))) ⌝ }
-{
-    match admit(expected, table) {
-        TableRead::Read(t) => refuse(3, 0, t.edition),
-        TableRead::Refused(r) => r,
-    }
-}
-
-// The same of a list by value.
-pub fn schedule_held(
-    expected: u16,
-    table: &[u8],
-    p: Packed,
+// The same of a lent run of records, gathered.
+fn schedule_held(
+    w: WayIn,
+    bytes: [u8; 1024],
     commands: &mut [u8],
     finishes: &mut [u32],
 ) -> BuildAnswer
-    ensures { λ r. ⌜ Schedules (λ τ. checkList τ (held p)) (admitted expected (now (table .entry))) (held p) (now (commands .entry)) (now (commands .exit)) (now (finishes .entry)) (now (finishes .exit)) r ⌝ }
+    requires { ⌜ Ways w ⌝ }
+    ensures { λ r. ⌜ Schedules (λ τ. checkList τ (held (w .n) bytes)) (w .table) (held (w .n) bytes) (now (commands .entry)) (now (commands .exit)) (now (finishes .entry)) (now (finishes .exit)) r ⌝ }
 {
-    let n = p.n;
-    if n <= 256 {
-        let bytes = p.bytes;
-        let end = 4 * n;
-        return schedule_bytes(expected, table, &bytes[..end], commands, finishes);
+    let end = 4 * w.n;
+    let table = w.table;
+    match table {
+        TableRead::Read(t) => schedule_by(t, &bytes[..end], commands, finishes),
+        TableRead::Refused(r) => BuildAnswer::Refused(r),
     }
-    BuildAnswer::Refused(too_many(expected, table))
 }
 
 // Numbers 1 to 6; then the schedule of a lent run of records.
@@ -88,6 +76,7 @@ pub fn schedule(
 ) -> BuildAnswer
     ensures { λ r. ⌜ Schedules (λ τ. checkList τ (now (list .entry))) (admitted expected (now (table .entry))) (now (list .entry)) (now (commands .entry)) (now (commands .exit)) (now (finishes .entry)) (now (finishes .exit)) r ⌝ }
 {
-    let p = gather(list);
-    schedule_held(expected, table, p, commands, finishes)
+    let w = admit_lent(expected, table, list.len());
+    let bytes = gather(list, w.n);
+    schedule_held(w, bytes, commands, finishes)
 }

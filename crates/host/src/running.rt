@@ -2,19 +2,17 @@
 use crate::answer::Answer;
 use crate::answer::RunAnswer;
 use crate::answer::StartAnswer;
+use crate::answer::of_run;
 use crate::answer::run_of;
 use crate::answer::start_of;
 use controller::controller::Controller;
+use desk::running::run;
 use desk::running::run_bytes;
-use desk::running::run_held;
 use desk::running::start;
-use lists::packed::Packed;
-use lists::packed::gather;
 use records::transaction::Transaction;
 ghost use mathlib.Core.Path.{_≡_};
 ghost use Rattle.records.specs.Transaction.{transactionsIn};
 ghost use Rattle.lists.specs.Check.{checkList, checkBytes};
-ghost use Rattle.lists.specs.Packed.{held};
 ghost use Rattle.desk.specs.Admit.{admitted};
 ghost use Rattle.desk.specs.Running.{starting, running};
 ghost use Rattle.host.specs.Answers.{startOf};
@@ -43,20 +41,6 @@ pub extern "C" fn skv_run_bytes(
     run_of(run_bytes(c, expected, table, list, count, room))
 }
 
-// The same of a list by value.
-pub fn run_told(
-    c: Controller,
-    expected: u16,
-    table: &[u8],
-    p: Packed,
-    count: u32,
-    room: &mut [u8],
-) -> RunAnswer
-    ensures { λ r. ⌜ RunsBack (running (λ τ. checkList τ (held p)) (admitted expected (now (table .entry))) c (held p) count (now (room .entry))) r (now (room .exit)) ⌝ }
-{
-    run_of(run_held(c, expected, table, p, count, room))
-}
-
 // "The host lends its running controller": it is run where it lies, over a lent run of records.
 #[no_mangle]
 pub extern "C" fn skv_run(
@@ -69,10 +53,7 @@ pub extern "C" fn skv_run(
 ) -> Answer
     ensures { λ r. ⌜ RunsIn (running (λ τ. checkList τ (now (list .entry))) (admitted expected (now (table .entry))) (now (c .entry)) (now (list .entry)) count (now (room .entry))) r (now (c .exit)) (now (room .exit)) ⌝ }
 {
-    let p = gather(list);
-    let o = run_told(*c, expected, table, p, count, room);
-    *c = o.controller;
-    o.answer
+    of_run(run(c, expected, table, list, count, room))
 }
 
 // One cycle.
@@ -86,8 +67,5 @@ pub extern "C" fn skv_step(
 ) -> Answer
     ensures { λ r. ⌜ RunsIn (running (λ τ. checkList τ (now (list .entry))) (admitted expected (now (table .entry))) (now (c .entry)) (now (list .entry)) 1 (now (room .entry))) r (now (c .exit)) (now (room .exit)) ⌝ }
 {
-    let p = gather(list);
-    let o = run_told(*c, expected, table, p, 1, room);
-    *c = o.controller;
-    o.answer
+    skv_run(c, expected, table, list, 1, room)
 }

@@ -1,14 +1,11 @@
 // The schedule of the cycle rule, with a finishing cycle for each transaction.
 use crate::answer::Answer;
 use crate::answer::of_build;
+use desk::schedules::schedule;
 use desk::schedules::schedule_bytes;
-use desk::schedules::schedule_held;
-use lists::packed::Packed;
-use lists::packed::gather;
 use records::transaction::Transaction;
 ghost use Rattle.records.specs.Transaction.{transactionsIn};
 ghost use Rattle.lists.specs.Check.{checkList, checkBytes};
-ghost use Rattle.lists.specs.Packed.{held};
 ghost use Rattle.desk.specs.Admit.{admitted};
 ghost use Rattle.host.specs.Promises.{Scheduled};
 
@@ -25,19 +22,6 @@ pub extern "C" fn skv_schedule_bytes(
     of_build(schedule_bytes(expected, table, list, commands, finishes))
 }
 
-// The same of a list by value.
-pub fn schedule_told(
-    expected: u16,
-    table: &[u8],
-    p: Packed,
-    commands: &mut [u8],
-    finishes: &mut [u32],
-) -> Answer
-    ensures { λ r. ⌜ Scheduled (λ τ. checkList τ (held p)) (admitted expected (now (table .entry))) (held p) (now (commands .entry)) (now (commands .exit)) (now (finishes .entry)) (now (finishes .exit)) r ⌝ }
-{
-    of_build(schedule_held(expected, table, p, commands, finishes))
-}
-
 // Of a lent run of records.
 #[no_mangle]
 pub extern "C" fn skv_schedule(
@@ -49,6 +33,5 @@ pub extern "C" fn skv_schedule(
 ) -> Answer
     ensures { λ r. ⌜ Scheduled (λ τ. checkList τ (now (list .entry))) (admitted expected (now (table .entry))) (now (list .entry)) (now (commands .entry)) (now (commands .exit)) (now (finishes .entry)) (now (finishes .exit)) r ⌝ }
 {
-    let p = gather(list);
-    schedule_told(expected, table, p, commands, finishes)
+    of_build(schedule(expected, table, list, commands, finishes))
 }

@@ -1,14 +1,13 @@
 // The judges' verdicts as structs of plain numbers.
 use crate::answer::from_16;
 use crate::answer::refused;
+use desk::numbers::rule_number;
 use judge::answer::Judged;
 use judge::answer::PatternJudged;
 use records::refusal::Refusal;
 use rules::verdict::PatternVerdict;
-use rules::verdict::Rule;
 use rules::verdict::Verdict;
 ghost use mathlib.Core.Path.{_≡_};
-ghost use Rattle.desk.specs.Numbers.{ruleNumber};
 ghost use Rattle.host.specs.Verdicts.{saying, notSaying, verdictSaid, verdictOf, patternSaid, patternOf};
 
 // `rule` is 0 where the records are accepted; `copy` counts from 1, and is 0 for a schedule; `record` counts from 0.
@@ -20,23 +19,6 @@ pub struct VerdictAnswer {
     pub rule: u32,
     pub copy: u32,
     pub record: u32,
-}
-
-pub fn rule_number(r: Rule) -> u32
-    ensures { λ x. ⌜ x ≡ ruleNumber r ⌝ }
-{
-    match r {
-        Rule::Range => 1,
-        Rule::Order => 2,
-        Rule::Opened => 3,
-        Rule::Precharge => 4,
-        Rule::Rc => 5,
-        Rule::Rrd => 6,
-        Rule::Faw => 7,
-        Rule::Rcd => 8,
-        Rule::Distance => 9,
-        Rule::End => 10,
-    }
 }
 
 pub fn said(edition: u16, rule: u32, copy: u32, place: u32) -> VerdictAnswer

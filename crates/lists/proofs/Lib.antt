@@ -4,4 +4,5 @@ pub mod Checks
 pub mod Packing
 pub mod Storing
 pub mod While
+pub mod LocalArray
 pub mod Promises

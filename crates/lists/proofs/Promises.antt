@@ -1,6 +1,6 @@
 -- The promises of `specs/Promise` are kept.
 -- Assumes nothing.
-use Prim.Native.Nat.{ℕ, zero, suc, _+_, _/_, _≤_, _<_}
+use Prim.Native.Nat.{ℕ, zero, suc, _+_, _*_, _/_, _≤_, _<_}
 use mathlib.Core.Bool.{Bool, true, false}
 use mathlib.Core.Path.{_≡_, refl, sym, ap, _∙_}
 use mathlib.Core.Logic.{_⊎_, inl, inr}
@@ -8,7 +8,7 @@ use mathlib.Core.List.{List, [], _∷_}
 use native.Mathlib.Omega.{arith}
 use native.Mathlib.Nat.{add-zero, zero-add}
 use lib.Dec.{leb}
-use lib.ListN.{length, getD, take, drop}
+use lib.ListN.{length, getD, take, drop, length-append}
 use lib.Seq.{take-at, drop-at}
 use borrow.Author.Tests.{leb-true, leb-false}
 use Rattle.records.specs.declared.table.Table.{Table}
@@ -22,12 +22,12 @@ use Rattle.lists.specs.declared.check.Checked.{Checked}
 use Rattle.lists.specs.declared.check.Checked.the-variants.{Fine, Refused}
 use Rattle.lists.specs.declared.decode.Decoded.the-variants.{Done, Refused as NotDone}
 use Rattle.lists.specs.Check.{rangeFrom, checkSized, checkList, checkInto}
-use Rattle.lists.specs.Packed.{held, lent, packed, noTransaction}
+use Rattle.lists.specs.Packed.{held, packed, noTransaction}
 use Rattle.lists.specs.Decode.{stored, decodedBy, decoding}
 use Rattle.lists.specs.Promise.{Lowest, CheckKept, GatherKept, DecodeKept}
 use Rattle.lists.proofs.Runs.{length-from}
-use Rattle.lists.proofs.Checks.{Sized, fine-sized, into-list, fine-fits, fits-fine, over-list}
-use Rattle.lists.proofs.Packing.{length-held, packed-few, packed-many, packed-full, held-packed, lent-held}
+use Rattle.lists.proofs.Checks.{Sized, fine-sized, into-list, fine-fits, fits-fine}
+use Rattle.lists.proofs.Packing.{length-packed, held-packed, lent-held}
 
 no-case : {A : Type 0} (r : Refusal) → Refused r ≡ Fine → A
 no-case r e = let z : _≡_ {A = ℕ} 0 1 = cc in absurd (omega arith)
@@ -68,26 +68,14 @@ check-kept τ l = record { fine = (fine-fits τ l, fits-fine τ l); refused = λ
 
 -- ---- a list, gathered
 
-pub gather-kept : (l : List Transaction) → GatherKept l
-gather-kept l = record { few = λ h. (size h, held-packed l h, lent-packed h); many = packed-many l; checked = λ τ. on τ (leb (length l) 256) refl }
-  where
-    size : length l ≤ 256 → packed l .n ≡ length l
-    size = packed-few l
-
-    lent-packed : length l ≤ 256 → transactionsIn (lent (packed l)) ≡ l
-    lent-packed h = lent-held (packed l) (omega (arith, size h)) (packed-full l) ∙ held-packed l h
-
-    on : (τ : Table) (b : Bool) → leb (length l) 256 ≡ b → checkList τ (held (packed l)) ≡ checkList τ l
-    on τ true t = ap (checkList τ) (held-packed l (leb-true (length l) 256 t))
-    on τ false t =
-        let many = leb-false (length l) 256 t in
-        sym (over-list τ (held (packed l)) (omega (arith, length-held (packed l), packed-many l many))) ∙ over-list τ l many
+pub gather-kept : (l : List Transaction) (n : ℕ) → GatherKept l n
+gather-kept l n = record { gathered = held-packed l n; lent = λ h few. lent-held n (packed n l) (omega (arith, length-packed l n few)) ∙ held-packed l n h }
 
 -- ---- bytes, decoded
 
 module _ (τ : Table) (s : List ℕ) (l : List Transaction) where
   abbrev AsDone : ℕ → ℕ → List Transaction → Type 0
-  AsDone e n k = (e ≡ τ .edition) × (n ≡ length (transactionsIn s)) × (held (packed (take n k)) ≡ transactionsIn s) × (listFits τ (transactionsIn s) ≡ true) × (drop n k ≡ drop n l)
+  AsDone e n k = (e ≡ τ .edition) × (n ≡ length (transactionsIn s)) × (held n (packed n k) ≡ transactionsIn s) × (listFits τ (transactionsIn s) ≡ true) × (drop n k ≡ drop n l)
 
   done-is : (e n : ℕ) → Sized (length s) (length l) → checkList τ (transactionsIn s) ≡ Fine → Done (τ .edition) (length s / 4) ≡ Done e n → AsDone e n (stored s (length s / 4) l)
   done-is e n z fine h =
@@ -96,7 +84,8 @@ module _ (τ : Table) (s : List ℕ) (l : List Transaction) where
       let size : length (transactionsIn s) ≡ length s / 4 = length-from s (length s / 4) 0 in (
         edition,
         sym (size ∙ count),
-        ap (λ (k : List Transaction). held (packed k)) (take-at (transactionsIn s) (drop (length s / 4) l) n (size ∙ count)) ∙ held-packed (transactionsIn s) (omega (arith, z .few)),
+        held-packed (stored s (length s / 4) l) n (omega (arith, length-append (transactionsIn s) (drop (length s / 4) l)))
+            ∙ take-at (transactionsIn s) (drop (length s / 4) l) n (size ∙ count),
         fine-fits τ (transactionsIn s) fine,
         drop-at (transactionsIn s) (drop (length s / 4) l) n (size ∙ count) ∙ ap (λ (m : ℕ). drop m l) count,
       )

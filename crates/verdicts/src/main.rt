@@ -136,7 +136,7 @@ fn pattern_verdict(v: PatternVerdict) {
 
 fn rule(x: Rule) {
     text(b" rule");
-    small(rule_number(x));
+    long(rule_number(x));
 }
 
 fn refused(r: Refusal) {
