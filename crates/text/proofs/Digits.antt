@@ -61,6 +61,10 @@ one-long n h = ap length (one-digit n h)
 pub one-more : (n : ℕ) → 10 ≤ n → length (decimal n) ≡ length (decimal (n / 10)) + 1
 one-more n h = ap length (last-digit n h) ∙ length-append (decimal (n / 10)) ((48 + n % 10) ∷ [])
 
+-- a number and the byte that ends it
+pub then-long : (n x : ℕ) → length (decimal n ++ (x ∷ [])) ≡ length (decimal n) + 1
+then-long n x = length-append (decimal n) (x ∷ [])
+
 -- at most k, for a number below the k-th power of 10
 pub at-most : (k n : ℕ) → n < 10 ^ suc k → length (decimal n) ≤ suc k
 at-most zero n h = omega (arith, one-long n h)

@@ -2,7 +2,7 @@
 ghost use mathlib.Core.Path.{_≡_};
 ghost use Prim.Native.Nat.{_+_, _<_, _≤_};
 ghost use lib.ListN.{length};
-ghost use mathlib.Core.List.{[], _∷_};
+ghost use mathlib.Core.List.{[], _∷_, _++_};
 ghost use Rattle.text.specs.Decimal.{decimal};
 ghost use Rattle.text.specs.Puts.{Puts};
 
@@ -36,6 +36,15 @@ pub fn put_number(out: &mut [u8], at: usize, n: u64) -> usize
     }
     let next = put_number(out, at, n / 10);
     put_byte(out, next, digit(n % 10))
+}
+
+// A number and the byte that ends it.
+pub fn put_number_then(out: &mut [u8], at: usize, n: u64, end: u8) -> usize
+    requires { ⌜ at + length (decimal n ++ (end ∷ [])) ≤ length (now out) ⌝ }
+    ensures { λ r. ⌜ Puts (decimal n ++ (end ∷ [])) at r (now (out .entry)) (now (out .exit)) ⌝ }
+{
+    let next = put_number(out, at, n);
+    put_byte(out, next, end)
 }
 
 fn digit(d: u64) -> u8
