@@ -1,2 +1,3 @@
 -- What is shown of the listing.
 pub mod Long
+pub mod Turns
