@@ -1,3 +1,4 @@
 -- What is shown of the listing.
 pub mod Long
 pub mod Turns
+pub mod Telling

@@ -40,9 +40,7 @@ ListsBehind expected s text = ListsCall expected (take 32 s) (drop 32 s) text
 abbrev pub Lists : List ℕ → List ℕ → Type 0
 Lists input text = pick (ltb (length input) 2) (text ≡ refusedLine (refusal 1 0 0)) (ListsBehind (num input 0) (drop 2 input) text)
 
--- the promise of the listing: its text stands in the buffer from the start, all beyond as it stood; s and l are the buffer before and after
-pub record Listed (input : List ℕ) (n : ℕ) (s l : List ℕ) : Type 0 where
-  pub text : List ℕ
-  pub lists : Lists input text
-  pub count : n ≡ length text
-  pub buffer : l ≡ over text s
+-- what a function that writes such a text leaves: the text from the buffer's start, all beyond as it stood, and n, its length; s and l are the
+-- buffer before and after
+abbrev pub Writes : (List ℕ → Type 0) → ℕ → List ℕ → List ℕ → Type 0
+Writes is n s l = (text : List ℕ) × is text × (n ≡ length text) × (l ≡ over text s)
