@@ -2,3 +2,4 @@
 pub mod Long
 pub mod Turns
 pub mod Telling
+pub mod Unique
