@@ -7,7 +7,7 @@ use mathlib.Core.List.{List, [], _∷_, _++_}
 use native.Mathlib.Omega.{arith}
 use native.Mathlib.Nat.{zero-add}
 use lib.Dec.{ltb}
-use lib.ListN.{length, take, drop, replicate, length-drop, drop-of-length-le}
+use lib.ListN.{length, take, drop, replicate, length-append, length-drop, drop-of-length-le}
 use lib.Seq.{take-all, drop-length}
 use borrow.Author.Tests.{lt-ltb, le-ltb}
 use Rattle.records.specs.Tests.{pick}
@@ -103,3 +103,9 @@ pub long-enough : (s : List ℕ) (e r : ℕ) (b l : List ℕ) → 2 ≤ length s
 long-enough s e r b l h p w =
     subst (λ (c : Bool). Writes (λ text. pick c (text ≡ refusedLine (refusal 1 0 0)) (ListsBehind (num s 0) (drop 2 s) text)) r b l) (sym (le-ltb (length s) 2 h))
     (subst (λ (k : ℕ). Writes (ListsBehind k (drop 2 s)) r b l) p (subst (λ (k : List ℕ). Writes (ListsBehind e k) r b l) (from-is 2 s) w))
+
+-- ---- for who prints it
+
+-- what is written lies within the buffer
+pub within : (is : List ℕ → Type 0) (n : ℕ) (s l : List ℕ) → Writes is n s l → n ≤ length l
+within is n s l w = omega (arith, w .2, ap length (w .3), length-append (w .0) (drop (length (w .0)) s))
