@@ -10,6 +10,7 @@ mod hostile;
 pub mod hostile_listing;
 pub mod house;
 pub mod listing;
+mod listings;
 mod records;
 mod rules;
 mod runs;

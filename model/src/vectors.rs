@@ -1,10 +1,10 @@
-//! What the programs `hostile`, `verdicts` and `runs` are run on, and what they must write.
+//! What the programs `hostile`, `verdicts`, `runs` and `listings` are run on, and what they must write.
 
 use std::fs;
 use std::io;
 use std::path::Path;
 
-use crate::{hostile, runs, verdicts};
+use crate::{hostile, listings, runs, verdicts};
 
 /// A program's name, its input and its output.
 type Stored = (&'static str, Vec<u8>, String);
@@ -12,10 +12,11 @@ type Stored = (&'static str, Vec<u8>, String);
 pub fn all() -> Vec<Stored> {
     type Cases = fn() -> Vec<u8>;
     type Lines = fn(&[u8]) -> String;
-    let programs: [(&str, Cases, Lines); 3] = [
+    let programs: [(&str, Cases, Lines); 4] = [
         ("hostile", hostile::cases, hostile::lines),
         ("verdicts", verdicts::cases, verdicts::lines),
         ("runs", runs::cases, runs::lines),
+        ("listings", listings::cases, listings::lines),
     ];
     programs
         .map(|(program, cases, lines)| {

@@ -1,0 +1,15 @@
+use borrow.Author.Needs.{needs}
+use native.Mathlib.Omega.{arith}
+use lib.ListN.{length}
+use Rattle.lines.proofs.Telling.{writes, call-built, call-refused, call-room}
+use Rattle.lines.proofs.whole.list_call.Statement.{statement}
+use Rattle.lines.proofs.whole.list_call.Tie as tie
+
+pub list-call-spec : {M : Type 1} → statement M
+list-call-spec =
+    tie.close (tie.spec (λ c. search needs) (λ c. search needs) (λ c κs. search needs) (λ c. search needs)
+    (λ c κs. call-room _ _ _ _ _ _ (c .before .before .before .before .before .before .before .before .before .before .schedule-bytes .ensures) _ _ _ (c .before .before .before .before .answer .given .1) (c .before .before .before .before .before .before .before .before .before .before .schedule-bytes .kept .1 .1 .1 .0) (c .before .before .before .before .before .before .before .before .before .before .schedule-bytes .kept .1 .1 .1 .1 .0) (c .before .before .before .before .before .before .before .before .before .before .before .before .before .before .before .before .before .before .pre))
+    (λ c. search needs) (λ c κs. search needs) (λ c. search needs)
+    (λ c. writes _ _ _ _ _ (call-built _ _ _ _ _ _ (c .before .before .before .before .before .before .before .before .before .before .before .before .before .before .before .schedule-bytes .ensures) _ _ (c .before .before .before .before .before .before .before .before .before .answer .given .1)) (c .before .before .before .before .put-schedule .ensures))
+    (λ c. search needs)
+    (λ c. writes _ _ _ _ _ (call-refused _ _ _ _ _ _ (c .before .before .before .before .before .before .before .before .before .before .before .before .before .schedule-bytes .ensures) _ (c .before .before .before .before .before .before .before .answer2 .given .1)) (c .before .before .put-refusal .ensures)))

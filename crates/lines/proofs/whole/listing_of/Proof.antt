@@ -1,0 +1,14 @@
+use borrow.Author.Needs.{needs}
+use native.Mathlib.Omega.{arith}
+use denote.Ref.{now}
+use Rattle.lines.specs.Listing.{Lists}
+use Rattle.lines.proofs.Telling.{writes, too-short, long-enough}
+use Rattle.lines.proofs.whole.listing_of.Statement.{statement}
+use Rattle.lines.proofs.whole.listing_of.Tie as tie
+
+pub listing-of-spec : {M : Type 1} → statement M
+listing-of-spec =
+    tie.close (tie.spec (λ c κs. search needs) (λ c κs. search needs) (λ c. search needs)
+    (λ c. writes (Lists (now (c .before .before .before .before .before .before .before .before .args .input))) _ _ _ _ (too-short (now (c .before .before .before .before .before .before .before .before .args .input)) _ (c .before .before .before .before .before .if1 .taken) (c .before .before .before .refuse .ensures)) (c .before .before .put-refusal .ensures))
+    (λ c κs. search needs) (λ c. search needs) (λ c. search needs) (λ c. search needs) (λ c κs. search needs) (λ c. search needs)
+    (λ c. long-enough (now (c .before .before .before .before .before .before .before .before .before .args .input)) _ _ _ _ (c .before .before .before .before .before .before .if1 .left) (c .before .before .before .before .before .num-at .ensures) (c .before .before .list-behind .ensures)))

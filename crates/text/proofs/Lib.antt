@@ -1,0 +1,4 @@
+-- What is shown of texts.
+pub mod Digits
+pub mod WorkedDigits
+pub mod Putting
