@@ -1,10 +1,10 @@
-//! What the programs `hostile`, `verdicts` and `runs` are run on, and what they must write.
+//! What the programs `hostile`, `verdicts` and `runs` are run on, and what they and `calls`, which is run on nothing, must write.
 
 use std::fs;
 use std::io;
 use std::path::Path;
 
-use crate::{hostile, runs, verdicts};
+use crate::{calls, hostile, runs, verdicts};
 
 /// A program's name, its input and its output.
 type Stored = (&'static str, Vec<u8>, String);
@@ -12,10 +12,11 @@ type Stored = (&'static str, Vec<u8>, String);
 pub fn all() -> Vec<Stored> {
     type Cases = fn() -> Vec<u8>;
     type Lines = fn(&[u8]) -> String;
-    let programs: [(&str, Cases, Lines); 3] = [
+    let programs: [(&str, Cases, Lines); 4] = [
         ("hostile", hostile::cases, hostile::lines),
         ("verdicts", verdicts::cases, verdicts::lines),
         ("runs", runs::cases, runs::lines),
+        ("calls", Vec::new, |_| calls::lines()),
     ];
     programs
         .map(|(program, cases, lines)| {
@@ -31,7 +32,9 @@ pub fn write(root: &Path) -> io::Result<()> {
     for (program, input, output) in all() {
         let folder = root.join("crates").join(program);
         fs::create_dir_all(&folder)?;
-        fs::write(folder.join("stdin"), &input)?;
+        if !input.is_empty() {
+            fs::write(folder.join("stdin"), &input)?;
+        }
         fs::write(folder.join("stdout"), &output)?;
         let (bytes, lines) = (input.len(), output.lines().count());
         println!("{program}: {bytes} bytes in, {lines} lines out");
@@ -48,7 +51,10 @@ mod tests {
         let crates = Path::new(env!("CARGO_MANIFEST_DIR")).join("../crates");
         for (program, input, output) in all() {
             let stored = |file| fs::read(crates.join(program).join(file)).expect("it's stored");
-            assert!(stored("stdin") == input, "{program}: stdin");
+            assert!(
+                input.is_empty() || stored("stdin") == input,
+                "{program}: stdin"
+            );
             assert!(stored("stdout") == output.as_bytes(), "{program}: stdout");
         }
     }
