@@ -4,6 +4,7 @@
 //! The public calls are in `desk`, and the house tables in `house`. What the calls rest on is in `records`, `rules` and `scheduler`;
 //! the other modules make the stored cases of the programs, the example files, and what must be printed for each.
 
+mod calls;
 pub mod desk;
 pub mod examples;
 mod hostile;

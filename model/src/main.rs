@@ -1,4 +1,4 @@
-//! `model vectors ROOT` writes what the programs `hostile`, `verdicts`, `runs` and `listings` are run on and what they must write.
+//! `model vectors ROOT` writes what the programs `hostile`, `verdicts`, `runs` and `listings` are run on and what they and `calls` must write.
 //! `model listing` is the listing program: standard input, standard output.
 //! `model examples ROOT` writes the example files with their texts.
 //! `model hostile-listing FOLDER` writes inputs of the listing program and what it must print for each.

@@ -1,10 +1,10 @@
-//! What the programs `hostile`, `verdicts`, `runs` and `listings` are run on, and what they must write.
+//! What the programs `hostile`, `verdicts`, `runs` and `listings` are run on, and what they and `calls`, which is run on nothing, must write.
 
 use std::fs;
 use std::io;
 use std::path::Path;
 
-use crate::{hostile, listings, runs, verdicts};
+use crate::{calls, hostile, listings, runs, verdicts};
 
 /// A program's name, its input and its output.
 type Stored = (&'static str, Vec<u8>, String);
@@ -17,6 +17,7 @@ pub fn all() -> Vec<Stored> {
         ("verdicts", verdicts::cases, verdicts::lines),
         ("runs", runs::cases, runs::lines),
         ("listings", listings::cases, listings::lines),
+        ("calls", Vec::new, |_| calls::lines()),
     ];
     programs
         .map(|(program, cases, lines)| {
@@ -32,7 +33,9 @@ pub fn write(root: &Path) -> io::Result<()> {
     for (program, input, output) in all() {
         let folder = root.join("crates").join(program);
         fs::create_dir_all(&folder)?;
-        fs::write(folder.join("stdin"), &input)?;
+        if !input.is_empty() {
+            fs::write(folder.join("stdin"), &input)?;
+        }
         fs::write(folder.join("stdout"), &output)?;
         let (bytes, lines) = (input.len(), output.lines().count());
         println!("{program}: {bytes} bytes in, {lines} lines out");
@@ -49,7 +52,10 @@ mod tests {
         let crates = Path::new(env!("CARGO_MANIFEST_DIR")).join("../crates");
         for (program, input, output) in all() {
             let stored = |file| fs::read(crates.join(program).join(file)).expect("it's stored");
-            assert!(stored("stdin") == input, "{program}: stdin");
+            assert!(
+                input.is_empty() || stored("stdin") == input,
+                "{program}: stdin"
+            );
             assert!(stored("stdout") == output.as_bytes(), "{program}: stdout");
         }
     }

@@ -1,6 +1,132 @@
-// Calls.
+// Makes every public call to which something is lent, and every call of the host, on the cases below. What it must print is stored beside it,
+// from `model/`, which has the same cases.
 mod lent;
 mod lent_host;
+mod one_record;
 mod told;
+mod whole;
 
-fn main() {}
+use lent::lent_read;
+use lent_host::host_read;
+use one_record::command_written;
+use one_record::records_read;
+use one_record::table_written;
+use one_record::transaction_written;
+use records::house::table_a;
+use records::house::table_d;
+use records::transaction::Transaction;
+use whole::bounded;
+use whole::byte_schedules;
+use whole::host_schedules;
+use whole::runs;
+use whole::schedules;
+use whole::starts;
+
+fn main() {
+    // A write, a read of the same bank, and a read of two banks and two words
+    case(
+        7,
+        7,
+        table_a(),
+        [of(1, 0, 1, 1), of(0, 0, 1, 1), of(0, 7, 2, 2)],
+        &[0, 3, 1, 2, 1, 4, 2, 1],
+        60,
+    );
+    // No two numbers of the table alike; each pair of data kinds
+    case(
+        9,
+        9,
+        table_d(),
+        [of(0, 0, 1, 2), of(1, 1, 1, 2), of(0, 2, 1, 1)],
+        &[0, 0, 1, 2, 1, 1, 1, 2, 0, 2, 1, 1],
+        49,
+    );
+    // More transactions than places
+    case(
+        7,
+        7,
+        table_a(),
+        [of(0, 1, 1, 1), of(1, 2, 1, 1), of(0, 3, 1, 1)],
+        &[0, 0, 1, 1, 0, 1, 1, 1, 0, 2, 1, 1, 0, 3, 1, 1],
+        0,
+    );
+    // Too little room, and bytes that are no multiple of 4
+    case(
+        7,
+        7,
+        table_a(),
+        [of(0, 0, 8, 16), of(0, 0, 1, 1), of(0, 0, 1, 1)],
+        &[0, 0, 1, 1, 0],
+        1000,
+    );
+    // A transaction out of range
+    case(
+        9,
+        9,
+        table_d(),
+        [of(0, 0, 1, 1), of(0, 6, 1, 1), of(2, 0, 1, 1)],
+        &[0, 0, 1, 1, 0, 0, 17, 1],
+        5,
+    );
+    // Another edition than the table's; a controller of no edition
+    case(
+        0,
+        7,
+        table_d(),
+        [of(0, 0, 1, 1), of(0, 0, 1, 1), of(0, 0, 1, 1)],
+        &[0, 0, 1, 1],
+        5,
+    );
+    case(
+        7,
+        9,
+        table_d(),
+        [of(0, 0, 1, 1), of(0, 0, 1, 1), of(0, 0, 1, 1)],
+        &[0, 0, 1, 1, 0, 1, 1, 1],
+        5,
+    );
+    // No table
+    case(
+        7,
+        7,
+        [0; 16],
+        [of(0, 0, 1, 1), of(0, 0, 1, 1), of(0, 0, 1, 1)],
+        &[],
+        5,
+    );
+}
+
+fn of(kind: u8, start: u8, bi: u8, bc: u8) -> Transaction {
+    Transaction {
+        kind: kind,
+        start: start,
+        bi: bi,
+        bc: bc,
+    }
+}
+
+// A controller that is started as one edition is run by another's table, where they differ.
+fn case(
+    started_as: u16,
+    expected: u16,
+    n: [u16; 16],
+    list: [Transaction; 3],
+    bytes: &[u8],
+    count: u32,
+) {
+    let x = list[0];
+    let mut t = [0u8; 32];
+    let table = &mut t[..];
+    table_written(n, table);
+    records_read(table, bytes);
+    transaction_written(x);
+    command_written(count, x);
+    lent_read(expected, table, bytes, list);
+    host_read(expected, table, bytes, list);
+    schedules(expected, table, list, count);
+    host_schedules(expected, table, list);
+    byte_schedules(expected, table, bytes);
+    bounded(expected, table, x);
+    starts(expected, table);
+    runs(started_as, expected, table, list, bytes, count);
+}

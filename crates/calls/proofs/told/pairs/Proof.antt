@@ -1,0 +1,14 @@
+use native.Mathlib.Omega.{arith}
+use Prim.Native.Nat.{_≤_, _-_}
+use lib.ListN.{length}
+use Rattle.calls.proofs.told.pairs.Statement.{statement}
+use Rattle.calls.proofs.told.pairs.Tie as tie
+
+abbrev Inv-loop : tie.InvT-loop
+Inv-loop room i₀ i = i ≤ length room
+
+abbrev μ-loop : tie.MeasureT-loop
+μ-loop room i₀ i = length room - i
+
+pub pairs-spec : {M : Type 1} → statement M
+pairs-spec = tie.close (tie.spec Inv-loop μ-loop (λ c. omega arith) (λ c. omega arith) (λ c κs. tt) (λ c. omega arith) (λ c. omega arith) (λ c. omega arith) (λ c. tt))
