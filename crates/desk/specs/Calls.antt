@@ -7,12 +7,13 @@ use lib.ListN.{length, take, replicate}
 use Rattle.records.specs.declared.transaction.Transaction.{Transaction}
 use Rattle.records.specs.declared.command.Kind.the-variants.{Act, Rd, Rda, Wr, Wra, Other}
 use Rattle.records.specs.declared.command.Command.{Command}
+use Rattle.records.specs.declared.command.CommandRead.the-variants.{Read as CommandIs}
 use Rattle.records.specs.declared.refusal.Refusal.{Refusal}
 use Rattle.records.specs.Told.{refusal, Wrote}
 use Rattle.records.specs.Little.{bytes16}
 use Rattle.records.specs.Table.{readTable, writeTable}
 use Rattle.records.specs.Transaction.{transactionsIn, readTransaction, writeTransaction}
-use Rattle.records.specs.Command.{command, bytesOf, bytesOfAll, readCommand, writeCommand}
+use Rattle.records.specs.Command.{command, bytesOfAll, readCommand, writeCommand}
 use Rattle.records.specs.House.{numbersA, numbersB, numbersC}
 use Rattle.rules.specs.Worked.{read, one, eleven, All}
 use Rattle.judge.specs.declared.answer.PatternJudged.{PatternJudged}
@@ -129,12 +130,12 @@ recordCalls =
     ∷ Writes (writeTransaction (read 16 1 1) (replicate 5 9)) (told 3 0 0) (replicate 5 9)
     -- a command: the kinds by their numbers, and any other byte
     ∷ (commandNumbers (readCommand (1 ∷ 2 ∷ 3 ∷ 4 ∷ 0 ∷ 6 ∷ 7 ∷ 8 ∷ [])) ≡ telling 0 (67305985 ∷ 0 ∷ 6 ∷ 2055 ∷ []))
-    ∷ (readCommand (bytesOf (command 0 Act 0 0)) ≡ readCommand (0 ∷ 0 ∷ 0 ∷ 0 ∷ 0 ∷ 0 ∷ 0 ∷ 0 ∷ []))
-    ∷ (readCommand (bytesOf (command 0 Rd 0 0)) ≡ readCommand (0 ∷ 0 ∷ 0 ∷ 0 ∷ 1 ∷ 0 ∷ 0 ∷ 0 ∷ []))
-    ∷ (readCommand (bytesOf (command 0 Rda 0 0)) ≡ readCommand (0 ∷ 0 ∷ 0 ∷ 0 ∷ 2 ∷ 0 ∷ 0 ∷ 0 ∷ []))
-    ∷ (readCommand (bytesOf (command 0 Wr 0 0)) ≡ readCommand (0 ∷ 0 ∷ 0 ∷ 0 ∷ 3 ∷ 0 ∷ 0 ∷ 0 ∷ []))
-    ∷ (readCommand (bytesOf (command 0 Wra 0 0)) ≡ readCommand (0 ∷ 0 ∷ 0 ∷ 0 ∷ 4 ∷ 0 ∷ 0 ∷ 0 ∷ []))
-    ∷ (readCommand (bytesOf (command 0 (Other 5) 0 0)) ≡ readCommand (0 ∷ 0 ∷ 0 ∷ 0 ∷ 5 ∷ 0 ∷ 0 ∷ 0 ∷ []))
+    ∷ (readCommand (0 ∷ 0 ∷ 0 ∷ 0 ∷ 0 ∷ 0 ∷ 0 ∷ 0 ∷ []) ≡ CommandIs (command 0 Act 0 0))
+    ∷ (readCommand (0 ∷ 0 ∷ 0 ∷ 0 ∷ 1 ∷ 0 ∷ 0 ∷ 0 ∷ []) ≡ CommandIs (command 0 Rd 0 0))
+    ∷ (readCommand (0 ∷ 0 ∷ 0 ∷ 0 ∷ 2 ∷ 0 ∷ 0 ∷ 0 ∷ []) ≡ CommandIs (command 0 Rda 0 0))
+    ∷ (readCommand (0 ∷ 0 ∷ 0 ∷ 0 ∷ 3 ∷ 0 ∷ 0 ∷ 0 ∷ []) ≡ CommandIs (command 0 Wr 0 0))
+    ∷ (readCommand (0 ∷ 0 ∷ 0 ∷ 0 ∷ 4 ∷ 0 ∷ 0 ∷ 0 ∷ []) ≡ CommandIs (command 0 Wra 0 0))
+    ∷ (readCommand (0 ∷ 0 ∷ 0 ∷ 0 ∷ 5 ∷ 0 ∷ 0 ∷ 0 ∷ []) ≡ CommandIs (command 0 (Other 5) 0 0))
     ∷ (commandNumbers (readCommand (replicate 9 0)) ≡ told 7 0 0)
     ∷ Writes (writeCommand (command 10 Rda 3 1) (replicate 9 9)) (telling 0 []) (10 ∷ 0 ∷ 0 ∷ 0 ∷ 2 ∷ 3 ∷ 1 ∷ 0 ∷ 9 ∷ [])
     ∷ Writes (writeCommand (command 10 Rda 3 1) (replicate 7 9)) (told 5 0 0) (replicate 7 9)

@@ -2,3 +2,4 @@
 pub mod Laws
 pub mod Lent
 pub mod Unique
+pub mod Cases

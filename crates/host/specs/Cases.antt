@@ -1,0 +1,70 @@
+-- Each case of each answer as the struct of plain numbers that crosses to the host, as a single list under a single claim.
+use Prim.Native.Nat.{ℕ}
+use mathlib.Core.Path.{_≡_}
+use mathlib.Core.List.{List, [], _∷_}
+use lib.ListN.{replicate}
+use Rattle.records.specs.declared.refusal.Refusal.{Refusal}
+use Rattle.records.specs.declared.refusal.Written.the-variants.{Done, Refused as NotWritten}
+use Rattle.records.specs.declared.table.TableRead.the-variants.{Read as TableIs, Refused as NoTable}
+use Rattle.records.specs.declared.transaction.TransactionRead.the-variants.{Read as TransactionIs, Refused as NoTransaction}
+use Rattle.records.specs.declared.command.Kind.the-variants.{Wra}
+use Rattle.records.specs.declared.command.CommandRead.the-variants.{Read as CommandIs, Refused as NoCommand}
+use Rattle.records.specs.Told.{refusal}
+use Rattle.records.specs.Transaction.{transaction}
+use Rattle.records.specs.Command.{command}
+use Rattle.records.specs.House.{numbersA, tableA}
+use Rattle.rules.specs.declared.verdict.Rule.the-variants.{Rc, Rrd}
+use Rattle.rules.specs.declared.verdict.Verdict.the-variants.{Accepted, Refused}
+use Rattle.rules.specs.declared.verdict.PatternVerdict.the-variants.{Accepted as AllAccepted, Refused as RefusedAt}
+use Rattle.judge.specs.declared.answer.Judged.the-variants.{Verdict as Says, Refused as NotJudged}
+use Rattle.judge.specs.declared.answer.PatternJudged.the-variants.{Verdict as PatternSays, Refused as PatternNotJudged}
+use Rattle.builder.specs.declared.bound.BoundAnswer.the-variants.{Bound, Refused as NoBound}
+use Rattle.builder.specs.declared.build.BuildAnswer.the-variants.{Built, Refused as NotBuilt}
+use Rattle.lists.specs.declared.decode.Decoded.the-variants.{Done as Stored, Refused as NotStored}
+use Rattle.controller.specs.declared.run.RunAnswer.the-variants.{Ran, Refused as NotRun}
+use Rattle.desk.specs.declared.running.StartAnswer.the-variants.{Started, Refused as NotStarted}
+use Rattle.host.specs.declared.answer.Answer.{Answer}
+use Rattle.host.specs.declared.verdict.VerdictAnswer.{VerdictAnswer}
+use Rattle.host.specs.Answers.{ofWritten, ofTable, ofTransaction, ofCommand, ofRead, ofBuild, ofBound, ofStart, ofRun}
+use Rattle.host.specs.Verdicts.{verdictOf, patternOf}
+
+-- number, position, edition, count, cycles
+abbrev pub plain : ℕ → ℕ → ℕ → ℕ → ℕ → Answer
+plain n p e c m = record { refused = n; position = p; edition = e; count = c; cycles = m }
+
+-- number, position, edition, rule, copy, record
+abbrev pub verdict : ℕ → ℕ → ℕ → ℕ → ℕ → ℕ → VerdictAnswer
+verdict n p e rule copy i = record { refused = n; position = p; edition = e; rule = rule; copy = copy; «record» = i }
+
+-- a refusal with three different numbers
+abbrev pub no3 : Refusal
+no3 = refusal 3 5 7
+
+abbrev pub cases : List (Type 0)
+cases =
+    (ofWritten (Done 7) ≡ plain 0 0 7 0 0)
+    ∷ (ofWritten (NotWritten no3) ≡ plain 3 5 7 0 0)
+    ∷ (ofTable (TableIs tableA) ≡ record { refused = 0; position = 0; edition = 7; numbers = numbersA })
+    ∷ (ofTable (NoTable no3) ≡ record { refused = 3; position = 5; edition = 7; numbers = replicate 16 0 })
+    ∷ (ofTransaction (TransactionIs (transaction 1 2 3 4)) ≡ record { refused = 0; position = 0; edition = 0; kind = 1; start = 2; bi = 3; bc = 4 })
+    ∷ (ofTransaction (NoTransaction no3) ≡ record { refused = 3; position = 5; edition = 7; kind = 0; start = 0; bi = 0; bc = 0 })
+    ∷ (ofCommand (CommandIs (command 10 Wra 2 3)) ≡ record { refused = 0; position = 0; edition = 0; cycle = 10; kind = 4; bank = 2; number = 3 })
+    ∷ (ofCommand (NoCommand no3) ≡ record { refused = 3; position = 5; edition = 7; cycle = 0; kind = 0; bank = 0; number = 0 })
+    ∷ (ofRead (Stored 7 2) ≡ plain 0 0 7 2 0)
+    ∷ (ofRead (NotStored no3) ≡ plain 3 5 7 0 0)
+    ∷ (ofBuild (Built 7 2) ≡ plain 0 0 7 2 0)
+    ∷ (ofBuild (NotBuilt no3) ≡ plain 3 5 7 0 0)
+    ∷ (ofBound (Bound 7 44) ≡ plain 0 0 7 44 0)
+    ∷ (ofBound (NoBound no3) ≡ plain 3 5 7 0 0)
+    ∷ (ofStart (Started 7) ≡ plain 0 0 7 0 0)
+    ∷ (ofStart (NotStarted no3) ≡ plain 3 5 7 0 0)
+    ∷ (ofRun (Ran (record { edition = 7; commands = 2; cycles = 11 })) ≡ plain 0 0 7 2 11)
+    ∷ (ofRun (NotRun no3) ≡ plain 3 5 7 0 0)
+    -- a verdict on a schedule names no copy
+    ∷ (verdictOf (Says 7 Accepted) ≡ verdict 0 0 7 0 0 0)
+    ∷ (verdictOf (Says 7 (Refused Rc 3)) ≡ verdict 0 0 7 5 0 3)
+    ∷ (verdictOf (NotJudged no3) ≡ verdict 3 5 7 0 0 0)
+    ∷ (patternOf (PatternSays 7 AllAccepted) ≡ verdict 0 0 7 0 0 0)
+    ∷ (patternOf (PatternSays 7 (RefusedAt Rrd 2 3)) ≡ verdict 0 0 7 6 2 3)
+    ∷ (patternOf (PatternNotJudged no3) ≡ verdict 3 5 7 0 0 0)
+    ∷ []
