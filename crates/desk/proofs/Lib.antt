@@ -2,6 +2,7 @@
 pub mod Laws
 pub mod Told
 pub mod Lent
+pub mod Gathering
 pub mod Unique
 pub mod Causes
 pub mod RecordCauses
