@@ -3,3 +3,4 @@ pub mod Long
 pub mod Turns
 pub mod Telling
 pub mod Unique
+pub mod Showing

@@ -2,3 +2,4 @@ pub mod Words
 pub mod Lines
 pub mod Listing
 pub mod Only
+pub mod Shows
