@@ -12,7 +12,7 @@ type Stored = (&'static str, Vec<u8>, String);
 pub fn all() -> Vec<Stored> {
     type Cases = fn() -> Vec<u8>;
     type Lines = fn(&[u8]) -> String;
-    let programs: [(&str, Cases, Lines); 4] = [
+    let programs: [(&str, Cases, Lines); 5] = [
         ("hostile", hostile::cases, hostile::lines),
         ("verdicts", verdicts::cases, verdicts::lines),
         ("runs", runs::cases, runs::lines),
