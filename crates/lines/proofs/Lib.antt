@@ -1,6 +1,3 @@
--- What is shown of the listing.
+-- What is shown of the listing's lines.
 pub mod Long
 pub mod Turns
-pub mod Telling
-pub mod Unique
-pub mod Showing

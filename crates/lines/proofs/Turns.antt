@@ -1,4 +1,4 @@
--- A turn of the loops over the commands and the finishes: one line more.
+-- A turn of the loops over the commands and the finishes, which is one line more; and the parts of a schedule's text.
 -- Assumes nothing.
 use Prim.Native.Nat.{ℕ, zero, suc, _+_, _*_, _≤_, _<_}
 use mathlib.Core.Path.{_≡_, refl, sym, ap, _∙_, subst}
@@ -11,7 +11,7 @@ use Rattle.records.specs.declared.command.Command.{Command}
 use Rattle.records.specs.Command.{commandAt, commandsFrom}
 use Rattle.text.specs.Puts.{Puts}
 use Rattle.text.proofs.Putting.{puts-then}
-use Rattle.lines.specs.Lines.{commandLine, finishLine, commandLines, finishLines}
+use Rattle.lines.specs.Lines.{firstLine, commandLine, finishLine, commandLines, finishLines, scheduleText}
 
 -- ---- commands
 
@@ -73,3 +73,16 @@ finish-turn s i at p q b t u h x y = subst (λ (text : List ℕ). Puts text at q
 pub finish-end : (s : List ℕ) (i n at r : ℕ) (b t : List ℕ) → i ≡ n → r ≤ at + 39 * i → Puts (finishLines 0 (take i s)) at r b t
     → Puts (finishLines 0 (take n s)) at r b t × (r ≤ at + 39 * n)
 finish-end s i n at r b t e h x = (subst (λ (k : ℕ). Puts (finishLines 0 (take k s)) at r b t) e x, omega arith)
+
+-- ---- all of them, behind the first line
+
+commands-count : (s : List ℕ) (n at : ℕ) → length (commandsFrom s n at) ≡ n
+unfolding commandsFrom
+commands-count s zero at = refl
+commands-count s (suc n) at = ap suc (commands-count s n (at + 8))
+
+pub schedule-put : (e n : ℕ) (s f : List ℕ) (p q r : ℕ) (b t u v : List ℕ) → Puts (firstLine e n) 0 p b t → Puts (commandLines (commandsFrom s n 0)) p q t u
+    → Puts (finishLines 0 f) q r u v → Puts (scheduleText e (commandsFrom s n 0) f) 0 r b v
+unfolding scheduleText
+schedule-put e n s f p q r b t u v x y z =
+    puts-then (puts-then (subst (λ (k : ℕ). Puts (firstLine e k) 0 p b t) (sym (commands-count s n 0)) x) y) z

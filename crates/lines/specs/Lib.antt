@@ -1,5 +1,2 @@
 pub mod Words
 pub mod Lines
-pub mod Listing
-pub mod Only
-pub mod Shows

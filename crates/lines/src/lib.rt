@@ -1,6 +1,4 @@
-// The listing as text: what the program of document 01 prints for any bytes that it reads.
+// The listing's lines as text in a lent buffer: one line each, the lines of all commands and finishes, the text of an answer.
+pub mod answer;
 pub mod line;
 pub mod many;
-pub mod whole;
-
-pub use whole::listing_of;

@@ -1,8 +1,8 @@
-// Lists the schedule of a table and its transactions, read from standard input: writes what `lines` says of the bytes that were read. More
+// Lists the schedule of a table and its transactions, read from standard input: writes what `listed` says of the bytes that were read. More
 // input than 65,536 bytes is not read: it is over 256 transactions, however it goes on.
 use libc::STDIN_FILENO;
 use libc::STDOUT_FILENO;
-use lines::listing_of;
+use listed::listing_of;
 
 fn main() {
     let mut input = io::large_buffer();

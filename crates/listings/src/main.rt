@@ -4,7 +4,7 @@
 // is left out.
 use libc::STDIN_FILENO;
 use libc::STDOUT_FILENO;
-use lines::listing_of;
+use listed::listing_of;
 use records::little::num_at;
 ghost use mathlib.Core.Path.{_≡_};
 

@@ -1,10 +1,10 @@
 use borrow.Author.Needs.{needs}
 use native.Mathlib.Omega.{arith}
 use denote.Ref.{now}
-use Rattle.lines.specs.Listing.{Lists}
-use Rattle.lines.proofs.Telling.{writes, too-short, long-enough}
-use Rattle.lines.proofs.whole.listing_of.Statement.{statement}
-use Rattle.lines.proofs.whole.listing_of.Tie as tie
+use Rattle.listed.specs.Listing.{Lists}
+use Rattle.listed.proofs.Telling.{writes, too-short, long-enough}
+use Rattle.listed.proofs.listing_of.Statement.{statement}
+use Rattle.listed.proofs.listing_of.Tie as tie
 
 pub listing-of-spec : {M : Type 1} → statement M
 listing-of-spec =

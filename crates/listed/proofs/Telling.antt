@@ -1,4 +1,4 @@
--- The whole text: its parts in order, its room, and that the call's answer is what is told.
+-- The call's answer is what is told, and its text has room.
 -- Assumes nothing.
 use Prim.Native.Nat.{ℕ, zero, suc, _+_, _-_, _*_, _/_, _≤_, _<_}
 use mathlib.Core.Bool.{Bool, true, false}
@@ -23,20 +23,8 @@ use Rattle.desk.specs.Admit.{admitted}
 use Rattle.desk.specs.Schedules.{Schedules}
 use Rattle.desk.proofs.Room.{built-room}
 use Rattle.text.specs.Puts.{Puts}
-use Rattle.text.proofs.Putting.{puts-then}
-use Rattle.lines.specs.Lines.{firstLine, commandLines, finishLines, scheduleText, refusedLine}
-use Rattle.lines.specs.Listing.{answerText, ListsCall, ListsBehind, Lists, Writes}
-
-commands-count : (s : List ℕ) (n at : ℕ) → length (commandsFrom s n at) ≡ n
-unfolding commandsFrom
-commands-count s zero at = refl
-commands-count s (suc n) at = ap suc (commands-count s n (at + 8))
-
-pub schedule-put : (e n : ℕ) (s f : List ℕ) (p q r : ℕ) (b t u v : List ℕ) → Puts (firstLine e n) 0 p b t → Puts (commandLines (commandsFrom s n 0)) p q t u
-    → Puts (finishLines 0 f) q r u v → Puts (scheduleText e (commandsFrom s n 0) f) 0 r b v
-unfolding scheduleText
-schedule-put e n s f p q r b t u v x y z =
-    puts-then (puts-then (subst (λ (k : ℕ). Puts (firstLine e k) 0 p b t) (sym (commands-count s n 0)) x) y) z
+use Rattle.lines.specs.Lines.{scheduleText, refusedLine}
+use Rattle.listed.specs.Listing.{answerText, ListsCall, ListsBehind, Lists, Writes}
 
 pub writes : (is : List ℕ → Type 0) (text : List ℕ) (r : ℕ) (s l : List ℕ) → is text → Puts text 0 r s l → Writes is r s l
 writes is text r s l h p = (text, h, p .place ∙ zero-add (length text), p .left ∙ ap (λ (n : ℕ). text ++ drop n s) (zero-add (length text)))

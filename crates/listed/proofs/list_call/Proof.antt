@@ -1,9 +1,9 @@
 use borrow.Author.Needs.{needs}
 use native.Mathlib.Omega.{arith}
 use lib.ListN.{length}
-use Rattle.lines.proofs.Telling.{writes, call-built, call-refused, call-room}
-use Rattle.lines.proofs.whole.list_call.Statement.{statement}
-use Rattle.lines.proofs.whole.list_call.Tie as tie
+use Rattle.listed.proofs.Telling.{writes, call-built, call-refused, call-room}
+use Rattle.listed.proofs.list_call.Statement.{statement}
+use Rattle.listed.proofs.list_call.Tie as tie
 
 pub list-call-spec : {M : Type 1} → statement M
 list-call-spec =

@@ -2,9 +2,9 @@ use borrow.Author.Needs.{needs}
 use native.Mathlib.Omega.{arith}
 use denote.Ref.{now}
 use lib.ListN.{length-take}
-use Rattle.lines.proofs.Telling.{behind-short, behind-long}
-use Rattle.lines.proofs.whole.list_behind.Statement.{statement}
-use Rattle.lines.proofs.whole.list_behind.Tie as tie
+use Rattle.listed.proofs.Telling.{behind-short, behind-long}
+use Rattle.listed.proofs.list_behind.Statement.{statement}
+use Rattle.listed.proofs.list_behind.Tie as tie
 
 pub list-behind-spec : {M : Type 1} → statement M
 list-behind-spec =

@@ -1,44 +1,14 @@
-// The whole listing. Its text always fits into 262,144 bytes: 8,192 commands of at most 25, 256 finishes of at most 39, and a first line.
-use crate::line::put_first_line;
-use crate::line::put_refused_line;
-use crate::many::put_command_lines;
-use crate::many::put_finish_lines;
+// What the listing program of document 01 prints for any bytes that it reads. The text always fits into 262,144 bytes: 8,192 commands of at
+// most 25, 256 finishes of at most 39, and a first line.
 use builder::build::BuildAnswer;
 use desk::schedule_bytes;
+use lines::answer::put_refusal;
+use lines::answer::put_schedule;
 use records::little::num_at;
-use records::refusal::Refusal;
 use records::refusal::refuse;
-ghost use mathlib.Core.Path.{_≡_};
-ghost use Prim.Native.Nat.{_+_, _*_, _≤_};
-ghost use lib.ListN.{length, take, drop};
-ghost use Rattle.records.specs.Command.{commandsFrom};
-ghost use Rattle.records.specs.Told.{over};
-ghost use Rattle.text.specs.Puts.{Puts};
-ghost use Rattle.lines.specs.Lines.{scheduleText, refusedLine};
-ghost use Rattle.lines.specs.Listing.{ListsCall, ListsBehind, Lists, Writes};
-
-pub fn put_schedule(
-    out: &mut [u8],
-    edition: u16,
-    commands: &[u8],
-    written: usize,
-    finishes: &[u32],
-    n: usize,
-) -> usize
-    requires { ⌜ (8 * written ≤ length (now commands)) × (n ≤ length (now finishes)) × (44 + 25 * written + 39 * n ≤ length (now out)) ⌝ }
-    ensures { λ r. ⌜ Puts (scheduleText edition (commandsFrom (now (commands .entry)) written 0) (take n (now (finishes .entry)))) 0 r (now (out .entry)) (now (out .exit)) ⌝ }
-{
-    let a = put_first_line(out, 0, edition, written);
-    let b = put_command_lines(out, a, commands, written);
-    put_finish_lines(out, b, finishes, n)
-}
-
-pub fn put_refusal(out: &mut [u8], x: Refusal) -> usize
-    requires { ⌜ 40 ≤ length (now out) ⌝ }
-    ensures { λ r. ⌜ Puts (refusedLine x) 0 r (now (out .entry)) (now (out .exit)) ⌝ }
-{
-    put_refused_line(out, 0, x)
-}
+ghost use Prim.Native.Nat.{_≤_};
+ghost use lib.ListN.{length};
+ghost use Rattle.listed.specs.Listing.{ListsCall, ListsBehind, Lists, Writes};
 
 // The desk's call, in 64 KiB of command room.
 fn list_call(expected: u16, table: &[u8], list: &[u8], out: &mut [u8]) -> usize

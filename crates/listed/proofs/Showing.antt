@@ -33,9 +33,9 @@ use Rattle.lists.proofs.Checks.{into-256, into-list, fine-fits}
 use Rattle.desk.specs.Admit.{admitted}
 use Rattle.desk.specs.Schedules.{BuildsChecked, Schedules}
 use Rattle.desk.proofs.Laws.{read-accepted}
 use Rattle.lines.specs.Lines.{scheduleText, refusedLine}
-use Rattle.lines.specs.Listing.{answerText, ListsCall}
-use Rattle.lines.specs.Shows.{ShowsSchedule, Shows}
+use Rattle.listed.specs.Listing.{answerText, ListsCall}
+use Rattle.listed.specs.Shows.{ShowsSchedule, Shows}
 
 -- what stands in the two buffers is the schedule, and its finishing cycles
 module _ (τ : Table) (acc : Accepted τ) (l : List Transaction) (fit : listFits τ l ≡ true) (b₀ b f₀ f : List ℕ) (n : ℕ) (x : Stands τ l b₀ b f₀ f n) where

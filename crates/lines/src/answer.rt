@@ -1,0 +1,34 @@
+// The whole text of an answer: a schedule's, from the buffer's start, or a refusal's.
+use crate::line::put_first_line;
+use crate::line::put_refused_line;
+use crate::many::put_command_lines;
+use crate::many::put_finish_lines;
+use records::refusal::Refusal;
+ghost use Prim.Native.Nat.{_+_, _*_, _≤_};
+ghost use lib.ListN.{length, take};
+ghost use Rattle.records.specs.Command.{commandsFrom};
+ghost use Rattle.text.specs.Puts.{Puts};
+ghost use Rattle.lines.specs.Lines.{scheduleText, refusedLine};
+
+pub fn put_schedule(
+    out: &mut [u8],
+    edition: u16,
+    commands: &[u8],
+    written: usize,
+    finishes: &[u32],
+    n: usize,
+) -> usize
+    requires { ⌜ (8 * written ≤ length (now commands)) × (n ≤ length (now finishes)) × (44 + 25 * written + 39 * n ≤ length (now out)) ⌝ }
+    ensures { λ r. ⌜ Puts (scheduleText edition (commandsFrom (now (commands .entry)) written 0) (take n (now (finishes .entry)))) 0 r (now (out .entry)) (now (out .exit)) ⌝ }
+{
+    let a = put_first_line(out, 0, edition, written);
+    let b = put_command_lines(out, a, commands, written);
+    put_finish_lines(out, b, finishes, n)
+}
+
+pub fn put_refusal(out: &mut [u8], x: Refusal) -> usize
+    requires { ⌜ 40 ≤ length (now out) ⌝ }
+    ensures { λ r. ⌜ Puts (refusedLine x) 0 r (now (out .entry)) (now (out .exit)) ⌝ }
+{
+    put_refused_line(out, 0, x)
+}
