@@ -1,1 +1,2 @@
+-- The laws of lending a local.
 mod Lend

@@ -1,4 +1,4 @@
--- `calls::lent_host::host_read` meets its contract: a walk of its MIR, by hand. The places lie in a local, which is lent to `skv-read-transactions` and taken back with what was read.
+-- `calls::lent_host::host_read` meets its contract: a walk of its MIR, by hand. The places lie in a local, which is lent to `skv_read_transactions` and taken back with what was read.
 -- Assumes nothing.
 use mathlib.Core.Path.{refl, ap, subst}
 use Prim.Native.Nat.{ℕ, _<_, _^_}

@@ -1,4 +1,4 @@
--- `calls::lent_host::host_step` meets its contract: a walk of its MIR, by hand. The controller and the list lie in locals, which are lent to `skv-step` and taken back.
+-- `calls::lent_host::host_step` meets its contract: a walk of its MIR, by hand. The controller and the list lie in locals, which are lent to `skv_step` and taken back.
 -- Assumes nothing.
 use mathlib.Core.Path.{_≡_, refl, ap, subst}
 use Prim.Native.Nat.{ℕ, _<_, _^_}
