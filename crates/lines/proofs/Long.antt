@@ -1,8 +1,8 @@
 -- How long the lines are.
 -- Assumes nothing.
-use Prim.Native.Nat.{ℕ, suc, _+_, _*_, _^_, _≤_, _<_}
-use mathlib.Core.Path.{_≡_, refl, sym, ap, _∙_, subst}
-use mathlib.Core.List.{List, [], _∷_, _++_}
+use Prim.Native.Nat.{ℕ, _+_, _≤_, _<_}
+use mathlib.Core.Path.{_≡_, sym, subst}
+use mathlib.Core.List.{List, _++_}
 use native.Mathlib.Omega.{arith}
 use lib.ListN.{length, getD, length-append}
 use Rattle.text.specs.Decimal.{decimal}
@@ -15,7 +15,7 @@ use Rattle.records.specs.declared.refusal.Refusal.{Refusal}
 use Rattle.records.specs.Little.{num, num32}
 use Rattle.records.specs.Command.{kindOf, kindNumber, commandAt}
 use Rattle.records.proofs.Inverse.{Bytes, kind-number}
-use Rattle.lines.specs.Words.{editionWord, commandsWord, finishWord, refusedWord, atWord, space, newline, kindText}
+use Rattle.lines.specs.Words.{space, newline, kindText}
 use Rattle.lines.specs.Lines.{firstLine, commandLine, finishLine, refusedLine}
 
 pub first-long : (e n : ℕ) → length (firstLine e n) ≡ 8 + length (decimal e) + 10 + length (decimal n ++ newline)

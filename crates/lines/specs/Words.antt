@@ -1,6 +1,6 @@
 -- The listing's words, as bytes.
 use Prim.Native.Nat.{ℕ}
-use mathlib.Core.List.{List, [], _∷_, _++_}
+use mathlib.Core.List.{List, [], _∷_}
 use Rattle.text.specs.Decimal.{decimal}
 use Rattle.records.specs.declared.command.Kind.{Kind}
 use Rattle.records.specs.declared.command.Kind.the-variants.{Act, Rd, Rda, Wr, Wra, Other}

@@ -1,10 +1,10 @@
 -- A listing shows a refusal, or the schedule of the cycle rule with its finishing cycles.
 -- Assumes nothing.
 use Prim.Native.Nat.{ℕ, _/_}
-use mathlib.Core.Path.{_≡_, refl, sym, ap, _∙_, subst}
+use mathlib.Core.Path.{_≡_, refl, sym, ap, _∙_}
 use mathlib.Core.Bool.{true}
-use mathlib.Core.Logic.{_⊎_, inl, inr}
-use mathlib.Core.List.{List, [], _∷_, _++_}
+use mathlib.Core.Logic.{inl, inr}
+use mathlib.Core.List.{List, []}
 use native.Mathlib.Omega.{arith}
 use lib.ListN.{length, take, drop, replicate}
 use lib.Seq.{take-at}
@@ -12,12 +12,10 @@ use Rattle.records.specs.declared.table.Table.{Table}
 use Rattle.records.specs.declared.table.TableRead.{TableRead}
 use Rattle.records.specs.declared.table.TableRead.the-variants.{Read, Refused as NoTable}
 use Rattle.records.specs.declared.transaction.Transaction.{Transaction}
-use Rattle.records.specs.declared.refusal.Refusal.{Refusal}
 use Rattle.records.specs.declared.command.Command.{Command}
 use Rattle.records.specs.Table.{Accepted}
 use Rattle.records.specs.Transaction.{transactionsIn, listFits}
 use Rattle.records.specs.Command.{commandsFrom, bytesOfAll}
-use Rattle.rules.specs.Promise.{Kept}
 use Rattle.rules.proofs.Promises.{kept}
 use Rattle.heads.proofs.Laws.{length-from}
 use Rattle.engine.specs.Build.{finishesFrom}
@@ -33,7 +31,7 @@ use Rattle.lists.proofs.Checks.{into-256, into-list, fine-fits}
 use Rattle.desk.specs.Admit.{admitted}
 use Rattle.desk.specs.Schedules.{BuildsChecked, Schedules}
 use Rattle.desk.proofs.Laws.{read-accepted}
-use Rattle.lines.specs.Lines.{scheduleText, refusedLine}
+use Rattle.lines.specs.Lines.{scheduleText}
 use Rattle.listed.specs.Listing.{answerText, ListsCall}
 use Rattle.listed.specs.Shows.{ShowsSchedule, Shows}
 

@@ -12,7 +12,7 @@ use Rattle.records.specs.Little.{num}
 use Rattle.builder.specs.declared.build.BuildAnswer.{BuildAnswer}
 use Rattle.desk.proofs.Unique.{only as desk-only}
 use Rattle.lines.specs.Lines.{refusedLine}
-use Rattle.listed.specs.Listing.{answerText, ListsCall, ListsBehind, Lists, Writes}
+use Rattle.listed.specs.Listing.{answerText, ListsCall, ListsBehind, Lists}
 use Rattle.listed.specs.Only.{Only}
 
 call-only : (expected : ℕ) (table list x y : List ℕ) → ListsCall expected table list x → ListsCall expected table list y → x ≡ y

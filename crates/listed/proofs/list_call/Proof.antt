@@ -1,6 +1,4 @@
 use borrow.Author.Needs.{needs}
-use native.Mathlib.Omega.{arith}
-use lib.ListN.{length}
 use Rattle.listed.proofs.Telling.{writes, call-built, call-refused, call-room}
 use Rattle.listed.proofs.list_call.Statement.{statement}
 use Rattle.listed.proofs.list_call.Tie as tie

@@ -1,5 +1,4 @@
 use borrow.Author.Needs.{needs}
-use native.Mathlib.Omega.{arith}
 use denote.Ref.{now}
 use Rattle.listed.specs.Listing.{Lists}
 use Rattle.listed.proofs.Telling.{writes, too-short, long-enough}

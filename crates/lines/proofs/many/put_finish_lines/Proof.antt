@@ -1,7 +1,7 @@
 use native.Mathlib.Omega.{arith}
 use Prim.Native.Nat.{_+_, _*_, _-_, _≤_}
 use denote.Ref.{now}
-use lib.ListN.{length, getD, take}
+use lib.ListN.{getD, take}
 use Rattle.text.specs.Puts.{Puts}
 use Rattle.text.proofs.Putting.{puts-nothing}
 use Rattle.lines.specs.Lines.{finishLines}
