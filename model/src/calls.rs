@@ -3,7 +3,7 @@
 use std::fmt::{Display, Write};
 
 use crate::desk::*;
-use crate::house::{bytes_of, TABLE_A, TABLE_D};
+use crate::house::{bytes_of, TABLE_A, TABLE_T};
 
 struct Case {
     started_as: u16,
@@ -34,7 +34,7 @@ fn cases() -> Vec<Case> {
         ),
         case(
             (9, 9),
-            TABLE_D,
+            TABLE_T,
             [[0, 0, 1, 2], [1, 1, 1, 2], [0, 2, 1, 1]],
             &[0, 0, 1, 2, 1, 1, 1, 2, 0, 2, 1, 1],
             49,
@@ -55,13 +55,13 @@ fn cases() -> Vec<Case> {
         ),
         case(
             (9, 9),
-            TABLE_D,
+            TABLE_T,
             [[0, 0, 1, 1], [0, 6, 1, 1], [2, 0, 1, 1]],
             &[0, 0, 1, 1, 0, 0, 17, 1],
             5,
         ),
-        case((0, 7), TABLE_D, same, &[0, 0, 1, 1], 5),
-        case((7, 9), TABLE_D, same, &[0, 0, 1, 1, 0, 1, 1, 1], 5),
+        case((0, 7), TABLE_T, same, &[0, 0, 1, 1], 5),
+        case((7, 9), TABLE_T, same, &[0, 0, 1, 1, 0, 1, 1, 1], 5),
         case((7, 7), [0; 16], same, &[], 5),
     ]
 }

@@ -11,7 +11,7 @@ mod laws;
 #[cfg(test)]
 mod refusals;
 #[cfg(test)]
-mod table_d;
+mod table_t;
 #[cfg(test)]
 mod worked;
 #[cfg(test)]

@@ -13,7 +13,7 @@ pub const TABLE_A: Table = [7, 8, 4, 4, 10, 10, 28, 38, 6, 32, 10, 8, 6, 12, 6, 
 pub const TABLE_B: Table = [7, 8, 4, 4, 10, 10, 28, 38, 6, 155, 10, 8, 6, 12, 6, 0];
 pub const TABLE_C: Table = [7, 8, 4, 4, 10, 10, 28, 38, 6, 32, 10, 8, 2, 12, 6, 0];
 /// No two numbers alike, B below CCD, FAW no multiple of 4.
-pub const TABLE_D: Table = [9, 6, 4, 5, 11, 12, 26, 40, 7, 33, 13, 10, 8, 14, 3, 0];
+pub const TABLE_T: Table = [9, 6, 4, 5, 11, 12, 26, 40, 7, 33, 13, 10, 8, 14, 3, 0];
 
 /// Every number the least that is accepted, and every number the greatest.
 pub const LEAST: Table = [1, 16, 1, 2, 1, 1, 1, 1, 1, 1, 1, 1, 1, 1, 1, 0];

@@ -13,7 +13,7 @@ use one_record::records_read;
 use one_record::table_written;
 use one_record::transaction_written;
 use records::house::table_a;
-use records::house::table_d;
+use records::house::table_t;
 use records::transaction::Transaction;
 use whole::bounded;
 use whole::byte_schedules;
@@ -36,7 +36,7 @@ fn main() {
     case(
         9,
         9,
-        table_d(),
+        table_t(),
         [of(0, 0, 1, 2), of(1, 1, 1, 2), of(0, 2, 1, 1)],
         &[0, 0, 1, 2, 1, 1, 1, 2, 0, 2, 1, 1],
         49,
@@ -63,7 +63,7 @@ fn main() {
     case(
         9,
         9,
-        table_d(),
+        table_t(),
         [of(0, 0, 1, 1), of(0, 6, 1, 1), of(2, 0, 1, 1)],
         &[0, 0, 1, 1, 0, 0, 17, 1],
         5,
@@ -72,7 +72,7 @@ fn main() {
     case(
         0,
         7,
-        table_d(),
+        table_t(),
         [of(0, 0, 1, 1), of(0, 0, 1, 1), of(0, 0, 1, 1)],
         &[0, 0, 1, 1],
         5,
@@ -80,7 +80,7 @@ fn main() {
     case(
         7,
         9,
-        table_d(),
+        table_t(),
         [of(0, 0, 1, 1), of(0, 0, 1, 1), of(0, 0, 1, 1)],
         &[0, 0, 1, 1, 0, 1, 1, 1],
         5,

@@ -1,4 +1,4 @@
-// Examples 8 to 11, patterns and a schedule, and their like of table D.
+// Examples 8 to 11, patterns and a schedule, and their like of table T.
 use crate::told::built;
 use crate::told::judged;
 use crate::told::repeated;

@@ -1,5 +1,5 @@
-// Runs examples 7 to 12 of document 01, and worked figures of table D, through the public calls. What it must print is stored beside it,
-// from the figures of the paper; those of table D are the worked examples' (`rules`: `Worked`).
+// Runs examples 7 to 12 of document 01, and worked figures of table T, through the public calls. What it must print is stored beside it,
+// from the figures of the paper; those of table T are the worked examples' (`rules`: `Worked`).
 mod judged;
 mod told;
 
@@ -15,7 +15,7 @@ use judged::table_d_judged;
 use records::house::table_a;
 use records::house::table_b;
 use records::house::table_c;
-use records::house::table_d;
+use records::house::table_t;
 use told::bounded;
 use told::built;
 use told::read;
@@ -59,10 +59,10 @@ fn with_c() {
 }
 
 fn with_d() {
-    text(b"table D\n");
+    text(b"table T\n");
     let mut bytes = [0u8; 32];
     let table = &mut bytes[..];
-    written(write_table(table_d(), table));
+    written(write_table(table_t(), table));
     text(b"bounds (1,1), (2,1), (1,4), (5,1), (6,2)\n");
     bounded(bound(9, table, 1, 1));
     bounded(bound(9, table, 2, 1));

@@ -1,13 +1,13 @@
 // What the calls answer, a line each.
 use builder::bound::BoundAnswer;
 use builder::build::BuildAnswer;
+use desk::numbers::rule_number;
 use judge::answer::Judged;
 use judge::answer::PatternJudged;
 use libc::STDOUT_FILENO;
 use records::refusal::Refusal;
 use records::refusal::Written;
 use records::table::TableRead;
-use desk::numbers::rule_number;
 use rules::verdict::PatternVerdict;
 use rules::verdict::Rule;
 use rules::verdict::Verdict;

@@ -2,7 +2,7 @@
 -- Assumes nothing.
 use mathlib.Core.Path.{_≡_, refl}
 use Rattle.records.specs.Table.{Accepted}
-use Rattle.records.specs.House.{tableA, tableB, tableC, tableD}
+use Rattle.records.specs.House.{tableA, tableB, tableC, tableT}
 
-pub house-accepted : Accepted tableA × Accepted tableB × Accepted tableC × Accepted tableD
+pub house-accepted : Accepted tableA × Accepted tableB × Accepted tableC × Accepted tableT
 house-accepted = (refl, refl, refl, refl)

@@ -19,9 +19,9 @@ numbersB = house 155 6
 abbrev pub numbersC : List ℕ
 numbersC = house 32 2
 
--- Table D is the team's own: no two numbers alike, B below CCD, FAW no multiple of 4, so that no number of a table can stand in for another unseen.
-abbrev pub numbersD : List ℕ
-numbersD = 9 ∷ 6 ∷ 4 ∷ 5 ∷ 11 ∷ 12 ∷ 26 ∷ 40 ∷ 7 ∷ 33 ∷ 13 ∷ 10 ∷ 8 ∷ 14 ∷ 3 ∷ 0 ∷ []
+-- Table T is the team's own: no two numbers alike, B below CCD, FAW no multiple of 4, so that no number of a table can stand in for another unseen.
+abbrev pub numbersT : List ℕ
+numbersT = 9 ∷ 6 ∷ 4 ∷ 5 ∷ 11 ∷ 12 ∷ 26 ∷ 40 ∷ 7 ∷ 33 ∷ 13 ∷ 10 ∷ 8 ∷ 14 ∷ 3 ∷ 0 ∷ []
 
 abbrev pub tableA : Table
 tableA = tableOf numbersA
@@ -32,5 +32,5 @@ tableB = tableOf numbersB
 abbrev pub tableC : Table
 tableC = tableOf numbersC
 
-abbrev pub tableD : Table
-tableD = tableOf numbersD
+abbrev pub tableT : Table
+tableT = tableOf numbersT

@@ -1,10 +1,10 @@
 -- The worked examples follow from the written rules themselves.
 -- Assumes nothing.
 use mathlib.Core.Path.{_≡_, refl}
-use Rattle.records.specs.House.{tableA, tableB, tableD}
+use Rattle.records.specs.House.{tableA, tableB, tableT}
 use Rattle.rules.specs.Queues.{actQueue, dataQueue}
 use Rattle.rules.specs.Bound.{bound, boundS, boundD, boundX}
-use Rattle.rules.specs.Worked.{one, five, patternD, examples, All}
+use Rattle.rules.specs.Worked.{one, five, patternT, examples, All}
 use Rattle.rules.proofs.Pattern.{five-legal}
 
 infixr 4 _⨾_
@@ -73,6 +73,6 @@ worked =
     ⨾ refl
     ⨾ refl
     ⨾ refl
-    ⨾ five-legal tableD 54 patternD .0 refl
+    ⨾ five-legal tableT 54 patternT .0 refl
     ⨾ (λ n. refl)
     ⨾ tt

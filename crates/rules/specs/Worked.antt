@@ -1,4 +1,4 @@
--- Document 01, "Examples from the desk": those marked †, its figures for table A, and figures for table D, as a single list under a single claim.
+-- Document 01, "Examples from the desk": those marked †, its figures for table A, and figures for table T, as a single list under a single claim.
 use Prim.Native.Nat.{ℕ, zero, suc, _+_}
 use mathlib.Core.Path.{_≡_}
 use mathlib.Core.Bool.{true}
@@ -8,7 +8,7 @@ use Rattle.records.specs.declared.command.Kind.the-variants.{Act, Rd, Rda, Wr, 
 use Rattle.records.specs.declared.command.Command.{Command}
 use Rattle.records.specs.Command.{command}
 use Rattle.records.specs.Transaction.{transaction, fits}
-use Rattle.records.specs.House.{tableA, tableB, tableC, tableD}
+use Rattle.records.specs.House.{tableA, tableB, tableC, tableT}
 use Rattle.rules.specs.declared.state.Stamp.the-variants.{At}
 use Rattle.rules.specs.declared.verdict.Rule.the-variants.{Order, Precharge, Rc, Faw}
 use Rattle.rules.specs.declared.verdict.Verdict.the-variants.{Accepted, Refused}
@@ -59,38 +59,38 @@ eleven t = command 0 Act 0 0 ∷ command 10 Wr 0 0 ∷ command 28 Rda 0 0 ∷ co
 abbrev pub twelve : List Command
 twelve = command 0 Act 7 0 ∷ command 6 Act 0 0 ∷ command 10 Rda 7 0 ∷ command 16 Rda 0 0 ∷ []
 
--- Table D, whose numbers all differ. A schedule with each pair of data kinds: RD and RD, RD and WR, WR and WR, WR and RD
-abbrev pub pairsD : List Command
-pairsD =
+-- Table T, whose numbers all differ. A schedule with each pair of data kinds: RD and RD, RD and WR, WR and WR, WR and RD
+abbrev pub pairsT : List Command
+pairsT =
     command 0 Act 0 0 ∷ command 7 Act 1 1 ∷ command 11 Rd 0 0 ∷ command 14 Act 2 2 ∷ command 16 Rda 0 0 ∷ command 26 Wr 1 1
     ∷ command 31 Wra 1 1 ∷ command 48 Rda 2 2 ∷ []
 
 -- a write and a read of one bank
-abbrev pub againD : List Command
-againD = command 0 Act 0 0 ∷ command 11 Wra 0 0 ∷ command 51 Act 0 1 ∷ command 62 Rda 0 1 ∷ []
+abbrev pub againT : List Command
+againT = command 0 Act 0 0 ∷ command 11 Wra 0 0 ∷ command 51 Act 0 1 ∷ command 62 Rda 0 1 ∷ []
 
 -- five ACTs
-abbrev pub fiveD : List Command
-fiveD =
+abbrev pub fiveT : List Command
+fiveT =
     command 0 Act 0 0 ∷ command 7 Act 1 0 ∷ command 11 Rda 0 0 ∷ command 14 Act 2 0 ∷ command 18 Rda 1 0 ∷ command 21 Act 3 0
     ∷ command 25 Rda 2 0 ∷ command 32 Rda 3 0 ∷ command 33 Act 4 0 ∷ command 44 Rda 4 0 ∷ []
 
 -- bank 0 opened and closed, then once more from cycle t; its precharge starts by the ACT, by the RD, by the WR
-abbrev pub thenD : ℕ → List Command
-thenD t = command t Act 0 1 ∷ command (t + 11) Rda 0 1 ∷ []
+abbrev pub thenT : ℕ → List Command
+thenT t = command t Act 0 1 ∷ command (t + 11) Rda 0 1 ∷ []
 
-abbrev pub byActD : ℕ → List Command
-byActD t = command 0 Act 0 0 ∷ command 11 Rda 0 0 ∷ thenD t
+abbrev pub byActT : ℕ → List Command
+byActT t = command 0 Act 0 0 ∷ command 11 Rda 0 0 ∷ thenT t
 
-abbrev pub byRdD : ℕ → List Command
-byRdD t = command 0 Act 0 0 ∷ command 30 Rda 0 0 ∷ thenD t
+abbrev pub byRdT : ℕ → List Command
+byRdT t = command 0 Act 0 0 ∷ command 30 Rda 0 0 ∷ thenT t
 
-abbrev pub byWrD : ℕ → List Command
-byWrD t = command 0 Act 0 0 ∷ command 11 Wr 0 0 ∷ command 28 Rda 0 0 ∷ thenD t
+abbrev pub byWrT : ℕ → List Command
+byWrT t = command 0 Act 0 0 ∷ command 11 Wr 0 0 ∷ command 28 Rda 0 0 ∷ thenT t
 
 -- a read of bank 0 and a write of bank 1, as a pattern
-abbrev pub patternD : List Command
-patternD = command 0 Act 0 0 ∷ command 7 Act 1 1 ∷ command 11 Rda 0 0 ∷ command 21 Wra 1 1 ∷ []
+abbrev pub patternT : List Command
+patternT = command 0 Act 0 0 ∷ command 7 Act 1 1 ∷ command 11 Rda 0 0 ∷ command 21 Wra 1 1 ∷ []
 
 -- the examples, in the order of their numbers
 abbrev pub examples : List (Type 0)
@@ -136,37 +136,37 @@ examples =
     -- 12, as document 02 changes it: the banks go on with bank 0 after the last
     ∷ (fits tableA (read 7 2 1) ≡ true)
     ∷ Built tableA (read 7 2 1 ∷ []) twelve
-    -- table D: the distances, the write's tail, the bound
-    ∷ (square tableD ≡ (5 ∷ 10 ∷ []) ∷ (17 ∷ 5 ∷ []) ∷ [])
-    ∷ (writeTail tableD ≡ 28)
-    ∷ (boundS tableD ≡ 40)
-    ∷ (boundD tableD ≡ 9)
-    ∷ (boundX tableD ≡ 17)
-    ∷ (bound tableD 1 1 ≡ 51)
-    ∷ (bound tableD 2 1 ≡ 61)
-    ∷ (bound tableD 1 4 ≡ 66)
-    ∷ (bound tableD 5 1 ≡ 91)
-    ∷ (bound tableD 6 2 ≡ 106)
+    -- table T: the distances, the write's tail, the bound
+    ∷ (square tableT ≡ (5 ∷ 10 ∷ []) ∷ (17 ∷ 5 ∷ []) ∷ [])
+    ∷ (writeTail tableT ≡ 28)
+    ∷ (boundS tableT ≡ 40)
+    ∷ (boundD tableT ≡ 9)
+    ∷ (boundX tableT ≡ 17)
+    ∷ (bound tableT 1 1 ≡ 51)
+    ∷ (bound tableT 2 1 ≡ 61)
+    ∷ (bound tableT 1 4 ≡ 66)
+    ∷ (bound tableT 5 1 ≡ 91)
+    ∷ (bound tableT 6 2 ≡ 106)
     -- schedules, with where their transactions finish
-    ∷ Built tableD (read 0 1 2 ∷ write 1 1 2 ∷ read 2 1 1 ∷ []) pairsD
-    ∷ (finish tableD (read 0 1 2) 0 pairsD ≡ At 33)
-    ∷ (finish tableD (write 1 1 2) 1 pairsD ≡ At 31)
-    ∷ (finish tableD (read 2 1 1) 2 pairsD ≡ At 65)
-    ∷ Built tableD (write 0 1 1 ∷ read 0 1 1 ∷ []) againD
-    ∷ (lastData 1 againD ≡ At (11 + bound tableD 1 1))
-    ∷ Built tableD (read 0 5 1 ∷ []) fiveD
+    ∷ Built tableT (read 0 1 2 ∷ write 1 1 2 ∷ read 2 1 1 ∷ []) pairsT
+    ∷ (finish tableT (read 0 1 2) 0 pairsT ≡ At 33)
+    ∷ (finish tableT (write 1 1 2) 1 pairsT ≡ At 31)
+    ∷ (finish tableT (read 2 1 1) 2 pairsT ≡ At 65)
+    ∷ Built tableT (write 0 1 1 ∷ read 0 1 1 ∷ []) againT
+    ∷ (lastData 1 againT ≡ At (11 + bound tableT 1 1))
+    ∷ Built tableT (read 0 5 1 ∷ []) fiveT
     -- the three causes of a precharge, and RC
-    ∷ (judge tableD (byActD 37) ≡ Refused Precharge 2)
-    ∷ (judge tableD (byActD 38) ≡ Refused Rc 2)
-    ∷ (judge tableD (byActD 39) ≡ Refused Rc 2)
-    ∷ (judge tableD (byActD 40) ≡ Accepted)
-    ∷ (judge tableD (byRdD 49) ≡ Refused Precharge 2)
-    ∷ (judge tableD (byRdD 50) ≡ Accepted)
-    ∷ (judge tableD (byWrD 50) ≡ Refused Precharge 3)
-    ∷ (judge tableD (byWrD 51) ≡ Accepted)
+    ∷ (judge tableT (byActT 37) ≡ Refused Precharge 2)
+    ∷ (judge tableT (byActT 38) ≡ Refused Rc 2)
+    ∷ (judge tableT (byActT 39) ≡ Refused Rc 2)
+    ∷ (judge tableT (byActT 40) ≡ Accepted)
+    ∷ (judge tableT (byRdT 49) ≡ Refused Precharge 2)
+    ∷ (judge tableT (byRdT 50) ≡ Accepted)
+    ∷ (judge tableT (byWrT 50) ≡ Refused Precharge 3)
+    ∷ (judge tableT (byWrT 51) ≡ Accepted)
     -- a pattern: its least length, and one less
-    ∷ EveryNumberLegal tableD 54 patternD
-    ∷ ((n : ℕ) → copies tableD 53 patternD (suc (suc n)) ≡ RefusedAt Precharge 2 1)
+    ∷ EveryNumberLegal tableT 54 patternT
+    ∷ ((n : ℕ) → copies tableT 53 patternT (suc (suc n)) ≡ RefusedAt Precharge 2 1)
     ∷ []
 
 -- every statement of a list holds

@@ -5,6 +5,7 @@
 // `case` for any other call, and for a case that the input cuts short, which is the last.
 use desk::judge;
 use desk::judge_pattern;
+use desk::numbers::rule_number;
 use judge::answer::Judged;
 use judge::answer::PatternJudged;
 use libc::STDIN_FILENO;
@@ -12,7 +13,6 @@ use libc::STDOUT_FILENO;
 use records::little::from_le32;
 use records::little::num_at;
 use records::refusal::Refusal;
-use desk::numbers::rule_number;
 use rules::verdict::PatternVerdict;
 use rules::verdict::Rule;
 use rules::verdict::Verdict;

@@ -1,7 +1,7 @@
-//! The worked figures of table D, whose numbers all differ, each through the public calls where there is one.
+//! The worked figures of table T, whose numbers all differ, each through the public calls where there is one.
 
 use crate::desk::*;
-use crate::house::{built, bytes_of, command, TABLE_D};
+use crate::house::{built, bytes_of, command, TABLE_T};
 use crate::listing::commands;
 use crate::rules::{Times, ACT, RD, RDA, WR, WRA};
 
@@ -14,33 +14,33 @@ fn bytes(rows: &[Row]) -> Vec<u8> {
 }
 
 fn scheduled(list: &[[u8; 4]]) -> (Vec<Row>, Vec<u32>) {
-    let (room, finishes) = built(&TABLE_D, list);
+    let (room, finishes) = built(&TABLE_T, list);
     let rows = commands(&room, u32::MAX);
     let rows = rows.iter().map(|c| (c.cycle, c.kind, c.bank));
     (rows.collect(), finishes)
 }
 
 fn judged(rows: &[Row]) -> Verdict {
-    judge(9, &bytes_of(&TABLE_D), &bytes(rows))
+    judge(9, &bytes_of(&TABLE_T), &bytes(rows))
         .expect("whole records")
         .1
 }
 
 fn repeated(rows: &[Row], length: u32) -> PatternVerdict {
-    let answer = judge_pattern(9, &bytes_of(&TABLE_D), &bytes(rows), length);
+    let answer = judge_pattern(9, &bytes_of(&TABLE_T), &bytes(rows), length);
     answer.expect("whole records").1
 }
 
 #[test]
 fn no_two_numbers_alike() {
-    let mut numbers = TABLE_D;
+    let mut numbers = TABLE_T;
     numbers.sort();
     assert!(numbers.windows(2).all(|w| w[0] < w[1]));
 }
 
 #[test]
 fn distances() {
-    let t = Times::of(&TABLE_D);
+    let t = Times::of(&TABLE_T);
     let square = [true, false].map(|e| [true, false].map(|l| t.distance(e, l)));
     assert_eq!(square, [[5, 10], [17, 5]]);
 }
@@ -49,7 +49,7 @@ fn distances() {
 fn bounds() {
     let figures = [(1, 1, 51), (2, 1, 61), (1, 4, 66), (5, 1, 91), (6, 2, 106)];
     for (bi, bc, cycles) in figures {
-        assert_eq!(bound(9, &bytes_of(&TABLE_D), bi, bc), Ok((9, cycles)));
+        assert_eq!(bound(9, &bytes_of(&TABLE_T), bi, bc), Ok((9, cycles)));
     }
 }
 
