@@ -7,7 +7,7 @@ ghost use mathlib.Core.Path.{_≡_};
 ghost use Rattle.desk.specs.Admit.{expects, admitted, ways, wayIn};
 
 // The table, if its edition is the expected one.
-pub fn expect(expected: u16, t: Table) -> TableRead
+fn expect(expected: u16, t: Table) -> TableRead
     ensures { λ r. ⌜ r ≡ expects expected t ⌝ }
 {
     if t.edition == expected {
@@ -17,7 +17,7 @@ pub fn expect(expected: u16, t: Table) -> TableRead
 }
 
 // The one way in for a table.
-pub fn admit(expected: u16, table: &[u8]) -> TableRead
+pub(crate) fn admit(expected: u16, table: &[u8]) -> TableRead
     ensures { λ r. ⌜ r ≡ admitted expected (now (table .entry)) ⌝ }
 {
     match read_table(table) {
@@ -27,7 +27,7 @@ pub fn admit(expected: u16, table: &[u8]) -> TableRead
 }
 
 // How many records of a lent run are gathered, and the table; or none, and the refusal.
-pub struct WayIn {
+pub(crate) struct WayIn {
     pub n: usize,
     pub table: TableRead,
 }
@@ -45,7 +45,7 @@ fn within(t: Table, n: usize) -> WayIn
 }
 
 // The one way in for a table and a lent run of n records.
-pub fn admit_lent(expected: u16, table: &[u8], n: usize) -> WayIn
+pub(crate) fn admit_lent(expected: u16, table: &[u8], n: usize) -> WayIn
     ensures { λ r. ⌜ r ≡ wayIn n (admitted expected (now (table .entry))) ⌝ }
 {
     match admit(expected, table) {

@@ -7,7 +7,7 @@ ghost use mathlib.Core.Path.{_≡_};
 ghost use Rattle.desk.specs.Admit.{admitted};
 ghost use Rattle.desk.specs.Bounds.{bounding};
 
-// Numbers 1, 2, 4; then the bound for (BI, BC) with the table's edition.
+// Numbers 1, 2, 10, 4; then the bound for (BI, BC) with the table's edition.
 pub fn bound(expected: u16, table: &[u8], bi: u8, bc: u8) -> BoundAnswer
     ensures { λ r. ⌜ r ≡ bounding (admitted expected (now (table .entry))) bi bc ⌝ }
 {

@@ -8,7 +8,7 @@ ghost use mathlib.Core.Path.{_≡_};
 ghost use Rattle.desk.specs.Admit.{admitted};
 ghost use Rattle.desk.specs.Judging.{judging, PatternTold};
 
-// Numbers 1, 2, 7; then the verdict with the table's edition.
+// Numbers 1, 2, 10, 7; then the verdict with the table's edition.
 pub fn judge(expected: u16, table: &[u8], schedule: &[u8]) -> Judged
     ensures { λ r. ⌜ r ≡ judging (admitted expected (now (table .entry))) (now (schedule .entry)) ⌝ }
 {
@@ -18,7 +18,7 @@ pub fn judge(expected: u16, table: &[u8], schedule: &[u8]) -> Judged
     }
 }
 
-// Numbers 1, 2, 7, 8; then a verdict on every number of copies, with the table's edition.
+// Numbers 1, 2, 10, 7, 8; then a verdict on every number of copies, with the table's edition.
 pub fn judge_pattern(expected: u16, table: &[u8], pattern: &[u8], length: u32) -> PatternJudged
     ensures { λ r. ⌜ PatternTold (admitted expected (now (table .entry))) (now (pattern .entry)) length r ⌝ }
 {

@@ -36,7 +36,7 @@ pub struct StartTold {
     pub answer: StartAnswer,
 }
 
-// Numbers 1 and 2; then a fresh controller.
+// Numbers 1, 2 and 10; then a fresh controller.
 pub fn start(expected: u16, table: &[u8]) -> StartTold
     ensures { λ r. ⌜ r ≡ starting (admitted expected (now (table .entry))) ⌝ }
 {
@@ -72,7 +72,7 @@ fn run_by(c: Controller, t: Table, list: &[u8], count: u32, room: &mut [u8]) -> 
     }
 }
 
-// Numbers 1 to 5 and 9; then the run of a controller handed in and back, over the list's bytes.
+// Numbers 1, 2, 10, 3 to 5 and 9; then the run of a controller handed in and back, over the list's bytes.
 pub fn run_bytes(
     c: Controller,
     expected: u16,

@@ -32,7 +32,7 @@ fn schedule_by(t: Table, list: &[u8], commands: &mut [u8], finishes: &mut [u32])
     }
 }
 
-// Numbers 1 to 6; then the schedule from the start of `commands`, the finishing cycles from the start of `finishes`.
+// Numbers 1, 2, 10, 3 to 6; then the schedule from the start of `commands`, the finishing cycles from the start of `finishes`.
 pub fn schedule_bytes(
     expected: u16,
     table: &[u8],
@@ -66,7 +66,7 @@ fn schedule_held(
     }
 }
 
-// Numbers 1 to 6; then the schedule of a lent run of records.
+// Numbers 1, 2, 10, 3 to 6; then the schedule of a lent run of records.
 pub fn schedule(
     expected: u16,
     table: &[u8],

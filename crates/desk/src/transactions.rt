@@ -24,7 +24,7 @@ pub fn plan_reading(expected: u16, table: &[u8], bytes: &[u8], places: usize) ->
     }
 }
 
-// Numbers 1 to 4; then the transactions from the run's start, all places beyond as they stood.
+// Numbers 1, 2, 10, 3 and 4; then the transactions from the run's start, all places beyond as they stood.
 pub fn read_transactions(
     expected: u16,
     table: &[u8],
