@@ -1,12 +1,12 @@
 -- What the calls below ask for, of a table that is admitted and a list that is checked; and each definition, by what the checks find.
 -- Assumes nothing.
-use Prim.Native.Nat.{ℕ, _*_, _/_, _%_, _≤_, _<_}
+use Prim.Native.Nat.{ℕ, _/_, _≤_, _<_}
 use mathlib.Core.Bool.{Bool, true, false, not, _&&_}
 use mathlib.Core.Path.{_≡_, refl, sym, ap, _∙_, subst}
 use mathlib.Core.List.{List, [], _∷_}
 use native.Mathlib.Omega.{arith}
 use lib.Dec.{eqb}
-use lib.ListN.{length, take, length-take}
+use lib.ListN.{length}
 use borrow.Author.Tests.{not-false, eqb-true, eq-eqb, ne-eqb, le-leb, lt-leb}
 use Rattle.records.specs.declared.table.Table.{Table}
 use Rattle.records.specs.declared.table.TableRead.{TableRead}
@@ -21,17 +21,12 @@ use Rattle.records.proofs.Laws.{and-right, passes, read-was}
 use Rattle.rules.proofs.Ranges.{ranges}
 use Rattle.heads.specs.Queue.{Listed}
 use Rattle.lists.specs.declared.check.Checked.{Checked}
-use Rattle.lists.specs.declared.check.Checked.the-variants.{Fine, Refused as NotFine}
-use Rattle.lists.specs.Check.{checkBytes, checkList}
-use Rattle.lists.proofs.Checks.{into-256, into-list, fine-fits, bytes-list, over-list}
+use Rattle.lists.specs.declared.check.Checked.the-variants.{Fine}
+use Rattle.lists.specs.Check.{checkBytes}
+use Rattle.lists.proofs.Checks.{into-256, into-list, fine-fits}
 use Rattle.builder.specs.declared.build.BuildAnswer.{BuildAnswer}
-use Rattle.builder.specs.declared.build.BuildAnswer.the-variants.{Refused as NotBuilt}
-use Rattle.builder.specs.Build.{LeavesBuild}
 use Rattle.controller.specs.declared.controller.Controller.{Controller}
-use Rattle.controller.specs.declared.run.RunTold.{RunTold}
-use Rattle.controller.specs.declared.run.RunAnswer.the-variants.{Refused as NotRun}
-use Rattle.controller.specs.Run.{RunLeft, runController, LeavesRun}
-use Rattle.desk.specs.Admit.{expects, expecting, admitted, noWay, ways}
+use Rattle.desk.specs.Admit.{expects, expecting, admitted, noWay, byLength}
 use Rattle.desk.specs.Schedules.{BuildsChecked, Schedules}
 use Rattle.desk.specs.Running.{runsChecked, running}
 
@@ -84,11 +79,11 @@ unfolding admitted
 admit-refused e s a x q k = ap (expecting e) (sym k ∙ q)
 
 -- a lent run by its length
-pub ways-few : (n : ℕ) (τ : Table) → n ≤ 256 → record { n = n; table = Read τ } ≡ ways n τ
-ways-few n τ h = rw (le-leb n 256 h)
+pub by-length-few : (n : ℕ) (τ : Table) → n ≤ 256 → record { n = n; table = Read τ } ≡ byLength n τ
+by-length-few n τ h = rw (le-leb n 256 h)
 
-pub ways-many : (n : ℕ) (τ : Table) (x : Refusal) → 256 < n → x ≡ refusal 3 0 (τ .edition) → noWay x ≡ ways n τ
-ways-many n τ x h e = rw (lt-leb n 256 h, e)
+pub by-length-many : (n : ℕ) (τ : Table) (x : Refusal) → 256 < n → x ≡ refusal 3 0 (τ .edition) → noWay x ≡ byLength n τ
+by-length-many n τ x h e = rw (lt-leb n 256 h, e)
 
 -- a is what `admit` answered
 pub told-accepted : (w : ℕ) (s : List ℕ) (a : TableRead) (τ : Table) → a ≡ admitted w s → a ≡ Read τ → Accepted τ

@@ -30,7 +30,7 @@ use Rattle.controller.specs.declared.run.RunTold.{RunTold}
 use Rattle.controller.specs.Controller.{tells}
 use Rattle.controller.specs.Run.{RunLeft, ranLeft, refusedLeft, leftBy, runController, LeavesRun}
 use Rattle.desk.specs.declared.admit.WayIn.{WayIn}
-use Rattle.desk.specs.Admit.{admitted, noWay, wayIn, Ways}
+use Rattle.desk.specs.Admit.{admitted, noWay, wayIn, LetIn}
 use Rattle.desk.specs.Schedules.{BuildsChecked, Schedules}
 use Rattle.desk.specs.Running.{runsChecked, running, Runs, hasRun}
 use Rattle.desk.specs.Transactions.{reading, readingPlan}
@@ -56,9 +56,9 @@ way-read n (Read t) τ h = on (leb n 256) h
     on false h = let z : _≡_ {A = ℕ} 0 1 = cc in absurd (omega arith)
 way-read n (Refused x) τ h = h
 
-pub ways-of : (expected : ℕ) (table : List ℕ) (n : ℕ) (w : WayIn) → w ≡ wayIn n (admitted expected table) → Ways w
-ways-of expected table n w e =
-    subst (λ (z : WayIn). Ways z) (sym e)
+pub let-in : (expected : ℕ) (table : List ℕ) (n : ℕ) (w : WayIn) → w ≡ wayIn n (admitted expected table) → LetIn w
+let-in expected table n w e =
+    subst (λ (z : WayIn). LetIn z) (sym e)
     (record { few = way-room n (admitted expected table) .1; accepted = λ τ h. read-accepted expected table τ (way-read n (admitted expected table) τ h) })
 
 -- ---- gathered, a list is scheduled and run as it would be itself

@@ -35,10 +35,9 @@ use Rattle.controller.specs.declared.run.RunTold.{RunTold}
 use Rattle.controller.specs.declared.run.RunAnswer.the-variants.{Refused as NotRun}
 use Rattle.controller.specs.Controller.{freshController}
 use Rattle.controller.specs.Run.{RunLeft, runController, LeavesRun}
-use Rattle.desk.specs.declared.running.StartTold.{StartTold}
 use Rattle.desk.specs.declared.running.StartAnswer.the-variants.{Started, Refused as NotStarted}
 use Rattle.desk.specs.declared.admit.WayIn.{WayIn}
-use Rattle.desk.specs.Admit.{admitted, noWay, ways, wayIn}
+use Rattle.desk.specs.Admit.{admitted, noWay, byLength, wayIn}
 use Rattle.desk.specs.Judging.{judging, PatternTold}
 use Rattle.desk.specs.Bounds.{bounding}
 use Rattle.desk.specs.Transactions.{readingPlan}
@@ -64,7 +63,7 @@ module _ (w : ℕ) (s : List ℕ) (a : TableRead) (e : a ≡ admitted w s) where
     unfolding readingPlan
     plan-read b places r h = by-admitted (λ (z : TableRead). r ≡ readingPlan z b places) w s a (Read τ) e t h
 
-    pub way-read : (n : ℕ) (r : WayIn) → r ≡ ways n τ → r ≡ wayIn n (admitted w s)
+    pub way-read : (n : ℕ) (r : WayIn) → r ≡ byLength n τ → r ≡ wayIn n (admitted w s)
     way-read n r h = by-admitted (λ (z : TableRead). r ≡ wayIn n z) w s a (Read τ) e t h
 
     pub start-read : (c : Controller) → c ≡ freshController τ → record { controller = c; answer = Started (τ .edition) } ≡ starting (admitted w s)

@@ -38,15 +38,15 @@ abbrev pub noWay : Refusal → WayIn
 noWay x = record { n = 0; table = Refused x }
 
 -- number 3, "over 256 records .. decoded", by the run's length alone
-abbrev pub ways : ℕ → Table → WayIn
-ways n τ = pick (leb n 256) (record { n = n; table = Read τ }) (noWay (refusal 3 0 (τ .edition)))
+abbrev pub byLength : ℕ → Table → WayIn
+byLength n τ = pick (leb n 256) (record { n = n; table = Read τ }) (noWay (refusal 3 0 (τ .edition)))
 
 -- numbers 1, 2 and 10, and then 3
 abbrev pub wayIn : ℕ → TableRead → WayIn
-wayIn n (Read τ) = ways n τ
+wayIn n (Read τ) = byLength n τ
 wayIn n (Refused x) = noWay x
 
 -- what the way in leaves: at most 256 to gather, and a table that is read is an accepted one
-pub record Ways (w : WayIn) : Type 0 where
+pub record LetIn (w : WayIn) : Type 0 where
   pub few : w .n ≤ 256
   pub accepted : (τ : Table) → w .table ≡ Read τ → Accepted τ

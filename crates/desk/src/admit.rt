@@ -4,7 +4,7 @@ use records::table::Table;
 use records::table::TableRead;
 use records::table::read_table;
 ghost use mathlib.Core.Path.{_≡_};
-ghost use Rattle.desk.specs.Admit.{expects, admitted, ways, wayIn};
+ghost use Rattle.desk.specs.Admit.{expects, admitted, byLength, wayIn};
 
 // The table, if its edition is the expected one.
 fn expect(expected: u16, t: Table) -> TableRead
@@ -34,7 +34,7 @@ pub(crate) struct WayIn {
 
 // No record of a run of more than 256 is looked at.
 fn within(t: Table, n: usize) -> WayIn
-    ensures { λ r. ⌜ r ≡ ways n t ⌝ }
+    ensures { λ r. ⌜ r ≡ byLength n t ⌝ }
 {
     if n <= 256 {
         let table = TableRead::Read(t);

@@ -21,7 +21,7 @@ ghost use Rattle.records.specs.Transaction.{transactionsIn};
 ghost use Rattle.lists.specs.Check.{checkList, checkBytes};
 ghost use Rattle.lists.specs.Packed.{held};
 ghost use Rattle.controller.specs.Run.{LeavesRun};
-ghost use Rattle.desk.specs.Admit.{admitted, Ways};
+ghost use Rattle.desk.specs.Admit.{admitted, LetIn};
 ghost use Rattle.desk.specs.Running.{starting, running, runsChecked, Runs, hasRun};
 
 // The table's edition, or the refusal.
@@ -94,7 +94,7 @@ pub fn run_bytes(
 
 // The same of a lent run of records, gathered.
 fn run_held(c: Controller, w: WayIn, bytes: [u8; 1024], count: u32, room: &mut [u8]) -> RunTold
-    requires { ⌜ Ways w ⌝ }
+    requires { ⌜ LetIn w ⌝ }
     ensures { λ r. ⌜ LeavesRun (running (λ τ. checkList τ (held (w .n) bytes)) (w .table) c (held (w .n) bytes) count (now (room .entry))) r (now (room .exit)) ⌝ }
 {
     let end = 4 * w.n;

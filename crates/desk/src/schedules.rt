@@ -10,12 +10,11 @@ use lists::packed::gather;
 use records::table::Table;
 use records::table::TableRead;
 use records::transaction::Transaction;
-ghost use mathlib.Core.Path.{_≡_};
 ghost use Rattle.records.specs.Table.{Accepted};
 ghost use Rattle.records.specs.Transaction.{transactionsIn};
 ghost use Rattle.lists.specs.Check.{checkList, checkBytes};
 ghost use Rattle.lists.specs.Packed.{held};
-ghost use Rattle.desk.specs.Admit.{admitted, Ways};
+ghost use Rattle.desk.specs.Admit.{admitted, LetIn};
 ghost use Rattle.desk.specs.Schedules.{Schedules, BuildsChecked};
 
 // Numbers 3 to 6, by an accepted table; then the schedule.
@@ -55,7 +54,7 @@ fn schedule_held(
     commands: &mut [u8],
     finishes: &mut [u32],
 ) -> BuildAnswer
-    requires { ⌜ Ways w ⌝ }
+    requires { ⌜ LetIn w ⌝ }
     ensures { λ r. ⌜ Schedules (λ τ. checkList τ (held (w .n) bytes)) (w .table) (held (w .n) bytes) (now (commands .entry)) (now (commands .exit)) (now (finishes .entry)) (now (finishes .exit)) r ⌝ }
 {
     let end = 4 * w.n;

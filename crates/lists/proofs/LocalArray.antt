@@ -14,7 +14,7 @@ use base.Logic.{SProp, ent, sep, emp, via, guardI}
 use base.Fml.{Fml, fsep, fat}
 use prog.Wp.{Heap, Env}
 use ghost.Atoms.{Atoms, sem}
-use types.Kit.{Given, Item, ‵, _$_, _∵_, !, qed, by, move, drop, use0, use1, rewrite, fsplit, fjoin, fpick, fpack, feqI, done}
+use types.Kit.{Given, Item, ‵, _$_, _∵_, !, qed, by, move, drop, use1, rewrite, fsplit, fjoin, fpick, fpack, feqI, done}
 use types.Run.{Opd}
 use types.SemTy.{cells}
 use types.Share.{arr-parts}

@@ -1,5 +1,5 @@
 -- "Decoded transactions are kept as a lent run of records": such a run, as the bytes of its records.
-use Prim.Native.Nat.{ℕ, _*_}
+use Prim.Native.Nat.{ℕ}
 use mathlib.Core.List.{List, [], _∷_, _++_}
 use lib.ListN.{take, replicate}
 use Rattle.records.specs.declared.transaction.Transaction.{Transaction}

@@ -1,7 +1,7 @@
 -- `desk::running::run` meets its contract: a walk of its MIR, by hand. `admit_lent` is told the list's length alone; `gather` makes bytes of as many records as it lets in; the controller is copied out of its borrow; `run_held` does the work and is given the room for good. Where `has_run` says that
 -- a run is told of, the controller that comes back is stored over the old one; where it does not, nothing is stored, and the old one is what the contract asks for.
 -- Assumes nothing.
-use mathlib.Core.Bool.{Bool, false}
+use mathlib.Core.Bool.{Bool}
 use mathlib.Core.Path.{_≡_, refl, sym, _∙_, ap}
 use Prim.Native.Nat.{ℕ, _<_, _^_}
 use mathlib.Core.List.{[], _∷_, List}
@@ -53,10 +53,10 @@ use Rattle.controller.specs.declared.controller.Controller.{Controller}
 use Rattle.controller.specs.declared.run.RunTold.{RunTold}
 use Rattle.controller.specs.Run.{LeavesRun}
 use Rattle.desk.specs.declared.admit.WayIn.{WayIn}
-use Rattle.desk.specs.Admit.{admitted, Ways}
+use Rattle.desk.specs.Admit.{admitted, LetIn}
 use Rattle.desk.specs.Running.{running, hasRun}
 use Rattle.desk.proofs.Gathering.{Way, Gather, val, Let, Packs, to-admit, goes-admit, said-admit, to-gather, goes-gather, said-gather}
-use Rattle.desk.proofs.Lent.{way-room, ways-of, runs-lent, not-run, untold}
+use Rattle.desk.proofs.Lent.{way-room, let-in, runs-lent, not-run, untold}
 use Rattle.records.proofs.transaction.Transaction as T
 use Rattle.controller.proofs.controller.Controller as S
 use Rattle.controller.proofs.controller.Controller.Laws as S′
@@ -162,9 +162,9 @@ module _ {M : Type 1} (𝓤 : URA M) (H : Heap 𝓤) (A : Atoms 𝓤) (W : Given
   abbrev Passed : WayIn → List ℕ → Val → Item 𝓤
   Passed w d u = ((‵ (Y.the-row .own w (valV w ∷ [])) ⊛ ‵ (Array u8 1024 .own d (u ∷ []))) ⊛ Room′) ⊛ Tok κ₃ q₃
 
-  goes-h : (w : WayIn) (d : List ℕ) (u : Val) → Ways w → Is S.the-row c (mach c ∷ []) → n < 2 ^ 32 → ent 𝓤 (⋆ 𝓤 H A (Passed w d u ∷ [])) (Held 𝓤 H A at-mem run .pre (to-h w d u))
-  goes-h w d u ways was fits =
-      qed W (Passed w d u ∷ []) ∵ split ! $ split ! $ split ! $ says ! ways $ nothing ! $ move ! (3 ∷ 0 ∷ []) $ fjoin ! $ owned ! u32 (Is u32) (uint-makes 𝓤 H A W w32) n _ (refl, fits) $ fjoin ! $ move ! (2 ∷ 0 ∷ []) $ fjoin ! $ move ! (1 ∷ 0 ∷ []) $ fjoin ! $
+  goes-h : (w : WayIn) (d : List ℕ) (u : Val) → LetIn w → Is S.the-row c (mach c ∷ []) → n < 2 ^ 32 → ent 𝓤 (⋆ 𝓤 H A (Passed w d u ∷ [])) (Held 𝓤 H A at-mem run .pre (to-h w d u))
+  goes-h w d u lets was fits =
+      qed W (Passed w d u ∷ []) ∵ split ! $ split ! $ split ! $ says ! lets $ nothing ! $ move ! (3 ∷ 0 ∷ []) $ fjoin ! $ owned ! u32 (Is u32) (uint-makes 𝓤 H A W w32) n _ (refl, fits) $ fjoin ! $ move ! (2 ∷ 0 ∷ []) $ fjoin ! $ move ! (1 ∷ 0 ∷ []) $ fjoin ! $
       owned ! S.the-row (Is S.the-row) (LL.makes S.the-type S′.the-plain 𝓤 H A) c _ was $ fjoin ! $ nothing ! $ move ! (2 ∷ 0 ∷ []) $ join ! $ frame ! $ done !
 
   -- `has_run` is passed the answer
@@ -214,7 +214,7 @@ module _ {M : Type 1} (𝓤 : URA M) (H : Heap 𝓤) (A : Atoms 𝓤) (W : Given
         assigns ! (of-opd ! (load ! (from ! (hop ! (look ! 39 refl) (stop !))) (look-raw ! 0 refl))) (from ! (stop !)) (init ! 19 refl (LL.lawful S.the-type S′.the-laws 𝓤 H A W .typed c _ was .0)) $
         assigns ! (addr ! (from ! (fld ! refl (hop ! (look-in ! 29 (sub ! 0 refl (whole !))) (stop !))))) (from ! (stop !)) (init ! 17 refl (tt, tt)) $
         assigns ! (agg ! (and-then ! (load ! (from ! (stop !)) (look ! 17 refl)) (and-then ! (load ! (from ! (fld ! refl (stop !))) (look-in ! 29 (sub ! 1 refl (whole !)))) (no-more !)))) (from ! (stop !)) (init ! 15 refl (tt, (tt, (record { fits = gr .0 }, tt)))) $
-        move ! (8 ∷ 5 ∷ 11 ∷ 12 ∷ []) $ join ! $ join ! $ join ! $ use1 W (raw (Held 𝓤 H A at-mem run .pre (to-h w d u′))) (goes-h w d u′ (ways-of expected (now table) (length (now list)) w i) was fits) $
+        move ! (8 ∷ 5 ∷ 11 ∷ 12 ∷ []) $ join ! $ join ! $ join ! $ use1 W (raw (Held 𝓤 H A at-mem run .pre (to-h w d u′))) (goes-h w d u′ (let-in expected (now table) (length (now list)) w i) was fits) $
         -- [what is passed; the controller's cell; what it owns; the open borrow; obs; auth; the list's token; the list; the table's token; the table; _14; …; _0; …]
         calls-at ! fm (Held 𝓤 H A at-mem run) (known .2) (to-h w d u′) (and-then ! (load ! (from ! (stop !)) (look ! 16 refl)) (and-then ! (load ! (from ! (stop !)) (look ! 24 refl)) (and-then ! (load ! (from ! (stop !)) (look ! 22 refl)) (and-then ! (load ! (from ! (stop !)) (look ! 28 refl)) (and-then ! (load ! (from ! (stop !)) (look ! 12 refl)) (no-more !)))))) (λ v′.
         use1 W (later (some (λ (r : RunTold). ((Tok κ₃ q₃ ⊛ ‵ ftrue) ⊛ ‵ (R.the-row .own r (v′ ∷ []))) ⊛ raw (ensured 𝓤 H A h.ended (h.clauses 𝓤 H A at-mem run) (κ₃, tt) (to-h w d u′ .0 .3) tt r)))) (id⊢ 𝓤 _) $ await ! tt $ pick ! (λ r.

@@ -44,10 +44,10 @@ use Rattle.lists.specs.Check.{checkList}
 use Rattle.lists.specs.Packed.{held}
 use Rattle.builder.specs.declared.build.BuildAnswer.{BuildAnswer}
 use Rattle.desk.specs.declared.admit.WayIn.{WayIn}
-use Rattle.desk.specs.Admit.{admitted, Ways}
+use Rattle.desk.specs.Admit.{admitted, LetIn}
 use Rattle.desk.specs.Schedules.{Schedules}
 use Rattle.desk.proofs.Gathering.{Way, Gather, val, Let, Packs, to-admit, goes-admit, said-admit, to-gather, goes-gather, said-gather}
-use Rattle.desk.proofs.Lent.{way-room, ways-of, schedules-lent}
+use Rattle.desk.proofs.Lent.{way-room, let-in, schedules-lent}
 use Rattle.records.proofs.transaction.Transaction as T
 use Rattle.builder.proofs.build.BuildAnswer as R
 use Rattle.builder.proofs.build.BuildAnswer.Laws as R′
@@ -137,9 +137,9 @@ module _ {M : Type 1} (𝓤 : URA M) (H : Heap 𝓤) (A : Atoms 𝓤) (W : Given
   abbrev Passed : WayIn → List ℕ → Val → Item 𝓤
   Passed w d u = ((((‵ (Y.the-row .own w (valY w ∷ [])) ⊛ ‵ (Array u8 1024 .own d (u ∷ []))) ⊛ Commands) ⊛ Tok κ₂ q₂) ⊛ Finishes) ⊛ Tok κ₃ q₃
 
-  goes-h : (w : WayIn) (d : List ℕ) (u : Val) → Ways w → ent 𝓤 (⋆ 𝓤 H A (Passed w d u ∷ [])) (Held 𝓤 H A mem run .pre (to-h w d u))
-  goes-h w d u ways =
-      qed W (Passed w d u ∷ []) ∵ split ! $ split ! $ split ! $ split ! $ split ! $ says ! ways $ nothing ! $ move ! (5 ∷ 0 ∷ []) $ fjoin ! $ move ! (3 ∷ 0 ∷ []) $ fjoin ! $ move ! (2 ∷ 0 ∷ []) $ fjoin ! $ move ! (1 ∷ 0 ∷ []) $ fjoin ! $
+  goes-h : (w : WayIn) (d : List ℕ) (u : Val) → LetIn w → ent 𝓤 (⋆ 𝓤 H A (Passed w d u ∷ [])) (Held 𝓤 H A mem run .pre (to-h w d u))
+  goes-h w d u lets =
+      qed W (Passed w d u ∷ []) ∵ split ! $ split ! $ split ! $ split ! $ split ! $ says ! lets $ nothing ! $ move ! (5 ∷ 0 ∷ []) $ fjoin ! $ move ! (3 ∷ 0 ∷ []) $ fjoin ! $ move ! (2 ∷ 0 ∷ []) $ fjoin ! $ move ! (1 ∷ 0 ∷ []) $ fjoin ! $
       nothing ! $ move ! (3 ∷ 0 ∷ []) $ join ! $ move ! (2 ∷ 0 ∷ []) $ join ! $ frame ! $ done !
 
   module _ (C : Calls 𝓤 H) (Λ : Loops 𝓤 H) (fm : FmC 𝓤 H (W .laws) C) (known : Known 𝓤 H A mem run C) where
@@ -176,7 +176,7 @@ module _ {M : Type 1} (𝓤 : URA M) (H : Heap 𝓤) (A : Atoms 𝓤) (W : Given
         assigns ! (agg ! (and-then ! (load ! (from ! (stop !)) (look ! 16 refl)) (and-then ! (load ! (from ! (fld ! refl (stop !))) (look-in ! 26 (sub ! 1 refl (whole !)))) (no-more !)))) (from ! (stop !)) (init ! 14 refl (tt, (tt, (record { fits = gr .0 }, tt)))) $
         assigns ! (addr ! (from ! (fld ! refl (hop ! (look-in ! 24 (sub ! 0 refl (whole !))) (stop !))))) (from ! (stop !)) (init ! 12 refl (tt, tt)) $
         assigns ! (agg ! (and-then ! (load ! (from ! (stop !)) (look ! 12 refl)) (and-then ! (load ! (from ! (fld ! refl (stop !))) (look-in ! 24 (sub ! 1 refl (whole !)))) (no-more !)))) (from ! (stop !)) (init ! 10 refl (tt, (tt, (record { fits = gf .0 }, tt)))) $
-        move ! (3 ∷ 0 ∷ 6 ∷ 7 ∷ 8 ∷ 9 ∷ []) $ join ! $ join ! $ join ! $ join ! $ join ! $ use1 W (raw (Held 𝓤 H A mem run .pre (to-h w d u′))) (goes-h w d u′ (ways-of expected (now table) (length (now list)) w i)) $
+        move ! (3 ∷ 0 ∷ 6 ∷ 7 ∷ 8 ∷ 9 ∷ []) $ join ! $ join ! $ join ! $ join ! $ join ! $ use1 W (raw (Held 𝓤 H A mem run .pre (to-h w d u′))) (goes-h w d u′ (let-in expected (now table) (length (now list)) w i)) $
         -- [what is passed; the list's token; the list; the table's token; the table; _12; …; _0; …]
         calls-at ! fm (Held 𝓤 H A mem run) (known .2) (to-h w d u′) (and-then ! (load ! (from ! (stop !)) (look ! 17 refl)) (and-then ! (load ! (from ! (stop !)) (look ! 15 refl)) (and-then ! (load ! (from ! (stop !)) (look ! 9 refl)) (and-then ! (load ! (from ! (stop !)) (look ! 5 refl)) (no-more !))))) (λ v.
         use1 W (later (some (λ (r : BuildAnswer). ((Tok κ₂ q₂ ⊛ Tok κ₃ q₃ ⊛ ‵ ftrue) ⊛ ‵ (R.the-row .own r (v ∷ []))) ⊛ raw (ensured 𝓤 H A h.ended (h.clauses 𝓤 H A mem run) (κ₂, (κ₃, tt)) (to-h w d u′ .0 .3) tt r)))) (id⊢ 𝓤 _) $ await ! tt $ pick ! (λ r.
