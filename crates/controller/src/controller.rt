@@ -3,11 +3,14 @@ use records::table::Table;
 use rules::state::Bank;
 use rules::state::Stamp;
 use rules::state::State;
-use rules::state::fresh_of;
+use timing::kept::Kept;
+use timing::kept::KeptBank;
+use timing::kept::kept_fresh;
 ghost use mathlib.Core.Path.{_≡_};
 ghost use mathlib.Core.List.{map};
 ghost use Prim.Native.Nat.{min};
-ghost use Rattle.controller.specs.Controller.{stampOf, numberOf, bankTells, bankKept, tells, kept, freshController};
+ghost use Rattle.timing.specs.Kept.{stampOf as stampKept, told};
+ghost use Rattle.controller.specs.Controller.{hostBank, stampOf, numberOf, bankTells, bankKept, tells, kept, freshController};
 
 // The number that stands for "never".
 pub const NEVER: u32 = 4294967295;
@@ -51,13 +54,13 @@ pub fn cut(c: u64) -> u32
     if c < 4294967295 { c as u32 } else { NEVER }
 }
 
-pub fn number_of(s: Stamp) -> u32
-    ensures { λ r. ⌜ r ≡ numberOf s ⌝ }
+pub fn number_of(s: u64) -> u32
+    ensures { λ r. ⌜ r ≡ numberOf (stampKept s) ⌝ }
 {
-    match s {
-        Stamp::Never => NEVER,
-        Stamp::At(c) => cut(c),
+    if s == 0 {
+        return NEVER;
     }
+    cut(s - 1)
 }
 
 pub fn bank_told(k: HostBank) -> Bank
@@ -74,8 +77,8 @@ pub fn bank_told(k: HostBank) -> Bank
     }
 }
 
-pub fn bank_kept(k: Bank) -> HostBank
-    ensures { λ r. ⌜ r ≡ bankKept k ⌝ }
+pub fn bank_kept(k: KeptBank) -> HostBank
+    ensures { λ r. ⌜ r ≡ hostBank k ⌝ }
 {
     let act = k.act;
     let rd = k.rd;
@@ -106,8 +109,8 @@ pub fn banks_told(ks: [HostBank; 16]) -> [Bank; 16]
     told
 }
 
-pub fn banks_kept(ks: [Bank; 16]) -> [HostBank; 16]
-    ensures { λ r. ⌜ r ≡ map bankKept ks ⌝ }
+pub fn banks_kept(ks: [KeptBank; 16]) -> [HostBank; 16]
+    ensures { λ r. ⌜ r ≡ map hostBank ks ⌝ }
 {
     let shut = HostBank {
         opened: 0,
@@ -152,8 +155,8 @@ pub fn state_of(c: Controller) -> State
 }
 
 // The controller that tells a state.
-pub fn controller_of(s: State) -> Controller
-    ensures { λ r. ⌜ r ≡ kept s ⌝ }
+pub fn controller_of(s: Kept) -> Controller
+    ensures { λ r. ⌜ r ≡ kept (told s) ⌝ }
 {
     let told = s.banks;
     let banks = banks_kept(told);
@@ -186,5 +189,5 @@ pub fn controller_of(s: State) -> Controller
 pub fn start_of(t: Table) -> Controller
     ensures { λ r. ⌜ r ≡ freshController t ⌝ }
 {
-    controller_of(fresh_of(t))
+    controller_of(kept_fresh(t.edition))
 }

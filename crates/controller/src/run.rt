@@ -2,6 +2,7 @@
 use crate::controller::Controller;
 use crate::controller::controller_of;
 use crate::controller::state_of;
+use crate::keeping::kept_in;
 use engine::run::run;
 use records::refusal::Refusal;
 use records::refusal::refuse;
@@ -46,7 +47,7 @@ pub fn run_controller(c: Controller, t: Table, list: &[u8], count: u32, room: &m
             answer: RunAnswer::Refused(refusal),
         };
     }
-    let r = run(t, list, n, s, count, room);
+    let r = run(t, list, n, kept_in(c), count, room);
     let after = r.state;
     let controller = controller_of(after);
     let report = RunReport {

@@ -30,6 +30,8 @@ use Rattle.heads.specs.declared.queue.Queues.{Queues}
 use Rattle.heads.specs.Queue.{Listed, BothStand, actsLeft, datasLeft}
 use Rattle.heads.proofs.Laws.{first, acts-due, datas-due}
 use Rattle.heads.proofs.Standing.{recount}
+use Rattle.timing.specs.declared.kept.Kept.{Kept}
+use Rattle.timing.specs.Kept.{told}
 use Rattle.engine.specs.declared.run.Ran as Answer
 use Rattle.engine.specs.Run.{commandsLeft, Ready, Runs}
 use Rattle.engine.proofs.Laws.{Leaves, leaves}
@@ -169,18 +171,19 @@ module _ {τ : Table} {bs : List ℕ} {n : ℕ} {s₀ : State} {count : ℕ} {b�
         queues = g .queues;
       }
 
-  -- nothing is left to run
-  ended : run (count - i) τ (first bs n) s (g .history) ≡ record { state = s; history = g .history; cycles = 0 }
-      → Runs (run count τ (first bs n) s₀ []) b₀ b (record { state = s; cycles = i; commands = k })
-  ended e =
-      let z : i + 0 ≡ i = omega arith in
-      rw (g .whole ∙ ap (later i) e, z) (record { state = refl; cycles = refl; commands = g .size; buffer = g .buffer })
+  -- nothing is left to run; v tells the state
+  module _ (v : Kept) (tells : told v ≡ s) where
+    ended : run (count - i) τ (first bs n) s (g .history) ≡ record { state = s; history = g .history; cycles = 0 }
+        → Runs (run count τ (first bs n) s₀ []) b₀ b (record { state = v; cycles = i; commands = k })
+    ended e =
+        let z : i + 0 ≡ i = omega arith in
+        rw (g .whole ∙ ap (later i) e, z) (record { state = tells; cycles = refl; commands = g .size; buffer = g .buffer })
 
-  pub stops-here : stops τ (first bs n) s ≡ true → Runs (run count τ (first bs n) s₀ []) b₀ b (record { state = s; cycles = i; commands = k })
-  stops-here e = ended (stopped (count - i) τ (first bs n) s (g .history) e)
+    pub stops-here : stops τ (first bs n) s ≡ true → Runs (run count τ (first bs n) s₀ []) b₀ b (record { state = v; cycles = i; commands = k })
+    stops-here e = ended (stopped (count - i) τ (first bs n) s (g .history) e)
 
-  pub counted-out : count ≤ i → Runs (run count τ (first bs n) s₀ []) b₀ b (record { state = s; cycles = i; commands = k })
-  counted-out p = let z : count - i ≡ 0 = omega arith in ended (ap (λ (m : ℕ). run m τ (first bs n) s (g .history)) z)
+    pub counted-out : count ≤ i → Runs (run count τ (first bs n) s₀ []) b₀ b (record { state = v; cycles = i; commands = k })
+    counted-out p = let z : count - i ≡ 0 = omega arith in ended (ap (λ (m : ℕ). run m τ (first bs n) s (g .history)) z)
 
 -- where the command c goes
 pub record Moving (τ : Table) (bs : List ℕ) (n : ℕ) (s₀ : State) (count : ℕ) (b₀ b : List ℕ) (s : State) (q : Queues) (i k : ℕ) (c : Command) : Type 0 where
@@ -195,7 +198,7 @@ module _ {τ : Table} {bs : List ℕ} {n : ℕ} {s₀ : State} {count : ℕ} {b�
   abbrev g : Going τ bs n s₀ count b₀ b s q i k
   g = m .going
 
-  leaving : Leaves τ bs n s c
+  pub leaving : Leaves τ bs n s c
   leaving = leaves τ bs n s (m .ready .list) c (m .goes)
 
   rooms : (length (c ∷ g .history) ≤ count) × (8 * length (c ∷ g .history) ≤ length b₀)
@@ -229,8 +232,8 @@ module _ {τ : Table} {bs : List ℕ} {n : ℕ} {s₀ : State} {count : ℕ} {b�
   abbrev next : State
   next = note s (s .cycle) (c .kind) (c .bank)
 
-  told : after s (some c) ≡ next
-  told = ap (λ (t : ℕ). note s t (c .kind) (c .bank)) (leaving .cycle)
+  noted : after s (some c) ≡ next
+  noted = ap (λ (t : ℕ). note s t (c .kind) (c .bank)) (leaving .cycle)
 
   act-count : addIf (isAct (c .kind)) (actsLeft τ bs q) ≡ next .acts
   act-count = ap (addIf (isAct (c .kind))) (g .queues .ofActs .left)
@@ -243,10 +246,10 @@ module _ {τ : Table} {bs : List ℕ} {n : ℕ} {s₀ : State} {count : ℕ} {b�
   moves q' h =
       record {
         history = c ∷ g .history;
-        whole = subst (λ (u : State). run count τ (first bs n) s₀ [] ≡ later (i + 1) (run (count - (i + 1)) τ (first bs n) u (c ∷ g .history))) told
+        whole = subst (λ (u : State). run count τ (first bs n) s₀ [] ≡ later (i + 1) (run (count - (i + 1)) τ (first bs n) u (c ∷ g .history))) noted
             (on-whole g (m .more) (m .still) (some c) (m .goes));
         size = omega (arith, g .size);
         buffer = put-more (g .history) c b₀ b k (g .size) (g .buffer);
-        capped = subst (Capped (first bs n)) told (on-capped g (m .more) (m .still) (some c) (m .goes));
+        capped = subst (Capped (first bs n)) noted (on-capped g (m .more) (m .still) (some c) (m .goes));
         queues = rw (act-count, data-count) at h;
       }

@@ -194,3 +194,14 @@ module _ (τ : Table) (bs : List ℕ) (n : ℕ) (s : State) where
       → goOf g ≡ chosen τ (q .acts .head) (q .datas .head) (bankOf s (q .acts .head .bank)) (bankOf s (q .datas .head .bank)) (s .a1) (s .a4) (s .rd) (s .wr) (s .acts) (s .cycle)
       → g ≡ g' → goes τ (first bs n) s ≡ goOf g'
   went q h g g' e p = sym (goes-chosen q h) ∙ (sym e ∙ ap goOf p)
+
+-- tests that stop at the first that fails
+pub and-both : (x y z : Bool) → (x && y) ≡ true → z ≡ (x && (y && z))
+and-both true true z e = refl
+and-both true false z e = true-false false e refl
+and-both false y z e = true-false false e refl
+
+pub and-neither : (x y z : Bool) → (x && y) ≡ false → false ≡ (x && (y && z))
+and-neither true true z e = true-false true refl e
+and-neither true false z e = refl
+and-neither false y z e = refl

@@ -13,6 +13,7 @@ use Rattle.rules.specs.Pattern.{onto}
 use Rattle.rules.specs.Queues.{actQueue, dataQueue}
 use Rattle.rules.specs.Run.{Ran}
 use Rattle.heads.specs.Queue.{Listed}
+use Rattle.timing.specs.Kept.{told}
 use Rattle.engine.specs.declared.choose.Go.{Go}
 use Rattle.engine.specs.declared.choose.Go.the-variants.{Nothing, Goes}
 use Rattle.engine.specs.declared.run.Ran as Answer
@@ -40,7 +41,7 @@ pub record Ready (τ : Table) (bs : List ℕ) (n : ℕ) (s : State) (count room 
 
 -- r is the answer, and b what the buffer holds after it was b₀: the commands, oldest first, and all beyond as it stood
 pub record Runs (o : Ran) (b₀ b : List ℕ) (r : Answer.Ran) : Type 0 where
-  pub state : r .state ≡ o .state
+  pub state : told (r .state) ≡ o .state
   pub cycles : r .cycles ≡ o .cycles
   pub commands : r .commands ≡ length (o .history)
   pub buffer : b ≡ over (bytesOfAll (onto (o .history) [])) b₀

@@ -2,13 +2,13 @@ use borrow.Author.Needs.{needs}
 use Prim.Native.Nat.{_-_}
 use mathlib.Core.Path.{refl}
 use Rattle.refusals.proofs.Laws.{Filled, fill-start, fill-turn, fill-end}
-use Rattle.controller.specs.Controller.{bankKept}
-use Rattle.rules.specs.State.{shut}
+use Rattle.timing.specs.Kept.{shutKept}
+use Rattle.controller.specs.Controller.{hostBank}
 use Rattle.controller.proofs.controller.banks_kept.Statement.{statement}
 use Rattle.controller.proofs.controller.banks_kept.Tie as tie
 
 abbrev Inv-loop : tie.InvT-loop
-Inv-loop ks kept₀ i₀ kept i = Filled bankKept shut ks kept i
+Inv-loop ks kept₀ i₀ kept i = Filled hostBank shutKept ks kept i
 
 abbrev μ-loop : tie.MeasureT-loop
 μ-loop ks kept₀ i₀ kept i = 16 - i
