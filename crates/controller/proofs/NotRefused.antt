@@ -47,16 +47,11 @@ module _ (c : Controller) (τ : Table) (l : List Transaction) (count : ℕ) (b :
   unfolding runController
   leaves-refused q p h = rw (← z-told, ne-eqb z 0 h, p) (refl, refl)
 
-  -- the run goes from v, which tells the same
-  pub leaves-ran : (v : State) → v ≡ tells c → (d : Controller) (r : Answer) (b' : List ℕ) → d ≡ kept (told (r .state)) → Runs (run count τ l v []) b b' r → z ≡ 0
+  pub leaves-ran : (d : Controller) (r : Answer) (b' : List ℕ) → d ≡ kept (told (r .state)) → Runs (run count τ l s []) b b' r → z ≡ 0
       → LeavesRun (runController c τ l count b)
       (record { controller = d; answer = Ran (record { edition = τ .edition; commands = r .commands; cycles = r .cycles }) }) b'
   unfolding runController
-  leaves-ran v m d r b' p q h = rw (← z-told, eq-eqb z 0 h, p, q .state, q .commands, q .cycles, q .buffer, m) (refl, refl)
-
--- of two states that tell the same one is refused like the other
-pub same-refusal : (τ : Table) (l : List Transaction) (count room : ℕ) (s u v : State) (z : ℕ) → s ≡ u → v ≡ u → z ≡ runRefusal τ l s count room → z ≡ runRefusal τ l v count room
-same-refusal τ l count room s u v z p q e = e ∙ ap (λ (x : State). runRefusal τ l x count room) (p ∙ sym q)
+  leaves-ran d r b' p q h = rw (← z-told, eq-eqb z 0 h, p, q .state, q .commands, q .cycles, q .buffer, k) (refl, refl)
 
 -- what a run that is not refused asks for, and that its commands are counted in 32 bits
 module _ (τ : Table) (bs : List ℕ) (n : ℕ) (s : State) (count room z : ℕ) (k : Listed τ bs n) (e : z ≡ runRefusal τ (transactionsFrom bs n 0) s count room) (h : z ≡ 0) where

@@ -1,40 +1,34 @@
--- The engine's numbers tell what the controller's tell.
+-- The numbers that a run keeps tell what the controller's tell.
 -- Assumes nothing.
-use Prim.Native.Nat.{ℕ, _+_}
+use Prim.Native.Nat.{ℕ, _+_, _<_}
 use native.Mathlib.Numerals.{add-one}
-use mathlib.Core.Path.{_≡_, refl, sym, ap, _∙_}
-use mathlib.Core.Bool.{Bool, true, false}
-use mathlib.Core.List.{List, [], _∷_, map}
-use lib.Dec.{eqb}
-use lib.ListN.{getD}
-use Rattle.records.specs.Tests.{pick}
-use Rattle.rules.specs.declared.state.Stamp.the-variants.{Never, At}
-use Rattle.rules.specs.declared.state.Bank.{Bank}
+use mathlib.Core.Path.{_≡_, refl, sym, _∙_}
+use mathlib.Core.Logic.{_≢_}
+use mathlib.Core.List.{List, map}
+use lib.ListN.{length, getD, set, length-map, List·getD-map}
+use borrow.Author.Tests.{eq-eqb, ne-eqb}
+use Rattle.refusals.proofs.Laws.{Filled, fill-turn}
 use Rattle.timing.specs.declared.kept.KeptBank.{KeptBank}
-use Rattle.timing.specs.Kept.{stampOf as stampKept, toldBank, told}
+use Rattle.timing.specs.Kept.{stampOf as keptStamp, toldBank, shutKept}
+use Rattle.timing.proofs.Telling.{map-set}
 use Rattle.controller.specs.declared.controller.HostBank.{HostBank}
-use Rattle.controller.specs.declared.controller.Controller.{Controller}
-use Rattle.controller.specs.Controller.{stampOf, bankTells, bankKept, tells, numberIn, bankIn, keptIn, hostBank}
+use Rattle.controller.specs.Controller.{stampOf, bankTells, bankKept}
 
-number-told : (x : ℕ) → stampKept (numberIn x) ≡ stampOf x
-number-told x = on (eqb x 4294967295)
-  where
-    on : (b : Bool) → stampKept (pick b 0 (x + 1)) ≡ pick b Never (At x)
-    on true = refl
-    on false = rw (add-one x)
+-- the number for "never", and every other
+pub never-in : (x : ℕ) → x ≡ 4294967295 → keptStamp 0 ≡ stampOf x
+never-in x e = rw (eq-eqb x 4294967295 e)
 
-bank-same : (k : HostBank) → toldBank (bankIn k) ≡ bankTells k
-bank-same k = rw (number-told (k .act), number-told (k .rd), number-told (k .wr))
+pub cycle-in : (x : ℕ) → x ≢ 4294967295 → keptStamp (x + 1) ≡ stampOf x
+cycle-in x e = rw (ne-eqb x 4294967295 e, add-one x)
 
-banks-same : (ks : List HostBank) → map toldBank (map bankIn ks) ≡ map bankTells ks
-banks-same [] = refl
-banks-same (k ∷ ks) = ap (λ (x : Bank). x ∷ map toldBank (map bankIn ks)) (bank-same k) ∙ ap (λ (l : List Bank). bankTells k ∷ l) (banks-same ks)
+abbrev pub zeros : HostBank
+zeros = record { opened = 0; act = 0; rd = 0; wr = 0 }
 
-pub told-in : (c : Controller) → told (keptIn c) ≡ tells c
-unfolding told tells
-told-in c =
-    rw (banks-same (c .banks), number-told (getD (c .last) 0 0), number-told (getD (c .last) 1 0), number-told (getD (c .last) 2 0), number-told (getD (c .last) 3 0), number-told (c .rd), number-told (c .wr))
+-- a bank more is kept, and a bank more is held
+pub in-turn : (ks : List HostBank) (kept : List KeptBank) (i : ℕ) (v : KeptBank) → Filled bankTells zeros ks (map toldBank kept) i → i < 16
+    → toldBank v ≡ bankTells (getD ks i zeros) → Filled bankTells zeros ks (map toldBank (set kept i v)) (i + 1)
+in-turn ks kept i v h p e = rw (map-set toldBank kept i v) (fill-turn bankTells zeros ks (map toldBank kept) i (toldBank v) h p e)
 
-pub host-banks : (ks : List KeptBank) → map hostBank ks ≡ map bankKept (map toldBank ks)
-host-banks [] = refl
-host-banks (k ∷ ks) = ap (λ (l : List HostBank). hostBank k ∷ l) (host-banks ks)
+pub held-turn : (ks : List KeptBank) (held : List HostBank) (k : ℕ) (v : HostBank) → Filled bankKept (toldBank shutKept) (map toldBank ks) held k → k < 16
+    → v ≡ bankKept (toldBank (getD ks k shutKept)) → Filled bankKept (toldBank shutKept) (map toldBank ks) (set held k v) (k + 1)
+held-turn ks held k v h p e = fill-turn bankKept (toldBank shutKept) (map toldBank ks) held k v h p (rw (List·getD-map toldBank ks k shutKept) e)

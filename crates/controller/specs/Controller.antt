@@ -1,5 +1,5 @@
 -- The host's controller: plain numbers, and the state that they tell.
-use Prim.Native.Nat.{ℕ, _+_, min, _≤_}
+use Prim.Native.Nat.{ℕ, min, _≤_}
 use mathlib.Core.Bool.{Bool, true}
 use mathlib.Core.Path.{_≡_}
 use mathlib.Core.List.{[], _∷_, map}
@@ -12,9 +12,6 @@ use Rattle.rules.specs.declared.state.Stamp.the-variants.{Never, At}
 use Rattle.rules.specs.declared.state.Bank.{Bank}
 use Rattle.rules.specs.declared.state.State.{State}
 use Rattle.rules.specs.State.{fresh}
-use Rattle.timing.specs.declared.kept.KeptBank.{KeptBank}
-use Rattle.timing.specs.declared.kept.Kept.{Kept}
-use Rattle.timing.specs.Kept.{toldBank}
 use Rattle.controller.specs.declared.controller.HostBank.{HostBank}
 use Rattle.controller.specs.declared.controller.Controller.{Controller}
 
@@ -82,29 +79,3 @@ pub record Ranged (c : Controller) : Type 0 where
   pub last : every in32 (c .last) ≡ true
   pub rd : c .rd ≤ 4294967295
   pub wr : c .wr ≤ 4294967295
-
--- the numbers as the engine keeps them, and back
-abbrev pub numberIn : ℕ → ℕ
-numberIn x = pick (eqb x 4294967295) 0 (x + 1)
-
-abbrev pub bankIn : HostBank → KeptBank
-bankIn k = record { opened = k .opened; act = numberIn (k .act); rd = numberIn (k .rd); wr = numberIn (k .wr) }
-
-abbrev pub keptIn : Controller → Kept
-keptIn c =
-    record {
-      edition = c .edition;
-      cycle = c .cycle;
-      acts = c .acts;
-      datas = c .datas;
-      banks = map bankIn (c .banks);
-      a1 = numberIn (getD (c .last) 0 0);
-      a2 = numberIn (getD (c .last) 1 0);
-      a3 = numberIn (getD (c .last) 2 0);
-      a4 = numberIn (getD (c .last) 3 0);
-      rd = numberIn (c .rd);
-      wr = numberIn (c .wr);
-    }
-
-abbrev pub hostBank : KeptBank → HostBank
-hostBank k = bankKept (toldBank k)

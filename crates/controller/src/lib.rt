@@ -1,4 +1,3 @@
 // The host's running controller: what it tells, and the run by value.
 pub mod controller;
-pub mod keeping;
 pub mod run;

@@ -2,6 +2,7 @@
 use crate::finish::finish_all;
 use crate::finish::mark;
 use crate::run::run;
+use heads::due::due;
 use records::table::Table;
 use timing::kept::kept_fresh;
 ghost use mathlib.Core.Path.{_≡_};
@@ -29,8 +30,9 @@ pub fn build(t: Table, list: &[u8], n: usize, buffer: &mut [u8], finishes: &mut 
     requires { ⌜ Listed t (now list) n × (8 * (length (actQueue t (transactionsFrom (now list) n 0)) + length (dataQueue t (transactionsFrom (now list) n 0))) ≤ length (now buffer)) × (n ≤ length (now finishes)) ⌝ }
     ensures { λ r. ⌜ Builds t (transactionsFrom (now (list .entry)) n 0) (now (buffer .entry)) (now (buffer .exit)) (now (finishes .entry)) (now (finishes .exit)) r ⌝ }
 {
+    let all = due(t, list, n);
     let start = kept_fresh(t.edition);
-    let r = run(t, list, n, start, enough(), buffer);
+    let r = run(t, list, n, all, start, enough(), buffer);
     mark(buffer, r.commands, finishes);
     finish_all(t, list, n, finishes);
     Schedule {

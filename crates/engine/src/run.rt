@@ -2,7 +2,7 @@
 use crate::choose::Go;
 use crate::choose::choose;
 use commands::command::put_command;
-use heads::due::due;
+use heads::due::Counts;
 use heads::queue::leave;
 use heads::queue::queues_after;
 use records::table::Table;
@@ -23,6 +23,7 @@ ghost use lib.Dec.{leb};
 ghost use lib.ListN.{length};
 ghost use Rattle.records.specs.Transaction.{transactionsFrom};
 ghost use Rattle.rules.specs.Run.{run as runOf};
+ghost use Rattle.heads.specs.Queue.{Counted};
 ghost use Rattle.timing.specs.Kept.{told};
 ghost use Rattle.engine.specs.Run.{Ready, Runs};
 
@@ -43,13 +44,21 @@ pub fn stops_at(acts: u32, datas: u32, due_acts: u32, due_datas: u32, c: u64) ->
     )
 }
 
-// At most `count` cycles. The commands go into the buffer from its start. The state is a local that is changed in place, cycle by cycle.
-pub fn run(t: Table, list: &[u8], n: usize, start: Kept, count: u32, buffer: &mut [u8]) -> Ran
-    requires { ⌜ Ready t (now list) n (told start) count (length (now buffer)) ⌝ }
+// At most `count` cycles; `all` is what the list puts into the two queues. The commands go into the buffer from its start. The state is a
+// local that is changed in place, cycle by cycle.
+pub fn run(
+    t: Table,
+    list: &[u8],
+    n: usize,
+    all: Counts,
+    start: Kept,
+    count: u32,
+    buffer: &mut [u8],
+) -> Ran
+    requires { ⌜ Ready t (now list) n (told start) count (length (now buffer)) × Counted t (now list) n all ⌝ }
     ensures { λ r. ⌜ Runs (runOf count t (transactionsFrom (now (list .entry)) n 0) (told start) []) (now (buffer .entry)) (now (buffer .exit)) r ⌝ }
 {
     let far = distances(t);
-    let all = due(t, list, n);
     let mut s = start;
     let mut q = queues_after(t, list, n, start.acts, start.datas);
     let mut i: u32 = 0;

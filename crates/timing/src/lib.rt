@@ -2,4 +2,3 @@
 pub mod kept;
 pub mod kinds;
 pub mod square;
-pub mod tests;

@@ -1,8 +1,11 @@
 use borrow.Author.Needs.{needs}
-use Rattle.controller.proofs.keeping.kept_in.Statement.{statement}
-use Rattle.controller.proofs.keeping.kept_in.Tie as tie
+use Rattle.timing.specs.Kept.{told}
+use Rattle.controller.specs.Controller.{tells}
+use Rattle.controller.proofs.controller.kept_in.Statement.{statement}
+use Rattle.controller.proofs.controller.kept_in.Tie as tie
 
 returns : tie.Need-returns
+unfolding told tells
 returns c = rw (c .number-in6 .ensures, c .before .number-in5 .ensures, c .before .before .number-in4 .ensures, c .before .before .before .before .number-in3 .ensures, c .before .before .before .before .before .before .number-in2 .ensures, c .before .before .before .before .before .before .before .before .number-in .ensures, c .before .before .before .before .before .before .before .before .before .before .banks-in .ensures)
 
 pub kept-in-spec : {M : Type 1} → statement M

@@ -1,6 +1,6 @@
 use borrow.Author.Needs.{needs}
-use Rattle.controller.proofs.keeping.bank_in.Statement.{statement}
-use Rattle.controller.proofs.keeping.bank_in.Tie as tie
+use Rattle.controller.proofs.controller.bank_in.Statement.{statement}
+use Rattle.controller.proofs.controller.bank_in.Tie as tie
 
 returns : tie.Need-returns
 returns c = rw (c .number-in3 .ensures, c .before .number-in2 .ensures, c .before .before .number-in .ensures)
