@@ -3,9 +3,9 @@
 use Prim.Native.Nat.{ℕ, _+_, _*_, _≤_, _<_}
 use mathlib.Core.Path.{_≡_, refl, sym, ap, _∙_, subst}
 use mathlib.Core.Bool.{Bool, true, false, not, _&&_, _||_}
-use mathlib.Core.Option.{none}
+use mathlib.Core.Option.{none, some}
 use mathlib.Core.List.{List}
-use lib.Dec.{leb}
+use lib.Dec.{leb, ltb}
 use lib.ListN.{length, getD, set}
 use Rattle.records.specs.Tests.{pick}
 use Rattle.records.specs.Told.{putAt}
@@ -21,6 +21,7 @@ use Rattle.rules.specs.Queues.{actQueue, dataQueue}
 use Rattle.rules.specs.CycleRule.{goes}
 use Rattle.rules.specs.Run.{stops}
 use Rattle.rules.proofs.TestLaws.{true-false}
+use Rattle.heads.specs.declared.head.Head.{Head}
 use Rattle.heads.specs.declared.queue.Queues.{Queues}
 use Rattle.heads.specs.Queue.{BothStand, actsLeft, datasLeft}
 use Rattle.heads.proofs.Laws.{first}
@@ -28,9 +29,8 @@ use Rattle.timing.specs.declared.kept.KeptBank.{KeptBank}
 use Rattle.timing.specs.declared.kept.Kept.{Kept}
 use Rattle.timing.specs.Kept.{isClosing, stampOf, toldBank, told, shutKept, keptAfter}
 use Rattle.timing.proofs.Telling.{told-at, actKept, told-act, dataKept, told-data}
-use Rattle.engine.specs.declared.choose.Go.{Go}
-use Rattle.engine.specs.Choose.{goOf, chosen}
-use Rattle.engine.proofs.Laws.{went}
+use Rattle.engine.specs.Choose.{commandOf, dataFree, actFree}
+use Rattle.engine.proofs.Laws.{goes-data, data-head-kind, goes-act, goes-none, act-head-kind}
 use Rattle.engine.proofs.Going.{Going, early, stops-is, idles, Moving, leaving, note-asked, moves}
 
 -- the tests of the loop are those of what the state tells
@@ -39,11 +39,47 @@ pub kept-stops : (τ : Table) (bs : List ℕ) (n : ℕ) (s : Kept) (a d : ℕ) (
 unfolding told
 kept-stops τ bs n s a d x y p q e f = stops-is τ bs n (told s) a d x y p q e f
 
-pub kept-went : (τ : Table) (bs : List ℕ) (n : ℕ) (s : Kept) (q : Queues) → BothStand τ bs n (told s .acts) (told s .datas) q → (g g' : Go)
-    → goOf g ≡ chosen τ (q .acts .head) (q .datas .head) (toldBank (getD (s .banks) (q .acts .head .bank) shutKept)) (toldBank (getD (s .banks) (q .datas .head .bank) shutKept)) (stampOf (s .a1)) (stampOf (s .a4)) (stampOf (s .rd)) (stampOf (s .wr)) (s .acts) (s .cycle)
-    → g ≡ g' → goes τ (first bs n) (told s) ≡ goOf g'
-unfolding told
-kept-went τ bs n s q h g g' e p = went τ bs n (told s) q h g g' (rw (told-at s (q .acts .head .bank), told-at s (q .datas .head .bank)) e) p
+data-no-act : (k : Kind) → isData k ≡ true → isAct k ≡ false
+data-no-act Act e = sym e
+data-no-act Rd e = refl
+data-no-act Rda e = refl
+data-no-act Wr e = refl
+data-no-act Wra e = refl
+data-no-act (Other n) e = refl
+
+-- what goes, and its kind
+module _ (τ : Table) (bs : List ℕ) (n : ℕ) (s : Kept) (q : Queues) (h : BothStand τ bs n (told s .acts) (told s .datas) q) where
+  abbrev a : Head
+  a = q .acts .head
+
+  abbrev d : Head
+  d = q .datas .head
+
+  abbrev data? : Bool
+  data? = d .there && (ltb (d .act) (s .acts) && dataFree τ (toldBank (getD (s .banks) (d .bank) shutKept)) (stampOf (s .rd)) (stampOf (s .wr)) (commandOf d (s .cycle)))
+
+  abbrev act? : Bool
+  act? = a .there && actFree τ (toldBank (getD (s .banks) (a .bank) shutKept)) (stampOf (s .a1)) (stampOf (s .a4)) (commandOf a (s .cycle))
+
+  module _ (x : Bool) (p : x ≡ data?) where
+    pub kept-data : x ≡ true → (goes τ (first bs n) (told s) ≡ some (commandOf d (s .cycle))) × (isAct (d .kind) ≡ false)
+    unfolding told
+    kept-data e = (
+      goes-data τ bs n (told s) q h x (rw (told-at s (d .bank)) p) e,
+      data-no-act (d .kind) (data-head-kind τ bs n (told s) q h x (rw (told-at s (d .bank)) p) e),
+    )
+
+    module _ (e : x ≡ false) (z : Bool) (r : z ≡ act?) where
+      pub kept-act : z ≡ true → (goes τ (first bs n) (told s) ≡ some (commandOf a (s .cycle))) × (isAct (a .kind) ≡ true)
+      unfolding told
+      kept-act v = (
+        goes-act τ bs n (told s) q h x (rw (told-at s (d .bank)) p) e z (rw (told-at s (a .bank)) r) v,
+        ap isAct (act-head-kind τ bs n (told s) q h x (rw (told-at s (d .bank)) p) e z (rw (told-at s (a .bank)) r) v),
+      )
+
+      pub kept-none : z ≡ false → goes τ (first bs n) (told s) ≡ none
+      unfolding told
+      kept-none v = goes-none τ bs n (told s) q h x (rw (told-at s (d .bank)) p) e z (rw (told-at s (a .bank)) r) v
 
 data-known : (k : Kind) → isData k ≡ not (isAct k) → isAct k ≡ false → isKnown k ≡ true
 data-known Act e a = refl

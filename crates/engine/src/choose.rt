@@ -13,12 +13,7 @@ ghost use Prim.Native.Nat.{_<_};
 ghost use lib.Dec.{ltb};
 ghost use Rattle.rules.specs.Square.{square};
 ghost use Rattle.timing.specs.Kept.{stampOf, toldBank};
-ghost use Rattle.engine.specs.Choose.{goOf, commandOf, dataFree, actFree, chosen};
-
-pub enum Go {
-    Nothing,
-    Goes(Command),
-}
+ghost use Rattle.engine.specs.Choose.{commandOf, dataFree, actFree};
 
 // The command of a head, at cycle c.
 pub fn command_of(h: Head, c: u64) -> Command
@@ -63,31 +58,4 @@ pub fn act_goes(t: Table, a: Head, k: KeptBank, a1: u64, a4: u64, c: u64) -> boo
         return kept_act_free(t, k, a1, a4, c);
     }
     false
-}
-
-// What goes of the heads a and d, to the banks ka and kd, at cycle c.
-pub fn choose(
-    t: Table,
-    far: [[u32; 2]; 2],
-    a: Head,
-    d: Head,
-    ka: KeptBank,
-    kd: KeptBank,
-    a1: u64,
-    a4: u64,
-    rd: u64,
-    wr: u64,
-    acts: u32,
-    c: u64,
-) -> Go
-    requires { ⌜ (far ≡ square t) × (c < 4294967296) ⌝ }
-    ensures { λ r. ⌜ goOf r ≡ chosen t a d (toldBank ka) (toldBank kd) (stampOf a1) (stampOf a4) (stampOf rd) (stampOf wr) acts c ⌝ }
-{
-    if data_goes(t, far, d, kd, rd, wr, acts, c) {
-        return Go::Goes(command_of(d, c));
-    }
-    if act_goes(t, a, ka, a1, a4, c) {
-        return Go::Goes(command_of(a, c));
-    }
-    Go::Nothing
 }

@@ -1,6 +1,7 @@
 // A run of a few cycles, which writes its commands.
-use crate::choose::Go;
-use crate::choose::choose;
+use crate::choose::act_goes;
+use crate::choose::command_of;
+use crate::choose::data_goes;
 use commands::command::put_command;
 use heads::due::Counts;
 use heads::queue::leave;
@@ -12,7 +13,6 @@ use timing::kept::Kept;
 use timing::kept::KeptBank;
 use timing::kept::either_64;
 use timing::kept::kept_after;
-use timing::kinds::is_act;
 use timing::kinds::is_closing;
 use timing::kinds::is_wr;
 use timing::square::distances;
@@ -76,58 +76,43 @@ pub fn run(
         let d = q.datas;
         let ah = a.head;
         let dh = d.head;
-        let ai = ah.bank as usize;
         let di = dh.bank as usize;
-        let ka = s.banks[ai];
         let kd = s.banks[di];
-        let g = choose(
-            t,
-            far,
-            ah,
-            dh,
-            ka,
-            kd,
-            s.a1,
-            s.a4,
-            s.rd,
-            s.wr,
-            s.acts,
-            cycle,
-        );
         i = i + 1;
         let later = cycle + 1;
-        match g {
-            Go::Nothing => {
-                s.cycle = later;
-            }
-            Go::Goes(c) => {
-                put_command(c, buffer, 8 * k);
+        if data_goes(t, far, dh, kd, s.rd, s.wr, s.acts, cycle) {
+            let kind = dh.kind;
+            let write = is_wr(kind);
+            put_command(command_of(dh, cycle), buffer, 8 * k);
+            k = k + 1;
+            q = leave(t, list, n, q, kind);
+            s.cycle = later;
+            s.datas = s.datas + 1;
+            s.banks[di] = kept_after(kd, write, is_closing(kind), later);
+            s.rd = either_64(write, s.rd, later);
+            s.wr = either_64(write, later, s.wr);
+        } else {
+            let ai = ah.bank as usize;
+            let ka = s.banks[ai];
+            if act_goes(t, ah, ka, s.a1, s.a4, cycle) {
+                put_command(command_of(ah, cycle), buffer, 8 * k);
                 k = k + 1;
-                let kind = c.kind;
+                let kind = ah.kind;
                 q = leave(t, list, n, q, kind);
-                let at = c.bank as usize;
-                if is_act(kind) {
-                    s.cycle = later;
-                    s.acts = s.acts + 1;
-                    s.banks[at] = KeptBank {
-                        opened: 1,
-                        act: later,
-                        rd: 0,
-                        wr: 0,
-                    };
-                    s.a4 = s.a3;
-                    s.a3 = s.a2;
-                    s.a2 = s.a1;
-                    s.a1 = later;
-                } else {
-                    let write = is_wr(kind);
-                    let bank = s.banks[at];
-                    s.cycle = later;
-                    s.datas = s.datas + 1;
-                    s.banks[at] = kept_after(bank, write, is_closing(kind), later);
-                    s.rd = either_64(write, s.rd, later);
-                    s.wr = either_64(write, later, s.wr);
-                }
+                s.cycle = later;
+                s.acts = s.acts + 1;
+                s.banks[ai] = KeptBank {
+                    opened: 1,
+                    act: later,
+                    rd: 0,
+                    wr: 0,
+                };
+                s.a4 = s.a3;
+                s.a3 = s.a2;
+                s.a2 = s.a1;
+                s.a1 = later;
+            } else {
+                s.cycle = later;
             }
         }
     }
