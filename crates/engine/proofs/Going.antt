@@ -26,8 +26,9 @@ use Rattle.rules.proofs.Queue.{act-length, data-length}
 use Rattle.rules.proofs.Caps.{Capped, caps-step}
 use Rattle.rules.proofs.RunTo.{stopped, going}
 use Rattle.rules.proofs.Count.{run-room}
+use Rattle.heads.specs.declared.queue.Queue.{Queue}
 use Rattle.heads.specs.declared.queue.Queues.{Queues}
-use Rattle.heads.specs.Queue.{Listed, BothStand, actsLeft, datasLeft}
+use Rattle.heads.specs.Queue.{Listed, Placed, Stands, BothStand, actsLeft, datasLeft}
 use Rattle.heads.proofs.Laws.{first, acts-due, datas-due}
 use Rattle.heads.proofs.Standing.{recount}
 use Rattle.timing.specs.declared.kept.Kept.{Kept}
@@ -219,15 +220,21 @@ module _ {τ : Table} {bs : List ℕ} {n : ℕ} {s₀ : State} {count : ℕ} {b�
     leaving .bank,
   )
 
-  pub leave-asked : Listed τ bs n × BothStand τ bs n (actsLeft τ bs q) (datasLeft τ bs q) q × (actsLeft τ bs q < 4294967295) × (datasLeft τ bs q < 4294967295)
-  leave-asked =
-      let a = g .queues .ofActs in
-      let d = g .queues .ofDatas in (
-        m .ready .list,
-        record { ofActs = recount (sym (a .left)) a; ofDatas = recount (sym (d .left)) d },
-        omega (arith, a .left, note-asked .1),
-        omega (arith, d .left, note-asked .2),
-      )
+  pub act-asked : Listed τ bs n × Placed τ bs n (q .acts .place) × (q .acts .place .offset < 4294967295)
+  act-asked = let a = g .queues .ofActs in (m .ready .list, a .placed, omega (arith, a .left, note-asked .1))
+
+  pub data-asked : Listed τ bs n × Placed τ bs n (q .datas .place) × (q .datas .place .offset < 4294967295)
+  data-asked = let d = g .queues .ofDatas in (m .ready .list, d .placed, omega (arith, d .left, note-asked .2))
+
+  -- both queues after it has left its own
+  abbrev Left : Queues → Type 0
+  Left q' = BothStand τ bs n (addIf (isAct (c .kind)) (s .acts)) (addIf (not (isAct (c .kind))) (s .datas)) q'
+
+  pub act-left : isAct (c .kind) ≡ true → (r : Queue) → Stands τ bs n false (actsLeft τ bs q + 1) r → Left (record { acts = r; datas = q .datas })
+  act-left e r h = rw e (record { ofActs = recount (ap (λ (x : ℕ). x + 1) (g .queues .ofActs .left)) h; ofDatas = g .queues .ofDatas })
+
+  pub data-left : isAct (c .kind) ≡ false → (r : Queue) → Stands τ bs n true (datasLeft τ bs q + 1) r → Left (record { acts = q .acts; datas = r })
+  data-left e r h = rw e (record { ofActs = g .queues .ofActs; ofDatas = recount (ap (λ (x : ℕ). x + 1) (g .queues .ofDatas .left)) h })
 
   abbrev next : State
   next = note s (s .cycle) (c .kind) (c .bank)
@@ -235,14 +242,10 @@ module _ {τ : Table} {bs : List ℕ} {n : ℕ} {s₀ : State} {count : ℕ} {b�
   noted : after s (some c) ≡ next
   noted = ap (λ (t : ℕ). note s t (c .kind) (c .bank)) (leaving .cycle)
 
-  act-count : addIf (isAct (c .kind)) (actsLeft τ bs q) ≡ next .acts
-  act-count = ap (addIf (isAct (c .kind))) (g .queues .ofActs .left)
+  data-count : addIf (not (isAct (c .kind))) (s .datas) ≡ next .datas
+  data-count = rw (← leaving .queue)
 
-  data-count : addIf (not (isAct (c .kind))) (datasLeft τ bs q) ≡ next .datas
-  data-count = rw (← leaving .queue) (ap (addIf (isData (c .kind))) (g .queues .ofDatas .left))
-
-  pub moves : (q' : Queues) → BothStand τ bs n (addIf (isAct (c .kind)) (actsLeft τ bs q)) (addIf (not (isAct (c .kind))) (datasLeft τ bs q)) q'
-      → Going τ bs n s₀ count b₀ (putAt b (8 * k) (bytesOf c)) next q' (i + 1) (k + 1)
+  pub moves : (q' : Queues) → Left q' → Going τ bs n s₀ count b₀ (putAt b (8 * k) (bytesOf c)) next q' (i + 1) (k + 1)
   moves q' h =
       record {
         history = c ∷ g .history;
@@ -251,5 +254,5 @@ module _ {τ : Table} {bs : List ℕ} {n : ℕ} {s₀ : State} {count : ℕ} {b�
         size = omega (arith, g .size);
         buffer = put-more (g .history) c b₀ b k (g .size) (g .buffer);
         capped = subst (Capped (first bs n)) noted (on-capped g (m .more) (m .still) (some c) (m .goes));
-        queues = rw (act-count, data-count) at h;
+        queues = rw data-count at h;
       }

@@ -23,7 +23,7 @@ use Rattle.rules.specs.Run.{stops}
 use Rattle.rules.proofs.TestLaws.{true-false}
 use Rattle.heads.specs.declared.head.Head.{Head}
 use Rattle.heads.specs.declared.queue.Queues.{Queues}
-use Rattle.heads.specs.Queue.{BothStand, actsLeft, datasLeft}
+use Rattle.heads.specs.Queue.{BothStand}
 use Rattle.heads.proofs.Laws.{first}
 use Rattle.timing.specs.declared.kept.KeptBank.{KeptBank}
 use Rattle.timing.specs.declared.kept.Kept.{Kept}
@@ -141,7 +141,7 @@ module _ {τ : Table} {bs : List ℕ} {n : ℕ} {s₀ : State} {count : ℕ} {b�
     unfolding told
     kept-asked = note-asked m
 
-    module _ (q' : Queues) (h : BothStand τ bs n (addIf (isAct (c .kind)) (actsLeft τ bs q)) (addIf (not (isAct (c .kind))) (datasLeft τ bs q)) q') where
+    module _ (q' : Queues) (h : BothStand τ bs n (addIf (isAct (c .kind)) (told s .acts)) (addIf (not (isAct (c .kind))) (told s .datas)) q') where
       pub act-moves : isAct (c .kind) ≡ true → Going τ bs n s₀ count b₀ (putAt b (8 * k) (bytesOf c)) (told (actKept s (s .cycle + 1) (c .bank))) q' (i + 1) (k + 1)
       unfolding told
       act-moves a =

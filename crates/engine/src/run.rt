@@ -4,7 +4,8 @@ use crate::choose::command_of;
 use crate::choose::data_goes;
 use commands::command::put_command;
 use heads::due::Counts;
-use heads::queue::leave;
+use heads::queue::Queues;
+use heads::queue::advance;
 use heads::queue::queues_after;
 use records::table::Table;
 use records::tests::both_of;
@@ -85,7 +86,11 @@ pub fn run(
             let write = is_wr(kind);
             put_command(command_of(dh, cycle), buffer, 8 * k);
             k = k + 1;
-            q = leave(t, list, n, q, kind);
+            let next = advance(t, list, n, true, d);
+            q = Queues {
+                acts: a,
+                datas: next,
+            };
             s.cycle = later;
             s.datas = s.datas + 1;
             s.banks[di] = kept_after(kd, write, is_closing(kind), later);
@@ -97,8 +102,11 @@ pub fn run(
             if act_goes(t, ah, ka, s.a1, s.a4, cycle) {
                 put_command(command_of(ah, cycle), buffer, 8 * k);
                 k = k + 1;
-                let kind = ah.kind;
-                q = leave(t, list, n, q, kind);
+                let next = advance(t, list, n, false, a);
+                q = Queues {
+                    acts: next,
+                    datas: d,
+                };
                 s.cycle = later;
                 s.acts = s.acts + 1;
                 s.banks[ai] = KeptBank {

@@ -12,7 +12,7 @@ use Rattle.rules.specs.Run.{stops}
 use Rattle.heads.proofs.Laws.{first}
 use Rattle.timing.specs.Kept.{told}
 use Rattle.engine.specs.Choose.{commandOf}
-use Rattle.engine.proofs.Going.{Going, starts, same-size, stops-here, counted-out, Moving, room-for, few, leave-asked}
+use Rattle.engine.proofs.Going.{Going, starts, same-size, stops-here, counted-out, Moving, room-for, few, act-asked, act-left, data-asked, data-left}
 use Rattle.engine.proofs.InPlace.{kept-stops, kept-data, kept-act, kept-none, kept-early, kept-idles, kept-asked, act-moves, data-stored}
 use Rattle.engine.proofs.run.run.Statement.{statement}
 use Rattle.engine.proofs.run.run.Tie as tie
@@ -85,9 +85,6 @@ add-k c = let e = c .before .before .before .before .before .before in omega (ar
 add-s : tie.Need-add-s Inv-loop μ-loop
 add-s c = let e = c .before .before .before .before .before .before .before in omega (arith, kept-asked (data-top e .loop .s) (moving-data e .0) .2)
 
-mul-t42 : tie.Need-mul-t42 Inv-loop μ-loop
-mul-t42 c = let e = c .before .before .before .before .before .before .before .before .before in omega (arith, kept-asked (data-top e .loop .s) (moving-data e .0) .3)
-
 element-set-from-s : tie.Need-element-set-from-s Inv-loop μ-loop
 element-set-from-s c = let e = c .before .before .before .before .before .before .before .before .before in omega (arith, kept-asked (data-top e .loop .s) (moving-data e .0) .3)
 
@@ -97,7 +94,7 @@ loop-less c = omega (arith, c .before .before .before .before .before .before .b
 loop-again : tie.Need-loop-again Inv-loop μ-loop
 loop-again c =
     let e = c .before .before .before .before .before .before .before .before .before .before .before in let v = data-top e .loop in
-    data-stored (v .s) (moving-data e .0) (c .before .before .before .before .leave .result) (c .before .before .before .before .leave .ensures) (c .before .before .before .before .before .before .before .before .before .before .is-wr .result) (c .before .before .before .is-closing .result) (c .before .before .kept-after .result) (c .before .either-64 .result) (c .either-642 .result) _ (c .before .before .before .before .before .before .before .before .before .before .is-wr .ensures) (c .before .before .before .is-closing .ensures) (c .before .before .kept-after .ensures) (c .before .either-64 .ensures) (c .either-642 .ensures) (c .before .before .before .before .before .before .before .put-command .ensures ∙ ap (λ (x : Command). putAt (v .buffer) (8 * v .k) (bytesOf x)) (c .before .before .before .before .before .before .before .before .before .command-of .ensures)) (moving-data e .1)
+    data-stored (v .s) (moving-data e .0) _ (data-left (moving-data e .0) (moving-data e .1) (c .before .before .before .before .advance .result) (c .before .before .before .before .advance .ensures)) (c .before .before .before .before .before .before .before .before .before .before .is-wr .result) (c .before .before .before .is-closing .result) (c .before .before .kept-after .result) (c .before .either-64 .result) (c .either-642 .result) _ (c .before .before .before .before .before .before .before .before .before .before .is-wr .ensures) (c .before .before .before .is-closing .ensures) (c .before .before .kept-after .ensures) (c .before .either-64 .ensures) (c .either-642 .ensures) (c .before .before .before .before .before .before .before .put-command .ensures ∙ ap (λ (x : Command). putAt (v .buffer) (8 * v .k) (bytesOf x)) (c .before .before .before .before .before .before .before .before .before .command-of .ensures)) (moving-data e .1)
 
 command-of-requires-2 : tie.Need-command-of-requires-2 Inv-loop μ-loop
 command-of-requires-2 c κs = let loop = act-top c .loop in omega (arith, kept-early (loop .s) (loop .inv) (on (c .before .before .before .before .before .before .before .before .before .before .before .before)))
@@ -111,9 +108,6 @@ add-k-2 c = let e = c .before .before .before .before .before in omega (arith, f
 add-s-2 : tie.Need-add-s-2 Inv-loop μ-loop
 add-s-2 c = let e = c .before .before .before .before .before .before in omega (arith, kept-asked (act-top e .loop .s) (moving-act e .0) .1)
 
-mul-t62 : tie.Need-mul-t62 Inv-loop μ-loop
-mul-t62 c = let e = c .before .before .before .before .before .before in omega (arith, kept-asked (act-top e .loop .s) (moving-act e .0) .3)
-
 element-set-from-s-2 : tie.Need-element-set-from-s-2 Inv-loop μ-loop
 element-set-from-s-2 c = let e = c .before .before .before .before .before .before in omega (arith, kept-asked (act-top e .loop .s) (moving-act e .0) .3)
 
@@ -123,7 +117,7 @@ loop-less-2 c = omega (arith, c .before .before .before .before .before .before 
 loop-again-2 : tie.Need-loop-again-2 Inv-loop μ-loop
 loop-again-2 c =
     let e = c .before .before .before .before .before .before in
-    rw (c .before .before .before .put-command2 .ensures, c .before .before .before .before .before .command-of2 .ensures) (act-moves (act-top e .loop .s) (moving-act e .0) (c .leave2 .result) (c .leave2 .ensures) (moving-act e .1))
+    rw (c .before .before .before .put-command2 .ensures, c .before .before .before .before .before .command-of2 .ensures) (act-moves (act-top e .loop .s) (moving-act e .0) _ (act-left (moving-act e .0) (moving-act e .1) (c .advance2 .result) (c .advance2 .ensures)) (moving-act e .1))
 
 -- nothing goes
 loop-less-3 : tie.Need-loop-less-3 Inv-loop μ-loop
@@ -138,4 +132,4 @@ same-length-2 : tie.Need-same-length-2 Inv-loop μ-loop
 same-length-2 c = same-size (c .before .loop .inv) (c .before .before .before .before .before .before .pre .0)
 
 pub run-spec : {M : Type 1} → statement M
-run-spec = tie.close (tie.spec Inv-loop μ-loop (λ c κs. search needs) (λ c κs. c .before .before .before .pre .0 .list) loop-holds (λ c κs. search needs) same-length returns (λ c. search needs) (λ c. search needs) (λ c. search needs) add-i add-later (λ c κs. c .before .before .before .before .before .before .before .before .before .before .before .distances .ensures) (λ c κs. search needs) command-of-requires mul-put-command (λ c κs. room-for (moving-data (c .before .before .before) .0)) add-k (λ c κs. leave-asked (moving-data (c .before .before .before .before .before .before) .0)) add-s (λ c κs. search needs) (λ c κs. search needs) mul-t42 element-set-from-s (λ c κs. search needs) (λ c κs. search needs) loop-less loop-again (λ c. search needs) (λ c. search needs) (λ c. search needs) (λ c κs. search needs) command-of-requires-2 mul-put-command-2 (λ c κs. room-for (moving-act (c .before .before) .0)) add-k-2 (λ c κs. leave-asked (moving-act (c .before .before .before .before .before) .0)) add-s-2 mul-t62 element-set-from-s-2 loop-less-2 loop-again-2 loop-less-3 loop-again-3 same-length-2 (λ c. counted-out (c .before .loop .inv) (c .before .loop .s) refl (c .loop-test .left)))
+run-spec = tie.close (tie.spec Inv-loop μ-loop (λ c κs. search needs) (λ c κs. c .before .before .before .pre .0 .list) loop-holds (λ c κs. search needs) same-length returns (λ c. search needs) (λ c. search needs) (λ c. search needs) add-i add-later (λ c κs. c .before .before .before .before .before .before .before .before .before .before .before .distances .ensures) (λ c κs. search needs) command-of-requires mul-put-command (λ c κs. room-for (moving-data (c .before .before .before) .0)) add-k (λ c κs. data-asked (moving-data (c .before .before .before .before .before .before) .0)) add-s (λ c κs. search needs) (λ c κs. search needs) (λ c. let e = c .before .before .before .before .before .before .before .before .before in omega (arith, kept-asked (data-top e .loop .s) (moving-data e .0) .3)) element-set-from-s (λ c κs. search needs) (λ c κs. search needs) loop-less loop-again (λ c. search needs) (λ c. search needs) (λ c. search needs) (λ c κs. search needs) command-of-requires-2 mul-put-command-2 (λ c κs. room-for (moving-act (c .before .before) .0)) add-k-2 (λ c κs. act-asked (moving-act (c .before .before .before .before .before) .0)) add-s-2 (λ c. let e = c .before .before .before .before .before .before in omega (arith, kept-asked (act-top e .loop .s) (moving-act e .0) .3)) element-set-from-s-2 loop-less-2 loop-again-2 loop-less-3 loop-again-3 same-length-2 (λ c. counted-out (c .before .loop .inv) (c .before .loop .s) refl (c .loop-test .left)))
