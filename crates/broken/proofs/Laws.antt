@@ -16,10 +16,10 @@ use Rattle.rules.specs.declared.verdict.Rule.the-variants.{Range, Order, Opened
 use Rattle.rules.specs.declared.verdict.Found.the-variants.{Fine, Broken}
 use Rattle.rules.specs.Kinds.{isAct, isWr, isKnown, firstBroken, rulesInOrder}
 use Rattle.rules.specs.Square.{square}
-use Rattle.rules.specs.State.{past, isOpen, bankOf, charged, farBy, actTestsOf, actTests, dataTestsOf, dataTests, testsBy}
+use Rattle.rules.specs.State.{past, isOpen, bankOf, charged, farBy, actTestsOf, dataTestsOf, testsBy}
 use Rattle.rules.specs.History.{inTable}
-use Rattle.rules.proofs.TestLaws.{true-false, and-fst}
-use Rattle.broken.specs.ByState.{foundBy}
+use Rattle.rules.proofs.TestLaws.{true-false}
+use Rattle.broken.specs.ByState.{foundBy, testsOn, foundOn}
 
 -- the rules that an ACT, and a data command, can break, one after the other
 act-tests : (a b c d e : Bool)
@@ -51,20 +51,16 @@ pub data-order : (τ : Table) (k : Bank) (keeps9 : Bool) (t : ℕ)
 data-order τ k keeps9 t = data-tests (isOpen k) (past (k .act) (τ .rcd) t) keeps9
 
 -- the rules of a record, in the order in which the code comes to them
-module _ (τ : Table) (s : State) (k : Kind) (t b : ℕ) where
-  pub found-range : inTable τ k b ≡ false → Broken Range ≡ foundBy τ s k t b
-  unfolding foundBy
-  found-range e = rw e
+module _ (τ : Table) (cycle : ℕ) (k : Bank) (a1 a4 rd wr : Stamp) (kind : Kind) (t : ℕ) where
+  pub found-order : t < cycle → Broken Order ≡ foundOn τ cycle k a1 a4 rd wr kind t
+  unfolding foundOn
+  found-order l = rw (lt-leb cycle t l)
 
-  pub found-order : inTable τ k b ≡ true → t < s .cycle → Broken Order ≡ foundBy τ s k t b
-  unfolding foundBy
-  found-order e l = rw (e, lt-leb (s .cycle) t l)
+  told : cycle ≤ t → (ts : List Bool) → ts ≡ testsOn τ k a1 a4 rd wr kind t → firstBroken (true ∷ true ∷ ts) rulesInOrder ≡ foundOn τ cycle k a1 a4 rd wr kind t
+  unfolding foundOn
+  told l ts u = rw (le-leb cycle t l, u)
 
-  told : inTable τ k b ≡ true → s .cycle ≤ t → (ts : List Bool) → ts ≡ testsBy τ s k t b → firstBroken (true ∷ true ∷ ts) rulesInOrder ≡ foundBy τ s k t b
-  unfolding foundBy
-  told e l ts u = rw (e, le-leb (s .cycle) t l, u)
-
-  act-told : (k : Kind) → isAct k ≡ true → actTests τ s t b ≡ testsBy τ s k t b
+  act-told : (x : Kind) → isAct x ≡ true → actTestsOf τ k (past a1 (τ .rrd) t) (past a4 (τ .faw) t) t ≡ testsOn τ k a1 a4 rd wr x t
   act-told Act a = refl
   act-told Rd a = true-false false a refl
   act-told Rda a = true-false false a refl
@@ -72,7 +68,7 @@ module _ (τ : Table) (s : State) (k : Kind) (t b : ℕ) where
   act-told Wra a = true-false false a refl
   act-told (Other n) a = true-false false a refl
 
-  data-told : (k : Kind) → isKnown k ≡ true → isAct k ≡ false → dataTests τ s (isWr k) t b ≡ testsBy τ s k t b
+  data-told : (x : Kind) → isKnown x ≡ true → isAct x ≡ false → dataTestsOf τ k (farBy (square τ) rd wr (isWr x) t) t ≡ testsOn τ k a1 a4 rd wr x t
   data-told Act n a = true-false true refl a
   data-told Rd n a = refl
   data-told Rda n a = refl
@@ -80,9 +76,28 @@ module _ (τ : Table) (s : State) (k : Kind) (t b : ℕ) where
   data-told Wra n a = refl
   data-told (Other m) n a = true-false false n refl
 
-  pub found-act : inTable τ k b ≡ true → s .cycle ≤ t → isAct k ≡ true → firstBroken (true ∷ true ∷ actTests τ s t b) rulesInOrder ≡ foundBy τ s k t b
-  found-act e l a = told e l (actTests τ s t b) (act-told k a)
+  pub found-act : cycle ≤ t → isAct kind ≡ true
+      → firstBroken (true ∷ true ∷ actTestsOf τ k (past a1 (τ .rrd) t) (past a4 (τ .faw) t) t) rulesInOrder ≡ foundOn τ cycle k a1 a4 rd wr kind t
+  found-act l a = told l (actTestsOf τ k (past a1 (τ .rrd) t) (past a4 (τ .faw) t) t) (act-told kind a)
 
-  pub found-data : inTable τ k b ≡ true → s .cycle ≤ t → isAct k ≡ false → (q : List (List ℕ)) → q ≡ square τ → (keeps9 : Bool) → keeps9 ≡ farBy q (s .rd) (s .wr) (isWr k) t
-      → firstBroken (true ∷ true ∷ dataTestsOf τ (bankOf s b) keeps9 t) rulesInOrder ≡ foundBy τ s k t b
-  found-data e l a q eq keeps9 e9 = told e l (dataTestsOf τ (bankOf s b) keeps9 t) (rw (e9, eq) (data-told k (and-fst (isKnown k) _ e) a))
+  pub found-data : cycle ≤ t → isKnown kind ≡ true → isAct kind ≡ false → (q : List (List ℕ)) → q ≡ square τ → (keeps9 : Bool) → keeps9 ≡ farBy q rd wr (isWr kind) t
+      → firstBroken (true ∷ true ∷ dataTestsOf τ k keeps9 t) rulesInOrder ≡ foundOn τ cycle k a1 a4 rd wr kind t
+  found-data l n a q eq keeps9 e9 = told l (dataTestsOf τ k keeps9 t) (rw (e9, eq) (data-told kind n a))
+
+-- the same of a whole state
+module _ (τ : Table) (s : State) (k : Kind) (t b : ℕ) where
+  pub found-range : inTable τ k b ≡ false → Broken Range ≡ foundBy τ s k t b
+  unfolding foundBy
+  found-range e = rw e
+
+  parts : (x : Kind) → testsOn τ (bankOf s b) (s .a1) (s .a4) (s .rd) (s .wr) x t ≡ testsBy τ s x t b
+  parts Act = refl
+  parts Rd = refl
+  parts Rda = refl
+  parts Wr = refl
+  parts Wra = refl
+  parts (Other n) = refl
+
+  pub found-parts : inTable τ k b ≡ true → foundOn τ (s .cycle) (bankOf s b) (s .a1) (s .a4) (s .rd) (s .wr) k t ≡ foundBy τ s k t b
+  unfolding foundBy foundOn
+  found-parts e = rw (e, parts k)

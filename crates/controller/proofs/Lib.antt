@@ -1,4 +1,5 @@
 -- The theorems about the controller.
+pub mod Numbers
 pub mod Inverse
 pub mod Written
 pub mod NotRefused

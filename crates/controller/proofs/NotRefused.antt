@@ -19,6 +19,7 @@ use Rattle.rules.proofs.Count.{run-room}
 use Rattle.heads.specs.Queue.{Listed}
 use Rattle.engine.specs.declared.run.Ran.{Ran as Answer}
 use Rattle.engine.specs.Run.{commandsLeft, Ready, Runs}
+use Rattle.timing.specs.Kept.{told}
 use Rattle.controller.specs.declared.controller.Controller.{Controller}
 use Rattle.controller.specs.declared.run.RunAnswer.the-variants.{Ran, Refused}
 use Rattle.controller.specs.Controller.{tells, kept}
@@ -46,7 +47,7 @@ module _ (c : Controller) (τ : Table) (l : List Transaction) (count : ℕ) (b :
   unfolding runController
   leaves-refused q p h = rw (← z-told, ne-eqb z 0 h, p) (refl, refl)
 
-  pub leaves-ran : (d : Controller) (r : Answer) (b' : List ℕ) → d ≡ kept (r .state) → Runs (run count τ l s []) b b' r → z ≡ 0
+  pub leaves-ran : (d : Controller) (r : Answer) (b' : List ℕ) → d ≡ kept (told (r .state)) → Runs (run count τ l s []) b b' r → z ≡ 0
       → LeavesRun (runController c τ l count b)
       (record { controller = d; answer = Ran (record { edition = τ .edition; commands = r .commands; cycles = r .cycles }) }) b'
   unfolding runController

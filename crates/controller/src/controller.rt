@@ -1,12 +1,12 @@
 // The host's running controller: plain unsigned numbers, so that any bit pattern is a state.
 use records::table::Table;
-use rules::state::Bank;
-use rules::state::Stamp;
-use rules::state::State;
-use rules::state::fresh_of;
+use timing::kept::Kept;
+use timing::kept::KeptBank;
+use timing::kept::kept_fresh;
 ghost use mathlib.Core.Path.{_≡_};
 ghost use mathlib.Core.List.{map};
 ghost use Prim.Native.Nat.{min};
+ghost use Rattle.timing.specs.Kept.{stampOf as keptStamp, toldBank, told};
 ghost use Rattle.controller.specs.Controller.{stampOf, numberOf, bankTells, bankKept, tells, kept, freshController};
 
 // The number that stands for "never".
@@ -35,13 +35,14 @@ pub struct Controller {
     pub wr: u32,
 }
 
-pub fn stamp_of(x: u32) -> Stamp
-    ensures { λ r. ⌜ r ≡ stampOf x ⌝ }
+// A number as a run keeps it.
+pub fn number_in(x: u32) -> u64
+    ensures { λ r. ⌜ keptStamp r ≡ stampOf x ⌝ }
 {
     if x == NEVER {
-        return Stamp::Never;
+        return 0;
     }
-    Stamp::At(x as u64)
+    x as u64 + 1
 }
 
 // A cycle in 32 bits. None that a run reaches is cut.
@@ -51,22 +52,22 @@ pub fn cut(c: u64) -> u32
     if c < 4294967295 { c as u32 } else { NEVER }
 }
 
-pub fn number_of(s: Stamp) -> u32
-    ensures { λ r. ⌜ r ≡ numberOf s ⌝ }
+pub fn number_of(s: u64) -> u32
+    ensures { λ r. ⌜ r ≡ numberOf (keptStamp s) ⌝ }
 {
-    match s {
-        Stamp::Never => NEVER,
-        Stamp::At(c) => cut(c),
+    if s == 0 {
+        return NEVER;
     }
+    cut(s - 1)
 }
 
-pub fn bank_told(k: HostBank) -> Bank
-    ensures { λ r. ⌜ r ≡ bankTells k ⌝ }
+pub fn bank_in(k: HostBank) -> KeptBank
+    ensures { λ r. ⌜ toldBank r ≡ bankTells k ⌝ }
 {
-    let act = stamp_of(k.act);
-    let rd = stamp_of(k.rd);
-    let wr = stamp_of(k.wr);
-    Bank {
+    let act = number_in(k.act);
+    let rd = number_in(k.rd);
+    let wr = number_in(k.wr);
+    KeptBank {
         opened: k.opened,
         act: act,
         rd: rd,
@@ -74,8 +75,8 @@ pub fn bank_told(k: HostBank) -> Bank
     }
 }
 
-pub fn bank_kept(k: Bank) -> HostBank
-    ensures { λ r. ⌜ r ≡ bankKept k ⌝ }
+pub fn bank_kept(k: KeptBank) -> HostBank
+    ensures { λ r. ⌜ r ≡ bankKept (toldBank k) ⌝ }
 {
     let act = k.act;
     let rd = k.rd;
@@ -88,26 +89,26 @@ pub fn bank_kept(k: Bank) -> HostBank
     }
 }
 
-pub fn banks_told(ks: [HostBank; 16]) -> [Bank; 16]
-    ensures { λ r. ⌜ r ≡ map bankTells ks ⌝ }
+pub fn banks_in(ks: [HostBank; 16]) -> [KeptBank; 16]
+    ensures { λ r. ⌜ map toldBank r ≡ map bankTells ks ⌝ }
 {
-    let shut = Bank {
+    let shut = KeptBank {
         opened: 0,
-        act: Stamp::Never,
-        rd: Stamp::Never,
-        wr: Stamp::Never,
+        act: 0,
+        rd: 0,
+        wr: 0,
     };
-    let mut told = [shut; 16];
-    let mut k: usize = 0;
-    while k < 16 {
-        told[k] = bank_told(ks[k]);
-        k += 1;
+    let mut kept = [shut; 16];
+    let mut i: usize = 0;
+    while i < 16 {
+        kept[i] = bank_in(ks[i]);
+        i += 1;
     }
-    told
+    kept
 }
 
-pub fn banks_kept(ks: [Bank; 16]) -> [HostBank; 16]
-    ensures { λ r. ⌜ r ≡ map bankKept ks ⌝ }
+pub fn banks_kept(ks: [KeptBank; 16]) -> [HostBank; 16]
+    ensures { λ r. ⌜ r ≡ map bankKept (map toldBank ks) ⌝ }
 {
     let shut = HostBank {
         opened: 0,
@@ -115,28 +116,28 @@ pub fn banks_kept(ks: [Bank; 16]) -> [HostBank; 16]
         rd: NEVER,
         wr: NEVER,
     };
-    let mut kept = [shut; 16];
-    let mut i: usize = 0;
-    while i < 16 {
-        kept[i] = bank_kept(ks[i]);
-        i += 1;
+    let mut held = [shut; 16];
+    let mut k: usize = 0;
+    while k < 16 {
+        held[k] = bank_kept(ks[k]);
+        k += 1;
     }
-    kept
+    held
 }
 
-// What the controller tells.
-pub fn state_of(c: Controller) -> State
-    ensures { λ r. ⌜ r ≡ tells c ⌝ }
+// What the controller tells, as a run keeps it.
+pub fn kept_in(c: Controller) -> Kept
+    ensures { λ r. ⌜ told r ≡ tells c ⌝ }
 {
     let held = c.banks;
-    let banks = banks_told(held);
-    let a1 = stamp_of(c.last[0]);
-    let a2 = stamp_of(c.last[1]);
-    let a3 = stamp_of(c.last[2]);
-    let a4 = stamp_of(c.last[3]);
-    let rd = stamp_of(c.rd);
-    let wr = stamp_of(c.wr);
-    State {
+    let banks = banks_in(held);
+    let a1 = number_in(c.last[0]);
+    let a2 = number_in(c.last[1]);
+    let a3 = number_in(c.last[2]);
+    let a4 = number_in(c.last[3]);
+    let rd = number_in(c.rd);
+    let wr = number_in(c.wr);
+    Kept {
         edition: c.edition,
         cycle: c.cycle as u64,
         acts: c.acts,
@@ -152,8 +153,8 @@ pub fn state_of(c: Controller) -> State
 }
 
 // The controller that tells a state.
-pub fn controller_of(s: State) -> Controller
-    ensures { λ r. ⌜ r ≡ kept s ⌝ }
+pub fn controller_of(s: Kept) -> Controller
+    ensures { λ r. ⌜ r ≡ kept (told s) ⌝ }
 {
     let told = s.banks;
     let banks = banks_kept(told);
@@ -186,5 +187,5 @@ pub fn controller_of(s: State) -> Controller
 pub fn start_of(t: Table) -> Controller
     ensures { λ r. ⌜ r ≡ freshController t ⌝ }
 {
-    controller_of(fresh_of(t))
+    controller_of(kept_fresh(t.edition))
 }

@@ -1,8 +1,9 @@
 // A run of the host's controller, by value.
 use crate::controller::Controller;
 use crate::controller::controller_of;
-use crate::controller::state_of;
+use crate::controller::kept_in;
 use engine::run::run;
+use heads::due::due;
 use records::refusal::Refusal;
 use records::refusal::refuse;
 use records::table::Table;
@@ -37,8 +38,9 @@ pub fn run_controller(c: Controller, t: Table, list: &[u8], count: u32, room: &m
     ensures { λ r. ⌜ LeavesRun (runController c t (transactionsIn (now (list .entry))) count (now (room .entry))) r (now (room .exit)) ⌝ }
 {
     let n = list.len() / 4;
-    let s = state_of(c);
-    let z = refusal_of(t, list, n, s, count, room.len());
+    let s = kept_in(c);
+    let all = due(t, list, n);
+    let z = refusal_of(t, list, n, all, s, count, room.len());
     if z != 0 {
         let refusal = refuse(z, 0, t.edition);
         return RunTold {
@@ -46,7 +48,7 @@ pub fn run_controller(c: Controller, t: Table, list: &[u8], count: u32, room: &m
             answer: RunAnswer::Refused(refusal),
         };
     }
-    let r = run(t, list, n, s, count, room);
+    let r = run(t, list, n, all, s, count, room);
     let after = r.state;
     let controller = controller_of(after);
     let report = RunReport {

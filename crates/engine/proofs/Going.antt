@@ -26,10 +26,13 @@ use Rattle.rules.proofs.Queue.{act-length, data-length}
 use Rattle.rules.proofs.Caps.{Capped, caps-step}
 use Rattle.rules.proofs.RunTo.{stopped, going}
 use Rattle.rules.proofs.Count.{run-room}
+use Rattle.heads.specs.declared.queue.Queue.{Queue}
 use Rattle.heads.specs.declared.queue.Queues.{Queues}
-use Rattle.heads.specs.Queue.{Listed, BothStand, actsLeft, datasLeft}
+use Rattle.heads.specs.Queue.{Listed, Placed, Stands, BothStand, actsLeft, datasLeft}
 use Rattle.heads.proofs.Laws.{first, acts-due, datas-due}
 use Rattle.heads.proofs.Standing.{recount}
+use Rattle.timing.specs.declared.kept.Kept.{Kept}
+use Rattle.timing.specs.Kept.{told}
 use Rattle.engine.specs.declared.run.Ran as Answer
 use Rattle.engine.specs.Run.{commandsLeft, Ready, Runs}
 use Rattle.engine.proofs.Laws.{Leaves, leaves}
@@ -169,18 +172,19 @@ module _ {τ : Table} {bs : List ℕ} {n : ℕ} {s₀ : State} {count : ℕ} {b�
         queues = g .queues;
       }
 
-  -- nothing is left to run
-  ended : run (count - i) τ (first bs n) s (g .history) ≡ record { state = s; history = g .history; cycles = 0 }
-      → Runs (run count τ (first bs n) s₀ []) b₀ b (record { state = s; cycles = i; commands = k })
-  ended e =
-      let z : i + 0 ≡ i = omega arith in
-      rw (g .whole ∙ ap (later i) e, z) (record { state = refl; cycles = refl; commands = g .size; buffer = g .buffer })
+  -- nothing is left to run; v tells the state
+  module _ (v : Kept) (tells : told v ≡ s) where
+    ended : run (count - i) τ (first bs n) s (g .history) ≡ record { state = s; history = g .history; cycles = 0 }
+        → Runs (run count τ (first bs n) s₀ []) b₀ b (record { state = v; cycles = i; commands = k })
+    ended e =
+        let z : i + 0 ≡ i = omega arith in
+        rw (g .whole ∙ ap (later i) e, z) (record { state = tells; cycles = refl; commands = g .size; buffer = g .buffer })
 
-  pub stops-here : stops τ (first bs n) s ≡ true → Runs (run count τ (first bs n) s₀ []) b₀ b (record { state = s; cycles = i; commands = k })
-  stops-here e = ended (stopped (count - i) τ (first bs n) s (g .history) e)
+    pub stops-here : stops τ (first bs n) s ≡ true → Runs (run count τ (first bs n) s₀ []) b₀ b (record { state = v; cycles = i; commands = k })
+    stops-here e = ended (stopped (count - i) τ (first bs n) s (g .history) e)
 
-  pub counted-out : count ≤ i → Runs (run count τ (first bs n) s₀ []) b₀ b (record { state = s; cycles = i; commands = k })
-  counted-out p = let z : count - i ≡ 0 = omega arith in ended (ap (λ (m : ℕ). run m τ (first bs n) s (g .history)) z)
+    pub counted-out : count ≤ i → Runs (run count τ (first bs n) s₀ []) b₀ b (record { state = v; cycles = i; commands = k })
+    counted-out p = let z : count - i ≡ 0 = omega arith in ended (ap (λ (m : ℕ). run m τ (first bs n) s (g .history)) z)
 
 -- where the command c goes
 pub record Moving (τ : Table) (bs : List ℕ) (n : ℕ) (s₀ : State) (count : ℕ) (b₀ b : List ℕ) (s : State) (q : Queues) (i k : ℕ) (c : Command) : Type 0 where
@@ -195,7 +199,7 @@ module _ {τ : Table} {bs : List ℕ} {n : ℕ} {s₀ : State} {count : ℕ} {b�
   abbrev g : Going τ bs n s₀ count b₀ b s q i k
   g = m .going
 
-  leaving : Leaves τ bs n s c
+  pub leaving : Leaves τ bs n s c
   leaving = leaves τ bs n s (m .ready .list) c (m .goes)
 
   rooms : (length (c ∷ g .history) ≤ count) × (8 * length (c ∷ g .history) ≤ length b₀)
@@ -216,37 +220,39 @@ module _ {τ : Table} {bs : List ℕ} {n : ℕ} {s₀ : State} {count : ℕ} {b�
     leaving .bank,
   )
 
-  pub leave-asked : Listed τ bs n × BothStand τ bs n (actsLeft τ bs q) (datasLeft τ bs q) q × (actsLeft τ bs q < 4294967295) × (datasLeft τ bs q < 4294967295)
-  leave-asked =
-      let a = g .queues .ofActs in
-      let d = g .queues .ofDatas in (
-        m .ready .list,
-        record { ofActs = recount (sym (a .left)) a; ofDatas = recount (sym (d .left)) d },
-        omega (arith, a .left, note-asked .1),
-        omega (arith, d .left, note-asked .2),
-      )
+  pub act-asked : Listed τ bs n × Placed τ bs n (q .acts .place) × (q .acts .place .offset < 4294967295)
+  act-asked = let a = g .queues .ofActs in (m .ready .list, a .placed, omega (arith, a .left, note-asked .1))
+
+  pub data-asked : Listed τ bs n × Placed τ bs n (q .datas .place) × (q .datas .place .offset < 4294967295)
+  data-asked = let d = g .queues .ofDatas in (m .ready .list, d .placed, omega (arith, d .left, note-asked .2))
+
+  -- both queues after it has left its own
+  abbrev Left : Queues → Type 0
+  Left q' = BothStand τ bs n (addIf (isAct (c .kind)) (s .acts)) (addIf (not (isAct (c .kind))) (s .datas)) q'
+
+  pub act-left : isAct (c .kind) ≡ true → (r : Queue) → Stands τ bs n false (actsLeft τ bs q + 1) r → Left (record { acts = r; datas = q .datas })
+  act-left e r h = rw e (record { ofActs = recount (ap (λ (x : ℕ). x + 1) (g .queues .ofActs .left)) h; ofDatas = g .queues .ofDatas })
+
+  pub data-left : isAct (c .kind) ≡ false → (r : Queue) → Stands τ bs n true (datasLeft τ bs q + 1) r → Left (record { acts = q .acts; datas = r })
+  data-left e r h = rw e (record { ofActs = g .queues .ofActs; ofDatas = recount (ap (λ (x : ℕ). x + 1) (g .queues .ofDatas .left)) h })
 
   abbrev next : State
   next = note s (s .cycle) (c .kind) (c .bank)
 
-  told : after s (some c) ≡ next
-  told = ap (λ (t : ℕ). note s t (c .kind) (c .bank)) (leaving .cycle)
+  noted : after s (some c) ≡ next
+  noted = ap (λ (t : ℕ). note s t (c .kind) (c .bank)) (leaving .cycle)
 
-  act-count : addIf (isAct (c .kind)) (actsLeft τ bs q) ≡ next .acts
-  act-count = ap (addIf (isAct (c .kind))) (g .queues .ofActs .left)
+  data-count : addIf (not (isAct (c .kind))) (s .datas) ≡ next .datas
+  data-count = rw (← leaving .queue)
 
-  data-count : addIf (not (isAct (c .kind))) (datasLeft τ bs q) ≡ next .datas
-  data-count = rw (← leaving .queue) (ap (addIf (isData (c .kind))) (g .queues .ofDatas .left))
-
-  pub moves : (q' : Queues) → BothStand τ bs n (addIf (isAct (c .kind)) (actsLeft τ bs q)) (addIf (not (isAct (c .kind))) (datasLeft τ bs q)) q'
-      → Going τ bs n s₀ count b₀ (putAt b (8 * k) (bytesOf c)) next q' (i + 1) (k + 1)
+  pub moves : (q' : Queues) → Left q' → Going τ bs n s₀ count b₀ (putAt b (8 * k) (bytesOf c)) next q' (i + 1) (k + 1)
   moves q' h =
       record {
         history = c ∷ g .history;
-        whole = subst (λ (u : State). run count τ (first bs n) s₀ [] ≡ later (i + 1) (run (count - (i + 1)) τ (first bs n) u (c ∷ g .history))) told
+        whole = subst (λ (u : State). run count τ (first bs n) s₀ [] ≡ later (i + 1) (run (count - (i + 1)) τ (first bs n) u (c ∷ g .history))) noted
             (on-whole g (m .more) (m .still) (some c) (m .goes));
         size = omega (arith, g .size);
         buffer = put-more (g .history) c b₀ b k (g .size) (g .buffer);
-        capped = subst (Capped (first bs n)) told (on-capped g (m .more) (m .still) (some c) (m .goes));
-        queues = rw (act-count, data-count) at h;
+        capped = subst (Capped (first bs n)) noted (on-capped g (m .more) (m .still) (some c) (m .goes));
+        queues = rw data-count at h;
       }

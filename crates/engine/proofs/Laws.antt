@@ -21,7 +21,7 @@ use Rattle.rules.specs.Kinds.{isAct, isWr, isData}
 use Rattle.rules.specs.State.{bankOf, dataTests, testsBy, breaksNone}
 use Rattle.rules.specs.Queues.{Due, dueAt, actQueue, dataQueue, headAfter}
 use Rattle.rules.specs.CycleRule.{hadAct, legalAt, otherwise, goes}
-use Rattle.rules.proofs.TestLaws.{true-false, OnSome}
+use Rattle.rules.proofs.TestLaws.{true-false, and-fst, OnSome}
 use Rattle.rules.proofs.Ranges.{ranges}
 use Rattle.rules.proofs.Fit.{AllFit, Inside, place-at, act-bank, data-bank}
 use Rattle.rules.proofs.DataKinds.{is-data, no-act}
@@ -32,10 +32,7 @@ use Rattle.heads.specs.declared.queue.Queues.{Queues}
 use Rattle.heads.specs.Head.{dueOf}
 use Rattle.heads.specs.Queue.{Listed, BothStand}
 use Rattle.heads.proofs.Laws.{first, first-fits}
-use Rattle.engine.specs.declared.choose.Go.{Go}
-use Rattle.engine.specs.declared.choose.Go.the-variants.{Nothing, Goes}
-use Rattle.engine.specs.Choose.{goOf, commandOf, dataFree, actFree, chosen}
-use Rattle.engine.specs.Run.{GoSmall}
+use Rattle.engine.specs.Choose.{commandOf, dataFree, actFree}
 
 -- ---- a head that is tried
 
@@ -61,12 +58,17 @@ module _ (f : Command → Bool) (t : ℕ) (h : Head) where
       on true = had (ltb (h .act) acts)
       on false = refl
 
+-- the cycle rule for the heads a and d, to the banks ka and kd, at cycle t, when `acts` have left the ACT queue
+abbrev chosen : Table → Head → Head → Bank → Bank → Stamp → Stamp → Stamp → Stamp → ℕ → ℕ → Option Command
+chosen τ a d ka kd a1 a4 rd wr acts t =
+    otherwise (legalAt (dataFree τ kd rd wr) t (hadAct acts (dueOf d))) (legalAt (actFree τ ka a1 a4) t (dueOf a))
+
 -- what is chosen, by the two tests in the order of the code
 module _ (τ : Table) (a d : Head) (ka kd : Bank) (a1 a4 rd wr : Stamp) (acts t : ℕ) where
   module _ (x : Bool) (p : x ≡ (d .there && (ltb (d .act) acts && dataFree τ kd rd wr (commandOf d t)))) where
-    pub chosen-data : (c : Command) → c ≡ commandOf d t → x ≡ true → some c ≡ chosen τ a d ka kd a1 a4 rd wr acts t
-    chosen-data c e q =
-        ap some e ∙ sym (ap (λ (o : Option Command). otherwise o (legalAt (actFree τ ka a1 a4) t (dueOf a)))
+    chosen-data : x ≡ true → some (commandOf d t) ≡ chosen τ a d ka kd a1 a4 rd wr acts t
+    chosen-data q =
+        sym (ap (λ (o : Option Command). otherwise o (legalAt (actFree τ ka a1 a4) t (dueOf a)))
         (tried-data (dataFree τ kd rd wr) t d acts ∙ ap (λ (y : Bool). pick y (some (commandOf d t)) none) (sym p ∙ q)))
 
     module _ (q : x ≡ false) (z : Bool) (r : z ≡ (a .there && actFree τ ka a1 a4 (commandOf a t))) where
@@ -76,10 +78,10 @@ module _ (τ : Table) (a d : Head) (ka kd : Bank) (a1 a4 rd wr : Stamp) (acts t 
           (tried-data (dataFree τ kd rd wr) t d acts ∙ ap (λ (y : Bool). pick y (some (commandOf d t)) none) (sym p ∙ q))
           ∙ (tried-act (actFree τ ka a1 a4) t a ∙ ap (λ (y : Bool). pick y (some (commandOf a t)) none) (sym r)))
 
-      pub chosen-act : (c : Command) → c ≡ commandOf a t → z ≡ true → some c ≡ chosen τ a d ka kd a1 a4 rd wr acts t
-      chosen-act c e v = ap some e ∙ (ap (λ (y : Bool). pick y (some (commandOf a t)) none) (sym v) ∙ no-data)
+      chosen-act : z ≡ true → some (commandOf a t) ≡ chosen τ a d ka kd a1 a4 rd wr acts t
+      chosen-act v = ap (λ (y : Bool). pick y (some (commandOf a t)) none) (sym v) ∙ no-data
 
-      pub chosen-none : z ≡ false → none ≡ chosen τ a d ka kd a1 a4 rd wr acts t
+      chosen-none : z ≡ false → none ≡ chosen τ a d ka kd a1 a4 rd wr acts t
       chosen-none v = ap (λ (y : Bool). pick y (some (commandOf a t)) none) (sym v) ∙ no-data
 
 -- ---- by what a state tells
@@ -139,6 +141,10 @@ act-kinds τ l n = rw (act-head τ l n) (on (actPlace l n))
     on none = tt
     on (some p) = refl
 
+-- of a head that stands there
+there : (P : Due → Type 0) (h : Head) → h .there ≡ true → OnSome P (dueOf h) → P (record { kind = h .kind; bank = h .bank; number = h .number; act = h .act })
+there P h e u = subst (λ (b : Bool). OnSome P (pick b (some (record { kind = h .kind; bank = h .bank; number = h .number; act = h .act })) none)) e u
+
 module _ (τ : Table) (bs : List ℕ) (n : ℕ) (s : State) where
   -- what is chosen of the heads of the queues is what goes
   pub goes-chosen : (q : Queues) → BothStand τ bs n (s .acts) (s .datas) q
@@ -185,12 +191,38 @@ module _ (τ : Table) (bs : List ℕ) (n : ℕ) (s : State) where
   pub leaves : Listed τ bs n → (c : Command) → goes τ (first bs n) s ≡ some c → Leaves c
   leaves h c e = subst (OnSome Leaves) e (goes-leaves h)
 
-  pub go-small : Listed τ bs n → (g : Go) → goOf g ≡ goes τ (first bs n) s → GoSmall g
-  go-small h Nothing e = tt
-  go-small h (Goes c) e = leaves h c (sym e) .bank
+  -- what goes, and its kind, by the two tests in the order of the code
+  module _ (q : Queues) (h : BothStand τ bs n (s .acts) (s .datas) q) where
+    abbrev a : Head
+    a = q .acts .head
 
-  -- what the code chose is what goes
-  pub went : (q : Queues) → BothStand τ bs n (s .acts) (s .datas) q → (g g' : Go)
-      → goOf g ≡ chosen τ (q .acts .head) (q .datas .head) (bankOf s (q .acts .head .bank)) (bankOf s (q .datas .head .bank)) (s .a1) (s .a4) (s .rd) (s .wr) (s .acts) (s .cycle)
-      → g ≡ g' → goes τ (first bs n) s ≡ goOf g'
-  went q h g g' e p = sym (goes-chosen q h) ∙ (sym e ∙ ap goOf p)
+    abbrev d : Head
+    d = q .datas .head
+
+    module _ (x : Bool) (p : x ≡ (d .there && (ltb (d .act) (s .acts) && dataFree τ (bankOf s (d .bank)) (s .rd) (s .wr) (commandOf d (s .cycle))))) where
+      pub goes-data : x ≡ true → goes τ (first bs n) s ≡ some (commandOf d (s .cycle))
+      goes-data e = sym (chosen-data τ a d (bankOf s (a .bank)) (bankOf s (d .bank)) (s .a1) (s .a4) (s .rd) (s .wr) (s .acts) (s .cycle) x p e ∙ goes-chosen q h)
+
+      pub data-head-kind : x ≡ true → isData (d .kind) ≡ true
+      data-head-kind e = there (λ k. isData (k .kind) ≡ true) d (and-fst (d .there) _ (sym p ∙ e)) (rw (h .ofDatas .head) (data-kinds τ (first bs n) (s .datas)))
+
+      module _ (e : x ≡ false) (z : Bool) (r : z ≡ (a .there && actFree τ (bankOf s (a .bank)) (s .a1) (s .a4) (commandOf a (s .cycle)))) where
+        pub goes-act : z ≡ true → goes τ (first bs n) s ≡ some (commandOf a (s .cycle))
+        goes-act v = sym (chosen-act τ a d (bankOf s (a .bank)) (bankOf s (d .bank)) (s .a1) (s .a4) (s .rd) (s .wr) (s .acts) (s .cycle) x p e z r v ∙ goes-chosen q h)
+
+        pub goes-none : z ≡ false → goes τ (first bs n) s ≡ none
+        goes-none v = sym (chosen-none τ a d (bankOf s (a .bank)) (bankOf s (d .bank)) (s .a1) (s .a4) (s .rd) (s .wr) (s .acts) (s .cycle) x p e z r v ∙ goes-chosen q h)
+
+        pub act-head-kind : z ≡ true → a .kind ≡ Act
+        act-head-kind v = there (λ k. k .kind ≡ Act) a (and-fst (a .there) _ (sym r ∙ v)) (rw (h .ofActs .head) (act-kinds τ (first bs n) (s .acts)))
+
+-- tests that stop at the first that fails
+pub and-both : (x y z : Bool) → (x && y) ≡ true → z ≡ (x && (y && z))
+and-both true true z e = refl
+and-both true false z e = true-false false e refl
+and-both false y z e = true-false false e refl
+
+pub and-neither : (x y z : Bool) → (x && y) ≡ false → false ≡ (x && (y && z))
+and-neither true true z e = true-false true refl e
+and-neither true false z e = refl
+and-neither false y z e = refl

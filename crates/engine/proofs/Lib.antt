@@ -1,5 +1,6 @@
 pub mod Laws
 pub mod Going
+pub mod InPlace
 pub mod Marks
 pub mod Finishing
 pub mod Schedule

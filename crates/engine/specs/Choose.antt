@@ -1,7 +1,6 @@
--- What goes of two heads, by the banks and the stamps that the rules read.
+-- What is tried of a head, by the bank and the stamps that the rules read.
 use Prim.Native.Nat.{ℕ}
 use mathlib.Core.Bool.{Bool}
-use mathlib.Core.Option.{Option, none, some}
 use Rattle.records.specs.Tests.{allOf}
 use Rattle.records.specs.declared.table.Table.{Table}
 use Rattle.records.specs.declared.command.Command.{Command}
@@ -11,15 +10,7 @@ use Rattle.rules.specs.declared.state.Bank.{Bank}
 use Rattle.rules.specs.Kinds.{isWr}
 use Rattle.rules.specs.Square.{square}
 use Rattle.rules.specs.State.{past, farBy, actTestsOf, dataTestsOf}
-use Rattle.rules.specs.CycleRule.{hadAct, legalAt, otherwise}
 use Rattle.heads.specs.declared.head.Head.{Head}
-use Rattle.heads.specs.Head.{dueOf}
-use Rattle.engine.specs.declared.choose.Go.{Go}
-use Rattle.engine.specs.declared.choose.Go.the-variants.{Nothing, Goes}
-
-abbrev pub goOf : Go → Option Command
-goOf Nothing = none
-goOf (Goes c) = some c
 
 -- the command of a head, at cycle t
 abbrev pub commandOf : Head → ℕ → Command
@@ -31,8 +22,3 @@ dataFree τ k rd wr c = allOf (dataTestsOf τ k (farBy (square τ) rd wr (isWr (
 
 abbrev pub actFree : Table → Bank → Stamp → Stamp → Command → Bool
 actFree τ k a1 a4 c = allOf (actTestsOf τ k (past a1 (τ .rrd) (c .cycle)) (past a4 (τ .faw) (c .cycle)) (c .cycle))
-
--- the cycle rule for the heads a and d, to the banks ka and kd, at cycle t, when `acts` have left the ACT queue
-abbrev pub chosen : Table → Head → Head → Bank → Bank → Stamp → Stamp → Stamp → Stamp → ℕ → ℕ → Option Command
-chosen τ a d ka kd a1 a4 rd wr acts t =
-    otherwise (legalAt (dataFree τ kd rd wr) t (hadAct acts (dueOf d))) (legalAt (actFree τ ka a1 a4) t (dueOf a))

@@ -1,5 +1,5 @@
 -- What a run asks for, and what it answers.
-use Prim.Native.Nat.{ℕ, _+_, _-_, _*_, _≤_, _<_, min}
+use Prim.Native.Nat.{ℕ, _+_, _-_, _*_, _≤_, min}
 use mathlib.Core.Path.{_≡_}
 use mathlib.Core.List.{List, []}
 use lib.ListN.{length}
@@ -13,19 +13,8 @@ use Rattle.rules.specs.Pattern.{onto}
 use Rattle.rules.specs.Queues.{actQueue, dataQueue}
 use Rattle.rules.specs.Run.{Ran}
 use Rattle.heads.specs.Queue.{Listed}
-use Rattle.engine.specs.declared.choose.Go.{Go}
-use Rattle.engine.specs.declared.choose.Go.the-variants.{Nothing, Goes}
+use Rattle.timing.specs.Kept.{told}
 use Rattle.engine.specs.declared.run.Ran as Answer
-
--- a state and what goes, small enough to be stepped
-pub record Small (s : State) : Type 0 where
-  pub acts : s .acts < 4294967295
-  pub datas : s .datas < 4294967295
-  pub cycle : s .cycle < 4294967296
-
-abbrev pub GoSmall : Go → Type 0
-GoSmall Nothing = Unit {0}
-GoSmall (Goes c) = c .bank < 16
 
 -- "commands left, which are what each queue still holds, counted queue by queue and added"
 abbrev pub commandsLeft : Table → List Transaction → State → ℕ
@@ -40,7 +29,7 @@ pub record Ready (τ : Table) (bs : List ℕ) (n : ℕ) (s : State) (count room 
 
 -- r is the answer, and b what the buffer holds after it was b₀: the commands, oldest first, and all beyond as it stood
 pub record Runs (o : Ran) (b₀ b : List ℕ) (r : Answer.Ran) : Type 0 where
-  pub state : r .state ≡ o .state
+  pub state : told (r .state) ≡ o .state
   pub cycles : r .cycles ≡ o .cycles
   pub commands : r .commands ≡ length (o .history)
   pub buffer : b ≡ over (bytesOfAll (onto (o .history) [])) b₀

@@ -2,8 +2,9 @@
 use crate::finish::finish_all;
 use crate::finish::mark;
 use crate::run::run;
+use heads::due::due;
 use records::table::Table;
-use rules::state::fresh_of;
+use timing::kept::kept_fresh;
 ghost use mathlib.Core.Path.{_≡_};
 ghost use Prim.Native.Nat.{_+_, _*_, _≤_};
 ghost use lib.ListN.{length};
@@ -29,8 +30,9 @@ pub fn build(t: Table, list: &[u8], n: usize, buffer: &mut [u8], finishes: &mut 
     requires { ⌜ Listed t (now list) n × (8 * (length (actQueue t (transactionsFrom (now list) n 0)) + length (dataQueue t (transactionsFrom (now list) n 0))) ≤ length (now buffer)) × (n ≤ length (now finishes)) ⌝ }
     ensures { λ r. ⌜ Builds t (transactionsFrom (now (list .entry)) n 0) (now (buffer .entry)) (now (buffer .exit)) (now (finishes .entry)) (now (finishes .exit)) r ⌝ }
 {
-    let start = fresh_of(t);
-    let r = run(t, list, n, start, enough(), buffer);
+    let all = due(t, list, n);
+    let start = kept_fresh(t.edition);
+    let r = run(t, list, n, all, start, enough(), buffer);
     mark(buffer, r.commands, finishes);
     finish_all(t, list, n, finishes);
     Schedule {

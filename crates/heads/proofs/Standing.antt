@@ -1,9 +1,10 @@
 -- What the proofs of the heads cite: what stands at a place that was found.
 -- Assumes nothing.
-use Prim.Native.Nat.{ℕ, _+_, _*_, _/_, _≤_, _<_}
+use Prim.Native.Nat.{ℕ, _+_, _-_, _*_, _/_, _≤_, _<_}
 use native.Mathlib.Omega.{arith}
-use native.Mathlib.Nat.{div-lt-iff-lt-mul}
+use native.Mathlib.Nat.{div-lt-iff-lt-mul, mod-eq-of-lt}
 use mathlib.Core.Path.{_≡_, refl, sym, ap, _∙_, subst}
+use mathlib.Core.Logic.{⊎-elim}
 use mathlib.Core.Bool.{Bool, true, false}
 use mathlib.Core.Option.{some}
 use mathlib.Core.List.{List}
@@ -13,7 +14,8 @@ use Rattle.records.specs.declared.table.Table.{Table}
 use Rattle.records.specs.declared.transaction.Transaction.{Transaction}
 use Rattle.records.specs.Table.{Accepted}
 use Rattle.records.specs.Transaction.{transactionAt, fits}
-use Rattle.rules.specs.Queues.{actQueue, headAfter}
+use Rattle.rules.specs.Queues.{bankAt, actQueue, headAfter}
+use Rattle.rules.proofs.Numbers.{round}
 use Rattle.rules.proofs.Ranges.{ranges}
 use Rattle.rules.proofs.Fit.{Inside, is-fit, act-bank, data-bank}
 use Rattle.rules.proofs.Queue.{placeOf, act-length}
@@ -91,3 +93,13 @@ start-placed τ bs n count = record { within = omega arith; before = omega (arit
 
 pub start-left : (τ : Table) (bs : List ℕ) (b : Bool) (count : ℕ) → length (queueOf b τ (first bs 0)) + count ≡ count
 start-left τ bs b count = omega (arith, queue-sum b τ (first bs 0), sum-none (countIn b) bs)
+
+-- the bank that comes k-th, by a subtraction at most
+module _ (τ : Table) (x : Transaction) (k : ℕ) (fit : fits τ x ≡ true) (low : k < x .bi) where
+  pub bank-on : x .start + k < τ .banks → x .start + k ≡ bankAt τ x k
+  bank-on l = sym (mod-eq-of-lt l)
+
+  pub bank-round : τ .banks ≤ x .start + k → x .start + k - τ .banks ≡ bankAt τ x k
+  bank-round l =
+      ⊎-elim (λ y. absurd (omega (arith, y .0))) (λ y. omega (arith, y))
+      (round (τ .banks) (x .start + k) (omega (arith, is-fit τ x fit .first, is-fit τ x fit .room)))

@@ -10,6 +10,7 @@ use Rattle.records.specs.declared.transaction.Transaction.{Transaction}
 use Rattle.records.specs.Table.{Accepted}
 use Rattle.records.specs.Transaction.{transactionAt, transactionsFrom, listFits}
 use Rattle.rules.specs.Queues.{Due, actQueue, dataQueue, headAfter}
+use Rattle.heads.specs.declared.due.Counts.{Counts}
 use Rattle.heads.specs.declared.queue.Place.{Place}
 use Rattle.heads.specs.declared.queue.Queue.{Queue}
 use Rattle.heads.specs.declared.queue.Queues.{Queues}
@@ -25,6 +26,10 @@ pub record Listed (τ : Table) (bs : List ℕ) (n : ℕ) : Type 0 where
 abbrev pub queueOf : Bool → Table → List Transaction → List Due
 queueOf true τ l = dataQueue τ l
 queueOf false τ l = actQueue τ l
+
+-- how many commands the list puts into each
+abbrev pub Counted : Table → List ℕ → ℕ → Counts → Type 0
+Counted τ bs n c = (c .acts ≡ length (actQueue τ (transactionsFrom bs n 0))) × (c .datas ≡ length (dataQueue τ (transactionsFrom bs n 0)))
 
 -- how many commands have left a queue that stands at a place
 abbrev pub leftAt : Table → List ℕ → Bool → Place → ℕ

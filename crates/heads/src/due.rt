@@ -2,11 +2,7 @@
 use crate::queue::size_in;
 use records::table::Table;
 use records::transaction::transaction_at;
-ghost use mathlib.Core.Path.{_≡_};
-ghost use lib.ListN.{length};
-ghost use Rattle.records.specs.Transaction.{transactionsFrom};
-ghost use Rattle.rules.specs.Queues.{actQueue, dataQueue};
-ghost use Rattle.heads.specs.Queue.{Listed};
+ghost use Rattle.heads.specs.Queue.{Listed, Counted};
 
 pub struct Counts {
     pub acts: u32,
@@ -15,7 +11,7 @@ pub struct Counts {
 
 pub fn due(t: Table, list: &[u8], n: usize) -> Counts
     requires { ⌜ Listed t (now list) n ⌝ }
-    ensures { λ r. ⌜ (r .acts ≡ length (actQueue t (transactionsFrom (now (list .entry)) n 0))) × (r .datas ≡ length (dataQueue t (transactionsFrom (now (list .entry)) n 0))) ⌝ }
+    ensures { λ r. ⌜ Counted t (now (list .entry)) n r ⌝ }
 {
     let mut k = 0;
     let mut acts: u32 = 0;

@@ -33,12 +33,18 @@ pub fn no_head() -> Head
     }
 }
 
-// The bank that comes k-th, from 0, with bank 0 after the last. Nothing else computes a bank.
+// The bank that comes k-th, from 0, with bank 0 after the last. Nothing else computes a bank. The sum is below twice the banks, so that the
+// remainder is one subtraction at most.
 pub fn bank_at(t: Table, x: Transaction, k: u32) -> u8
     requires { ⌜ Accepted t × (fits t x ≡ true) × (k < x .bi) ⌝ }
     ensures { λ r. ⌜ r ≡ bankAt t x k ⌝ }
 {
-    ((x.start as u32 + k) % t.banks as u32) as u8
+    let banks = t.banks as u32;
+    let past = x.start as u32 + k;
+    if past < banks {
+        return past as u8;
+    }
+    (past - banks) as u8
 }
 
 // The ACT of transaction x, number i, that `offset` of its ACTs come before; `before` stand before the transaction.

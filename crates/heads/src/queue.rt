@@ -4,20 +4,16 @@ use crate::head::Head;
 use crate::head::act_head;
 use crate::head::data_head;
 use crate::head::no_head;
-use records::command::Kind;
 use records::table::Table;
 use records::transaction::transaction_at;
-use timing::kinds::is_act;
 ghost use mathlib.Core.Path.{_≡_};
-ghost use mathlib.Core.Bool.{true, false, not};
+ghost use mathlib.Core.Bool.{true, false};
 ghost use Prim.Native.Nat.{_+_, _*_, _<_};
 ghost use Rattle.records.specs.Tests.{pick};
 ghost use Rattle.records.specs.Transaction.{transactionsFrom};
-ghost use Rattle.rules.specs.Kinds.{isAct};
-ghost use Rattle.rules.specs.State.{addIf};
 ghost use Rattle.rules.specs.Queues.{headAfter};
 ghost use Rattle.heads.specs.Head.{dueOf};
-ghost use Rattle.heads.specs.Queue.{Listed, queueOf, leftAt, Placed, Found, Stands, BothStand, actsLeft, datasLeft};
+ghost use Rattle.heads.specs.Queue.{Listed, queueOf, leftAt, Placed, Found, Stands, BothStand};
 
 // A place in a queue: a transaction's number, how many of its commands have left, and the ACTs of the transactions before it.
 pub struct Place {
@@ -145,25 +141,4 @@ pub fn queues_after(t: Table, list: &[u8], n: usize, acts: u32, datas: u32) -> Q
     let a = queue_after(t, list, n, false, acts);
     let d = queue_after(t, list, n, true, datas);
     Queues { acts: a, datas: d }
-}
-
-// Both queues after a command of a kind has left its own.
-pub fn leave(t: Table, list: &[u8], n: usize, q: Queues, kind: Kind) -> Queues
-    requires { ⌜ Listed t (now list) n × BothStand t (now list) n (actsLeft t (now list) q) (datasLeft t (now list) q) q × (actsLeft t (now list) q < 4294967295) × (datasLeft t (now list) q < 4294967295) ⌝ }
-    ensures { λ r. ⌜ BothStand t (now (list .entry)) n (addIf (isAct kind) (actsLeft t (now (list .entry)) q)) (addIf (not (isAct kind)) (datasLeft t (now (list .entry)) q)) r ⌝ }
-{
-    let a = q.acts;
-    let d = q.datas;
-    if is_act(kind) {
-        let next = advance(t, list, n, false, a);
-        return Queues {
-            acts: next,
-            datas: d,
-        };
-    }
-    let next = advance(t, list, n, true, d);
-    Queues {
-        acts: a,
-        datas: next,
-    }
 }

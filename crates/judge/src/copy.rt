@@ -1,15 +1,21 @@
 // One copy of a schedule, record by record.
-use broken::found::found_by;
+use broken::found::found_on;
+use broken::found::in_table;
 use commands::command::command_at;
 use records::table::Table;
 use records::tests::both_of;
 use records::tests::not_of;
-use rules::state::State;
 use rules::verdict::Found;
 use rules::verdict::Rule;
 use rules::verdict::Verdict;
-use timing::note::note_kind;
-use timing::tests::is_open;
+use timing::kept::Kept;
+use timing::kept::KeptBank;
+use timing::kept::either_64;
+use timing::kept::kept_after;
+use timing::kept::kept_open;
+use timing::kinds::is_act;
+use timing::kinds::is_closing;
+use timing::kinds::is_wr;
 ghost use mathlib.Core.Path.{_≡_};
 ghost use Prim.Native.Nat.{suc, _*_, _≤_, _<_};
 ghost use Rattle.records.specs.Tests.{pick};
@@ -20,12 +26,13 @@ ghost use Rattle.rules.specs.Square.{square};
 ghost use Rattle.rules.specs.Verdict.{judgeFrom};
 ghost use Rattle.rules.specs.Pattern.{copy};
 ghost use Rattle.rules.proofs.JudgeState.{Judging};
+ghost use Rattle.timing.specs.Kept.{told};
 ghost use Rattle.broken.specs.ByState.{shutBy};
 ghost use Rattle.judge.specs.Seen.{recordCount, whole};
 
 // The verdict on a copy, and the state after it.
 pub struct Copied {
-    pub state: State,
+    pub state: Kept,
     pub verdict: Verdict,
 }
 
@@ -38,16 +45,16 @@ pub fn shift_of(length: u32, k: u32) -> u64
 }
 
 // No bank of the table is open.
-pub fn all_shut(s: State, banks: u16) -> bool
+pub fn all_shut(s: Kept, banks: u16) -> bool
     requires { ⌜ banks ≤ 16 ⌝ }
-    ensures { λ r. ⌜ r ≡ shutBy s banks ⌝ }
+    ensures { λ r. ⌜ r ≡ shutBy (told s) banks ⌝ }
 {
     let n = banks as usize;
     let mut shut = true;
     let mut b: usize = 0;
     while b < n {
         let k = s.banks[b];
-        shut = both_of(not_of(is_open(k)), shut);
+        shut = both_of(not_of(kept_open(k)), shut);
         b = b + 1;
     }
     shut
@@ -64,15 +71,15 @@ pub fn end_of(shut: bool, count: u32) -> Verdict
     }
 }
 
-// Copy k + 1 of the schedule, after k copies that the state sums up.
-pub fn judge_copy(t: Table, q: [[u32; 2]; 2], s: &[u8], length: u32, k: u32, state: State) -> Copied
-    requires { ⌜ (t .banks ≤ 16) × (q ≡ square t) × (recordCount (now s) ≤ 69632) × (k < 5) × Judging (whole length (now s) k) state ⌝ }
+// Copy k + 1 of the schedule, after k copies that the state sums up. The state is a local that is changed in place, record by record.
+pub fn judge_copy(t: Table, q: [[u32; 2]; 2], s: &[u8], length: u32, k: u32, start: Kept) -> Copied
+    requires { ⌜ (t .banks ≤ 16) × (q ≡ square t) × (recordCount (now s) ≤ 69632) × (k < 5) × Judging (whole length (now s) k) (told start) ⌝ }
     ensures { λ r. ⌜ (r .verdict ≡ judgeFrom t (copy length (commandsIn (now (s .entry))) k) 0 (whole length (now (s .entry)) k))
-        × (r .verdict ≡ Accepted → Judging (whole length (now (s .entry)) (suc k)) (r .state)) ⌝ }
+        × (r .verdict ≡ Accepted → Judging (whole length (now (s .entry)) (suc k)) (told (r .state))) ⌝ }
 {
     let n = s.len() / 8;
     let shift = shift_of(length, k);
-    let mut state = state;
+    let mut state = start;
     let mut i: usize = 0;
     while i < n {
         let r = command_at(s, i * 8);
@@ -82,7 +89,26 @@ pub fn judge_copy(t: Table, q: [[u32; 2]; 2], s: &[u8], length: u32, k: u32, sta
         let next = i + 1;
         let number = i as u32;
         i = next;
-        match found_by(t, q, state, kind, c, b) {
+        if not_of(in_table(kind, b, t.banks)) {
+            return Copied {
+                state: state,
+                verdict: Verdict::Refused(Rule::Range, number),
+            };
+        }
+        let at = b as usize;
+        let bank = state.banks[at];
+        match found_on(
+            t,
+            q,
+            state.cycle,
+            bank,
+            state.a1,
+            state.a4,
+            state.rd,
+            state.wr,
+            kind,
+            c,
+        ) {
             Found::Broken(x) => {
                 return Copied {
                     state: state,
@@ -90,7 +116,27 @@ pub fn judge_copy(t: Table, q: [[u32; 2]; 2], s: &[u8], length: u32, k: u32, sta
                 };
             }
             Found::Fine => {
-                state = note_kind(state, kind, c, b);
+                let later = c + 1;
+                state.cycle = later;
+                if is_act(kind) {
+                    state.acts = state.acts + 1;
+                    state.banks[at] = KeptBank {
+                        opened: 1,
+                        act: later,
+                        rd: 0,
+                        wr: 0,
+                    };
+                    state.a4 = state.a3;
+                    state.a3 = state.a2;
+                    state.a2 = state.a1;
+                    state.a1 = later;
+                } else {
+                    let write = is_wr(kind);
+                    state.datas = state.datas + 1;
+                    state.banks[at] = kept_after(bank, write, is_closing(kind), later);
+                    state.rd = either_64(write, state.rd, later);
+                    state.wr = either_64(write, later, state.wr);
+                }
             }
         }
     }

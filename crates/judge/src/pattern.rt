@@ -4,9 +4,9 @@ use crate::answer::pattern_refusal;
 use crate::copy::judge_copy;
 use records::refusal::refuse;
 use records::table::Table;
-use rules::state::fresh_of;
 use rules::verdict::PatternVerdict;
 use rules::verdict::Verdict;
+use timing::kept::kept_fresh;
 use timing::square::distances;
 ghost use mathlib.Core.Path.{_≡_};
 ghost use Prim.Native.Nat.{_≤_};
@@ -21,7 +21,7 @@ pub fn judge_five(t: Table, s: &[u8], length: u32) -> PatternVerdict
     ensures { λ r. ⌜ r ≡ copies t length (commandsIn (now (s .entry))) 5 ⌝ }
 {
     let q = distances(t);
-    let mut state = fresh_of(t);
+    let mut state = kept_fresh(t.edition);
     let mut k: u32 = 0;
     while k < 5 {
         let o = judge_copy(t, q, s, length, k, state);

@@ -4,7 +4,7 @@ use crate::answer::schedule_refusal;
 use crate::copy::judge_copy;
 use records::refusal::refuse;
 use records::table::Table;
-use rules::state::fresh_of;
+use timing::kept::kept_fresh;
 use timing::square::distances;
 ghost use mathlib.Core.Path.{_≡_};
 ghost use Prim.Native.Nat.{_≤_};
@@ -19,7 +19,7 @@ pub fn judge_schedule(t: Table, s: &[u8]) -> Judged
     if z != 0 {
         return Judged::Refused(refuse(z, 0, t.edition));
     }
-    let o = judge_copy(t, distances(t), s, 0, 0, fresh_of(t));
+    let o = judge_copy(t, distances(t), s, 0, 0, kept_fresh(t.edition));
     let v = o.verdict;
     Judged::Verdict(t.edition, v)
 }

@@ -50,3 +50,10 @@ module _ {A : Type 0} (f : A → Bool) where
   every-more l k x h =
       rw (add-one k, take-suc l k x h, every-append (take k l) (getD l k x ∷ []))
       (ap (λ (t : Bool). every f (take k l) && t) (and-true (f (getD l k x))))
+
+-- of what is told of each
+pub every-told : {A B : Type 0} (f : B → Bool) (g : A → B) (l : List A) (k : ℕ) (x : A) → k < length l
+    → every f (take (k + 1) (map g l)) ≡ (every f (take k (map g l)) && f (g (getD l k x)))
+every-told f g l k x h =
+    every-more f (map g l) k (g x) (omega (arith, length-map l g))
+    ∙ ap (λ (y : _). every f (take k (map g l)) && f y) (List·getD-map g l k x)

@@ -1,13 +1,13 @@
 // Numbers 5 and 9 of a run.
 use crate::stored::banks_before;
 use crate::stored::last_before;
-use heads::due::due;
+use heads::due::Counts;
 use heads::queue::queue_after;
 use records::refusal::first_failed;
 use records::table::Table;
 use records::tests::both_of;
 use records::tests::not_of;
-use rules::state::State;
+use timing::kept::Kept;
 use timing::square::less;
 use timing::square::wide;
 ghost use mathlib.Core.Path.{_≡_};
@@ -17,7 +17,8 @@ ghost use Prim.Native.Nat.{_+_, _-_, _*_, min, _≤_};
 ghost use lib.Dec.{ltb};
 ghost use Rattle.records.specs.Told.{firstFailed};
 ghost use Rattle.records.specs.Transaction.{transactionsFrom};
-ghost use Rattle.heads.specs.Queue.{Listed};
+ghost use Rattle.heads.specs.Queue.{Listed, Counted};
+ghost use Rattle.timing.specs.Kept.{told};
 ghost use Rattle.refusals.specs.Refused.{roomShort, goneBacked, soundBy, runRefusal};
 
 pub fn lesser(a: u64, b: u64) -> u64
@@ -62,16 +63,16 @@ pub fn is_backed(t: Table, list: &[u8], n: usize, acts: u32, datas: u32) -> bool
 }
 
 // Number 9 does not apply: `due` ACTs stand in the queue, and `gone` tells of the data commands gone.
-pub fn is_sound(t: Table, s: State, due: u32, gone: bool) -> bool
+pub fn is_sound(t: Table, s: Kept, due: u32, gone: bool) -> bool
     requires { ⌜ t .banks ≤ 16 ⌝ }
-    ensures { λ r. ⌜ r ≡ soundBy t s due gone ⌝ }
+    ensures { λ r. ⌜ r ≡ soundBy t (told s) due gone ⌝ }
 {
     let now = s.cycle;
     let started = s.edition;
     let edition = wide(t.edition);
     let ks = s.banks;
     let banks = banks_before(ks, t.banks, now);
-    let last = last_before(s, now);
+    let last = last_before(s.a1, s.a2, s.a3, s.a4, s.rd, s.wr, now);
     let counts = both_of(s.acts <= due, gone);
     let stored = both_of(banks, both_of(last, counts));
     both_of(now < 100000000, both_of(started == edition, stored))
@@ -87,14 +88,21 @@ pub fn run_refusal(room: usize, count: u32, left: u64, sound: bool) -> u8
     first_failed(5, short, 9, unsound)
 }
 
-// The number by which a run from what a state tells is refused, 0 where it is not.
-pub fn refusal_of(t: Table, list: &[u8], n: usize, s: State, count: u32, room: usize) -> u8
-    requires { ⌜ Listed t (now list) n ⌝ }
-    ensures { λ r. ⌜ r ≡ runRefusal t (transactionsFrom (now (list .entry)) n 0) s count room ⌝ }
+// The number by which a run from what a state tells is refused, 0 where it is not; `all` is what the list puts into the two queues.
+pub fn refusal_of(
+    t: Table,
+    list: &[u8],
+    n: usize,
+    all: Counts,
+    s: Kept,
+    count: u32,
+    room: usize,
+) -> u8
+    requires { ⌜ Listed t (now list) n × Counted t (now list) n all ⌝ }
+    ensures { λ r. ⌜ r ≡ runRefusal t (transactionsFrom (now (list .entry)) n 0) (told s) count room ⌝ }
 {
-    let counts = due(t, list, n);
-    let left = left_of(counts.acts, counts.datas, s.acts, s.datas);
+    let left = left_of(all.acts, all.datas, s.acts, s.datas);
     let gone = is_backed(t, list, n, s.acts, s.datas);
-    let sound = is_sound(t, s, counts.acts, gone);
+    let sound = is_sound(t, s, all.acts, gone);
     run_refusal(room, count, left, sound)
 }

@@ -1,28 +1,27 @@
 // The stored command cycles of a state, each of which is before the state's own cycle unless number 9 refuses it.
 use records::tests::both_of;
-use rules::state::Bank;
-use rules::state::State;
-use timing::tests::is_past;
+use timing::kept::KeptBank;
+use timing::kept::since;
 ghost use mathlib.Core.Path.{_≡_};
+ghost use mathlib.Core.List.{[], _∷_, map};
 ghost use Prim.Native.Nat.{_≤_};
-ghost use Rattle.refusals.specs.Refused.{bankBefore, banksBefore, lastBefore};
+ghost use Rattle.records.specs.Tests.{every};
+ghost use Rattle.timing.specs.Kept.{stampOf, toldBank};
+ghost use Rattle.refusals.specs.Refused.{before, bankBefore, banksBefore};
 
-pub fn bank_before(k: Bank, t: u64) -> bool
-    ensures { λ r. ⌜ r ≡ bankBefore t k ⌝ }
+pub fn bank_before(k: KeptBank, t: u64) -> bool
+    ensures { λ r. ⌜ r ≡ bankBefore t (toldBank k) ⌝ }
 {
-    let act = k.act;
-    let rd = k.rd;
-    let wr = k.wr;
     both_of(
-        is_past(act, 1, t),
-        both_of(is_past(rd, 1, t), is_past(wr, 1, t)),
+        since(k.act, 1, t),
+        both_of(since(k.rd, 1, t), since(k.wr, 1, t)),
     )
 }
 
 // Of the first n banks.
-pub fn banks_before(ks: [Bank; 16], n: u16, t: u64) -> bool
+pub fn banks_before(ks: [KeptBank; 16], n: u16, t: u64) -> bool
     requires { ⌜ n ≤ 16 ⌝ }
-    ensures { λ r. ⌜ r ≡ banksBefore t n ks ⌝ }
+    ensures { λ r. ⌜ r ≡ banksBefore t n (map toldBank ks) ⌝ }
 {
     let end = n as usize;
     let mut before = true;
@@ -35,16 +34,10 @@ pub fn banks_before(ks: [Bank; 16], n: u16, t: u64) -> bool
 }
 
 // Of the four ACTs, the last RD and the last WR of all.
-pub fn last_before(s: State, t: u64) -> bool
-    ensures { λ r. ⌜ r ≡ lastBefore t s ⌝ }
+pub fn last_before(a1: u64, a2: u64, a3: u64, a4: u64, rd: u64, wr: u64, t: u64) -> bool
+    ensures { λ r. ⌜ r ≡ every (before t) (stampOf a1 ∷ stampOf a2 ∷ stampOf a3 ∷ stampOf a4 ∷ stampOf rd ∷ stampOf wr ∷ []) ⌝ }
 {
-    let a1 = s.a1;
-    let a2 = s.a2;
-    let a3 = s.a3;
-    let a4 = s.a4;
-    let rd = s.rd;
-    let wr = s.wr;
-    let datas = both_of(is_past(rd, 1, t), is_past(wr, 1, t));
-    let older = both_of(is_past(a3, 1, t), both_of(is_past(a4, 1, t), datas));
-    both_of(is_past(a1, 1, t), both_of(is_past(a2, 1, t), older))
+    let datas = both_of(since(rd, 1, t), since(wr, 1, t));
+    let older = both_of(since(a3, 1, t), both_of(since(a4, 1, t), datas));
+    both_of(since(a1, 1, t), both_of(since(a2, 1, t), older))
 }

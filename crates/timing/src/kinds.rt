@@ -3,6 +3,7 @@ use records::command::Kind;
 ghost use mathlib.Core.Path.{_≡_};
 ghost use Rattle.rules.specs.Kinds.{isAct, isWr, isData, isKnown};
 ghost use Rattle.rules.specs.Queues.{dataKind};
+ghost use Rattle.timing.specs.Kept.{isClosing};
 
 pub fn is_act(k: Kind) -> bool
     ensures { λ r. ⌜ r ≡ isAct k ⌝ }
@@ -51,6 +52,20 @@ pub fn is_known(k: Kind) -> bool
         Kind::Rd => true,
         Kind::Rda => true,
         Kind::Wr => true,
+        Kind::Wra => true,
+        Kind::Other(_) => false,
+    }
+}
+
+// With auto precharge.
+pub fn is_closing(k: Kind) -> bool
+    ensures { λ r. ⌜ r ≡ isClosing k ⌝ }
+{
+    match k {
+        Kind::Act => false,
+        Kind::Rd => false,
+        Kind::Rda => true,
+        Kind::Wr => false,
         Kind::Wra => true,
         Kind::Other(_) => false,
     }

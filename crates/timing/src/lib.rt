@@ -1,5 +1,4 @@
 // The timing rules in code: the distances, the rules read off a state, and the state after a command.
+pub mod kept;
 pub mod kinds;
-pub mod note;
 pub mod square;
-pub mod tests;

@@ -1,4 +1,5 @@
 use borrow.Author.Needs.{needs}
+use Rattle.timing.specs.Kept.{stampOf, toldBank}
 use Rattle.broken.proofs.Laws.{act-order}
 use Rattle.broken.proofs.found.act_found.Statement.{statement}
 use Rattle.broken.proofs.found.act_found.Tie as tie
@@ -6,7 +7,7 @@ use Rattle.broken.proofs.found.act_found.Tie as tie
 returns : tie.Need-returns
 returns c =
     let a = c .before .before .before .before .before .before .before .before .before .before .before .before .before .before .args in
-    rw (c .unless5 .ensures, c .before .not-of .ensures, c .before .before .is-open .ensures, c .before .before .before .unless4 .ensures, c .before .before .before .before .is-charged .ensures, c .before .before .before .before .before .unless3 .ensures, c .before .before .before .before .before .before .is-past3 .ensures, c .before .before .before .before .before .before .before .wide3 .ensures, c .before .before .before .before .before .before .before .before .unless2 .ensures, c .before .before .before .before .before .before .before .before .before .is-past2 .ensures, c .before .before .before .before .before .before .before .before .before .before .wide2 .ensures, c .before .before .before .before .before .before .before .before .before .before .before .unless .ensures, c .before .before .before .before .before .before .before .before .before .before .before .before .is-past .ensures, c .before .before .before .before .before .before .before .before .before .before .before .before .before .wide .ensures) (act-order (a .t) (a .k) (a .a1) (a .a4) (a .c))
+    rw (c .unless5 .ensures, c .before .not-of .ensures, c .before .before .kept-open .ensures, c .before .before .before .unless4 .ensures, c .before .before .before .before .kept-charged .ensures, c .before .before .before .before .before .unless3 .ensures, c .before .before .before .before .before .before .since3 .ensures, c .before .before .before .before .before .before .before .wide3 .ensures, c .before .before .before .before .before .before .before .before .unless2 .ensures, c .before .before .before .before .before .before .before .before .before .since2 .ensures, c .before .before .before .before .before .before .before .before .before .before .wide2 .ensures, c .before .before .before .before .before .before .before .before .before .before .before .unless .ensures, c .before .before .before .before .before .before .before .before .before .before .before .before .since .ensures, c .before .before .before .before .before .before .before .before .before .before .before .before .before .wide .ensures) (act-order (a .t) (toldBank (a .k)) (stampOf (a .a1)) (stampOf (a .a4)) (a .c))
 
 pub act-found-spec : {M : Type 1} → statement M
 act-found-spec = tie.close (tie.spec (λ c κs. search needs) (λ c κs. search needs) (λ c κs. search needs) (λ c κs. search needs) (λ c κs. search needs) (λ c κs. search needs) (λ c κs. search needs) (λ c κs. search needs) (λ c κs. search needs) (λ c κs. search needs) (λ c κs. search needs) (λ c κs. search needs) (λ c κs. search needs) (λ c κs. search needs) returns)

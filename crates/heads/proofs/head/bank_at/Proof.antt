@@ -1,15 +1,22 @@
 use borrow.Author.Needs.{needs}
 use native.Mathlib.Omega.{arith}
 use Rattle.rules.proofs.Ranges.{ranges}
-use Rattle.rules.proofs.Fit.{is-fit, bank-lt}
+use Rattle.rules.proofs.Fit.{is-fit}
+use Rattle.heads.proofs.Standing.{bank-on, bank-round}
 use Rattle.heads.proofs.head.bank_at.Statement.{statement}
 use Rattle.heads.proofs.head.bank_at.Tie as tie
 
-rem-result : tie.Need-rem-result
-rem-result c = omega (arith, ranges (c .before .before .args .t) (c .before .before .pre .0) .banks .least)
+cast-result : tie.Need-cast-result
+cast-result c = let s = c .before .before .before in omega (arith, ranges (s .args .t) (s .pre .0) .banks .most, c .if1 .taken)
 
-cast-result-3 : tie.Need-cast-result-3
-cast-result-3 c = omega (arith, ranges (c .before .before .args .t) (c .before .before .pre .0) .banks .most, bank-lt (c .before .before .args .t) (c .before .before .args .x) (is-fit (c .before .before .args .t) (c .before .before .args .x) (c .before .before .pre .1)) (c .before .before .args .k) (c .before .before .pre .2))
+returns : tie.Need-returns
+returns c = let s = c .before .before .before in bank-on (s .args .t) (s .args .x) (s .args .k) (s .pre .1) (s .pre .2) (c .if1 .taken)
+
+cast-result-2 : tie.Need-cast-result-2
+cast-result-2 c = let s = c .before .before .before in let fit = is-fit (s .args .t) (s .args .x) (s .pre .1) in omega (arith, ranges (s .args .t) (s .pre .0) .banks .most, fit .first, fit .room, s .pre .2)
+
+returns-2 : tie.Need-returns-2
+returns-2 c = let s = c .before .before .before in bank-round (s .args .t) (s .args .x) (s .args .k) (s .pre .1) (s .pre .2) (c .if1 .left)
 
 pub bank-at-spec : {M : Type 1} → statement M
-bank-at-spec = tie.close (tie.spec (λ c. search needs) (λ c. search needs) (λ c. search needs) rem-result cast-result-3 (λ c. search needs))
+bank-at-spec = tie.close (tie.spec (λ c. search needs) (λ c. search needs) (λ c. search needs) cast-result returns cast-result-2 returns-2)

@@ -1,12 +1,14 @@
 use borrow.Author.Needs.{needs}
 use native.Mathlib.Omega.{arith}
 use Prim.Native.Nat.{_-_}
+use Rattle.timing.specs.Kept.{told}
+use Rattle.timing.proofs.Telling.{told-fresh}
 use Rattle.judge.proofs.FiveCopies.{Round, round-start, round-stops, round-next, round-end}
 use Rattle.judge.proofs.pattern.judge_five.Statement.{statement}
 use Rattle.judge.proofs.pattern.judge_five.Tie as tie
 
 abbrev Inv-loop : tie.InvT-loop
-Inv-loop t s length q state₀ k₀ state k = Round t length s k state
+Inv-loop t s length q state₀ k₀ state k = Round t length s k (told state)
 
 abbrev μ-loop : tie.MeasureT-loop
 μ-loop t s length q state₀ k₀ state k = 5 - k
@@ -14,7 +16,7 @@ abbrev μ-loop : tie.MeasureT-loop
 loop-holds : tie.Need-loop-holds Inv-loop μ-loop
 loop-holds c =
     let a = c .before .before .before .args in
-    rw (c .fresh-of .ensures) (round-start (a .t) (a .length) (a .s .now))
+    rw (c .kept-fresh .ensures, told-fresh (a .t)) (round-start (a .t) (a .length) (a .s .now))
 
 judge-copy-requires : tie.Need-judge-copy-requires Inv-loop μ-loop
 judge-copy-requires c κs = (c .before .before .before .before .before .pre .0, c .before .before .before .distances .ensures, c .before .before .before .before .before .pre .1, omega arith, c .before .loop .inv .judging)

@@ -10,6 +10,7 @@ use Rattle.records.specs.Command.{commandsIn}
 use Rattle.records.proofs.Laws.{refuses, answers}
 use Rattle.rules.specs.Verdict.{judgeFrom}
 use Rattle.rules.proofs.JudgeState.{judging-fresh}
+use Rattle.timing.proofs.Telling.{told-fresh}
 use Rattle.judge.specs.declared.answer.Judged.the-variants.{Verdict, Refused}
 use Rattle.judge.specs.Answer.{judged}
 use Rattle.judge.proofs.Laws.{few}
@@ -22,7 +23,7 @@ unfolding judged
 returns c = ap Refused (c .refuse .ensures) ∙ refuses _ _ (c .before .before .schedule-refusal .ensures) _ (λ n. Refused (refusal n 0 (c .before .before .before .before .args .t .edition))) (c .before .if1 .taken)
 
 judge-copy-requires : tie.Need-judge-copy-requires
-judge-copy-requires c κs = (c .before .before .before .before .before .pre, c .before .distances .ensures, few (length (now (c .before .before .before .before .before .args .s))) [] (sym (c .before .before .before .schedule-refusal .ensures) ∙ c .before .before .if1 .left), omega arith, rw (c .fresh-of .ensures) (judging-fresh (c .before .before .before .before .before .args .t)))
+judge-copy-requires c κs = (c .before .before .before .before .before .pre, c .before .distances .ensures, few (length (now (c .before .before .before .before .before .args .s))) [] (sym (c .before .before .before .schedule-refusal .ensures) ∙ c .before .before .if1 .left), omega arith, rw (c .kept-fresh .ensures, told-fresh (c .before .before .before .before .before .args .t)) (judging-fresh (c .before .before .before .before .before .args .t)))
 
 returns-2 : tie.Need-returns-2
 unfolding judged

@@ -1,15 +1,16 @@
 use borrow.Author.Needs.{needs}
 use Rattle.rules.proofs.Ranges.{ranges}
+use Rattle.timing.specs.Kept.{told}
 use Rattle.refusals.specs.Refused.{runRefusal, sound}
 use Rattle.refusals.proofs.refused.refusal_of.Statement.{statement}
 use Rattle.refusals.proofs.refused.refusal_of.Tie as tie
 
 is-sound-requires : tie.Need-is-sound-requires
-is-sound-requires c κs = ranges (c .before .before .before .before .args .t) (c .before .before .before .before .pre .table) .banks .most
+is-sound-requires c κs = ranges (c .before .before .before .args .t) (c .before .before .before .pre .0 .table) .banks .most
 
 returns : tie.Need-returns
-unfolding runRefusal sound
-returns c = rw (c .run-refusal .ensures, c .before .is-sound .ensures, c .before .before .is-backed .ensures, c .before .before .before .left-of .ensures, c .before .before .before .before .due .ensures .0, c .before .before .before .before .due .ensures .1)
+unfolding runRefusal sound told
+returns c = rw (c .run-refusal .ensures, c .before .is-sound .ensures, c .before .before .is-backed .ensures, c .before .before .before .left-of .ensures, c .before .before .before .before .before .pre .1 .0, c .before .before .before .before .before .pre .1 .1)
 
 pub refusal-of-spec : {M : Type 1} → statement M
-refusal-of-spec = tie.close (tie.spec (λ c κs. search needs) (λ c κs. search needs) (λ c κs. search needs) is-sound-requires (λ c κs. search needs) returns)
+refusal-of-spec = tie.close (tie.spec (λ c κs. search needs) (λ c κs. c .before .before .pre .0) is-sound-requires (λ c κs. search needs) returns)

@@ -2,21 +2,22 @@ use borrow.Author.Needs.{needs}
 use native.Mathlib.Omega.{arith}
 use Prim.Native.Nat.{_-_, _≤_}
 use mathlib.Core.Path.{_≡_, refl, sym, _∙_}
+use mathlib.Core.List.{map}
 use lib.ListN.{length}
-use Rattle.rules.specs.State.{shut}
+use Rattle.timing.specs.Kept.{toldBank, shutKept}
 use Rattle.refusals.specs.Refused.{bankBefore, banksBefore}
-use Rattle.refusals.proofs.Laws.{every-more}
+use Rattle.refusals.proofs.Laws.{every-told}
 use Rattle.refusals.proofs.stored.banks_before.Statement.{statement}
 use Rattle.refusals.proofs.stored.banks_before.Tie as tie
 
 abbrev Inv-loop : tie.InvT-loop
-Inv-loop n t ks end before₀ k₀ before k = (k ≤ end) × (before ≡ banksBefore t k ks)
+Inv-loop n t ks end before₀ k₀ before k = (k ≤ end) × (before ≡ banksBefore t k (map toldBank ks))
 
 abbrev μ-loop : tie.MeasureT-loop
 μ-loop n t ks end before₀ k₀ before k = end - k
 
 loop-again : tie.Need-loop-again Inv-loop μ-loop
-loop-again c = let z : length (c .before .before .before .before .before .args .t1) ≡ 16 = c .before .before .before .before .before .good .0 .1 .0 .1 in (omega (arith, c .before .before .before .loop-test .taken), c .both-of .ensures ∙ rw (c .before .bank-before .ensures, c .before .before .before .before .loop .inv .1) (sym (every-more (bankBefore (c .before .before .before .before .before .args .t)) (c .before .before .before .before .before .args .t1) (c .before .before .before .before .loop .k) shut (omega (arith, z, c .before .before .before .loop-test .taken)))))
+loop-again c = let z : length (c .before .before .before .before .before .args .t1) ≡ 16 = c .before .before .before .before .before .good .0 .1 .0 .1 in (omega (arith, c .before .before .before .loop-test .taken), c .both-of .ensures ∙ rw (c .before .bank-before .ensures, c .before .before .before .before .loop .inv .1) (sym (every-told (bankBefore (c .before .before .before .before .before .args .t)) toldBank (c .before .before .before .before .before .args .t1) (c .before .before .before .before .loop .k) shutKept (omega (arith, z, c .before .before .before .loop-test .taken)))))
 
 returns : tie.Need-returns Inv-loop μ-loop
 returns c = let e : c .before .loop .k ≡ c .before .before .args .n = omega (arith, c .before .loop .inv .0) in rw e at (c .before .loop .inv .1)

@@ -1,0 +1,171 @@
+// The running state in plain numbers, for a loop that keeps it in a local and changes it in place: numbers and elements are stored to, and the
+// tests are handed numbers and one bank. What it tells is `told`, of which a loop's invariant speaks.
+use crate::square::cell_of;
+use crate::square::side_of;
+use crate::square::sum_2;
+use crate::square::sum_4;
+use crate::square::wide;
+use records::table::Table;
+ghost use mathlib.Core.Path.{_≡_};
+ghost use Prim.Native.Nat.{_+_, _<_};
+ghost use Rattle.records.specs.Tests.{pick, allOf};
+ghost use Rattle.rules.specs.State.{past, isOpen, charged, farBy, actTestsOf, dataTestsOf};
+ghost use Rattle.timing.specs.Kept.{stampOf, toldBank, shutKept, keptFresh, keptAfter};
+
+// A bank. A stamp is 0 for "never", and else the cycle after it.
+pub struct KeptBank {
+    pub opened: u32,
+    pub act: u64,
+    pub rd: u64,
+    pub wr: u64,
+}
+
+pub struct Kept {
+    pub edition: u32,
+    pub cycle: u64,
+    pub acts: u32,
+    pub datas: u32,
+    pub banks: [KeptBank; 16],
+    pub a1: u64,
+    pub a2: u64,
+    pub a3: u64,
+    pub a4: u64,
+    pub rd: u64,
+    pub wr: u64,
+}
+
+pub fn kept_fresh(edition: u16) -> Kept
+    ensures { λ r. ⌜ r ≡ keptFresh edition ⌝ }
+{
+    let shut = KeptBank {
+        opened: 0,
+        act: 0,
+        rd: 0,
+        wr: 0,
+    };
+    Kept {
+        edition: edition as u32,
+        cycle: 0,
+        acts: 0,
+        datas: 0,
+        banks: [shut; 16],
+        a1: 0,
+        a2: 0,
+        a3: 0,
+        a4: 0,
+        rd: 0,
+        wr: 0,
+    }
+}
+
+// Cycle t is at least d after the stamp. Nothing wraps, whatever the stamp.
+pub fn since(s: u64, d: u32, t: u64) -> bool
+    ensures { λ r. ⌜ r ≡ past (stampOf s) d t ⌝ }
+{
+    if s == 0 {
+        return true;
+    }
+    let c = s - 1;
+    if t < c {
+        return false;
+    }
+    d as u64 <= t - c
+}
+
+pub fn kept_open(k: KeptBank) -> bool
+    ensures { λ r. ⌜ r ≡ isOpen (toldBank k) ⌝ }
+{
+    k.opened != 0
+}
+
+// Rule 4. The tests below stop at the first that fails, the likeliest first.
+pub fn kept_charged(t: Table, k: KeptBank, c: u64) -> bool
+    ensures { λ r. ⌜ r ≡ charged t (toldBank k) c ⌝ }
+{
+    if since(k.wr, sum_4(t.wl, t.b, t.wr, t.rp), c) {
+        if since(k.rd, sum_2(t.rtp, t.rp), c) {
+            return since(k.act, sum_2(t.ras, t.rp), c);
+        }
+        return false;
+    }
+    false
+}
+
+// Rule 9.
+pub fn kept_far(q: [[u32; 2]; 2], rd: u64, wr: u64, write: bool, c: u64) -> bool
+    ensures { λ r. ⌜ r ≡ farBy q (stampOf rd) (stampOf wr) write c ⌝ }
+{
+    let w = side_of(write);
+    if since(rd, cell_of(q, 0, w), c) {
+        return since(wr, cell_of(q, 1, w), c);
+    }
+    false
+}
+
+// An ACT to bank k at cycle c breaks none of rules 3 to 9; a1 and a4 are the newest and the fourth ACT before it.
+pub fn kept_act_free(t: Table, k: KeptBank, a1: u64, a4: u64, c: u64) -> bool
+    ensures { λ r. ⌜ r ≡ allOf (actTestsOf t (toldBank k) (past (stampOf a1) (t .rrd) c) (past (stampOf a4) (t .faw) c) c) ⌝ }
+{
+    if kept_open(k) {
+        return false;
+    }
+    if since(a4, wide(t.faw), c) {
+        if since(a1, wide(t.rrd), c) {
+            if kept_charged(t, k, c) {
+                return since(k.act, wide(t.rc), c);
+            }
+            return false;
+        }
+        return false;
+    }
+    false
+}
+
+// A data command to bank k at cycle c, a write or not, breaks none of rules 3 to 9.
+pub fn kept_data_free(
+    t: Table,
+    q: [[u32; 2]; 2],
+    k: KeptBank,
+    rd: u64,
+    wr: u64,
+    write: bool,
+    c: u64,
+) -> bool
+    ensures { λ r. ⌜ r ≡ allOf (dataTestsOf t (toldBank k) (farBy q (stampOf rd) (stampOf wr) write c) c) ⌝ }
+{
+    if kept_far(q, rd, wr, write, c) {
+        if kept_open(k) {
+            return since(k.act, wide(t.rcd), c);
+        }
+        return false;
+    }
+    false
+}
+
+// One of two numbers.
+pub fn either_64(first: bool, a: u64, b: u64) -> u64
+    ensures { λ r. ⌜ r ≡ pick first a b ⌝ }
+{
+    if first { a } else { b }
+}
+
+pub fn open_unless(closes: bool) -> u32
+    ensures { λ r. ⌜ r ≡ pick closes 0 1 ⌝ }
+{
+    if closes { 0 } else { 1 }
+}
+
+// A bank after a data command, a write or not, with auto precharge or not; `next` is the cycle after it.
+pub fn kept_after(k: KeptBank, write: bool, closes: bool, next: u64) -> KeptBank
+    ensures { λ r. ⌜ r ≡ keptAfter k write closes next ⌝ }
+{
+    let opened = open_unless(closes);
+    let rd = either_64(write, k.rd, next);
+    let wr = either_64(write, next, k.wr);
+    KeptBank {
+        opened: opened,
+        act: k.act,
+        rd: rd,
+        wr: wr,
+    }
+}
