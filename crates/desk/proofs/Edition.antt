@@ -17,7 +17,7 @@ use Rattle.records.specs.declared.refusal.Refusal.{Refusal}
 use Rattle.records.specs.Tests.{pick}
 use Rattle.records.specs.Told.{refusal, firstFailed}
 use Rattle.records.specs.Table.{tableAt, inRange, tableRefusal, readTable, Accepted}
-use Rattle.records.specs.Transaction.{transactionsIn, fitsIn}
+use Rattle.records.specs.Transaction.{transactionsIn, fits}
 use Rattle.records.specs.Command.{commandsIn}
 use Rattle.records.proofs.Laws.{read-was, table-size}
 use Rattle.rules.specs.Verdict.{judge}
@@ -124,13 +124,13 @@ admits e s τ r =
 -- ---- the check of a list names the table's edition
 
 module _ (τ : Table) (x : Refusal) where
-  range-names : (l : List Transaction) (k : ℕ) → rangeFrom (τ .banks) (τ .edition) l k ≡ NotFine x → x .edition ≡ τ .edition
+  range-names : (l : List Transaction) (k : ℕ) → rangeFrom (τ .banks) (τ .rfc) (τ .edition) l k ≡ NotFine x → x .edition ≡ τ .edition
   unfolding rangeFrom
   range-names [] k e = let z : _≡_ {A = ℕ} 0 1 = cc in absurd (omega arith)
-  range-names (t ∷ l) k e = on (fitsIn (τ .banks) t) e (range-names l (k + 1))
+  range-names (t ∷ l) k e = on (fits τ t) e (range-names l (k + 1))
     where
-      on : (b : Bool) → pick b (rangeFrom (τ .banks) (τ .edition) l (k + 1)) (NotFine (refusal 4 k (τ .edition))) ≡ NotFine x
-          → (rangeFrom (τ .banks) (τ .edition) l (k + 1) ≡ NotFine x → x .edition ≡ τ .edition) → x .edition ≡ τ .edition
+      on : (b : Bool) → pick b (rangeFrom (τ .banks) (τ .rfc) (τ .edition) l (k + 1)) (NotFine (refusal 4 k (τ .edition))) ≡ NotFine x
+          → (rangeFrom (τ .banks) (τ .rfc) (τ .edition) l (k + 1) ≡ NotFine x → x .edition ≡ τ .edition) → x .edition ≡ τ .edition
       on true e ih = ih e
       on false e ih = let w : refusal 4 k (τ .edition) ≡ x = cc in ap (λ (y : Refusal). y .edition) (sym w)
 

@@ -18,7 +18,7 @@ pub struct Bank {
 }
 
 // `cycle` is the next to be tried; `acts` and `datas` have left the two queues; `a1` to `a4` are the cycles of the last four ACTs, newest
-// first; `rd` and `wr` those of the last RD and the last WR of all.
+// first; `rd` and `wr` those of the last RD and the last WR of all; `refresh` that of the last REF.
 pub struct State {
     pub edition: u32,
     pub cycle: u64,
@@ -31,6 +31,7 @@ pub struct State {
     pub a4: Stamp,
     pub rd: Stamp,
     pub wr: Stamp,
+    pub refresh: Stamp,
 }
 
 // "A fresh state has the table's edition, cycle 0, all banks closed and "never" throughout."
@@ -55,5 +56,6 @@ pub fn fresh_of(t: Table) -> State
         a4: Stamp::Never,
         rd: Stamp::Never,
         wr: Stamp::Never,
+        refresh: Stamp::Never,
     }
 }
