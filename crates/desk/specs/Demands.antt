@@ -96,12 +96,17 @@ pub record Demand1 (expected : ℕ) (table : List ℕ) : Type 0 where
   pub runBytes : (c : Controller) (s : List ℕ) (n : ℕ) (b : List ℕ)
       → runNumbers (running (λ τ. checkBytes τ s) (admitted expected table) c (transactionsIn s) n b .told .answer) .edition ≡ editionOf (readTable table)
 
--- of a record's tests, which stand in the order of the rules' numbers, from 1: number n is the first that fails
-abbrev pub FirstFails : List Bool → ℕ → Type 0
-FirstFails ts n = (k : ℕ) × (n ≡ k + 1) × (getD ts k true ≡ false) × ((m : ℕ) → m < k → getD ts m true ≡ true)
+-- the numbers of the rules that a record is tested by, in the order of the tests: rules 11 and 12 "are tested after rule 9" (document 02,
+-- request 5)
+abbrev pub numbersTested : List ℕ
+numbersTested = 1 ∷ 2 ∷ 3 ∷ 4 ∷ 5 ∷ 6 ∷ 7 ∷ 8 ∷ 9 ∷ 11 ∷ 12 ∷ []
 
--- record i of rs breaks rule n, 1 to 9, against all records before it, of which those of h are the oldest, and no record before it breaks a
--- rule; or n is 10, "at the end a bank is open; the record number is then the count"
+-- of a record's tests, which stand in that order: number n is that of the first that fails
+abbrev pub FirstFails : List Bool → ℕ → Type 0
+FirstFails ts n = (k : ℕ) × (getElem? numbersTested k ≡ some n) × (getD ts k true ≡ false) × ((m : ℕ) → m < k → getD ts m true ≡ true)
+
+-- record i of rs breaks rule n, 1 to 9, 11 or 12, against all records before it, of which those of h are the oldest, and no record before it
+-- breaks a rule; or n is 10, "at the end a bank is open; the record number is then the count"
 abbrev pub BreaksNumber : Table → List Command → List Command → ℕ → ℕ → Type 0
 BreaksNumber τ h rs n i =
     FineTo τ h rs i
