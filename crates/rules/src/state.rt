@@ -1,7 +1,4 @@
 // What a running state tells.
-use records::table::Table;
-ghost use mathlib.Core.Path.{_≡_};
-ghost use Rattle.rules.specs.State.{fresh};
 
 // A cycle that may be "never". 64 bits, so that the cycles of a pattern's copies never wrap.
 pub enum Stamp {
@@ -32,30 +29,4 @@ pub struct State {
     pub rd: Stamp,
     pub wr: Stamp,
     pub refresh: Stamp,
-}
-
-// "A fresh state has the table's edition, cycle 0, all banks closed and "never" throughout."
-pub fn fresh_of(t: Table) -> State
-    ensures { λ r. ⌜ r ≡ fresh t ⌝ }
-{
-    let shut = Bank {
-        opened: 0,
-        act: Stamp::Never,
-        rd: Stamp::Never,
-        wr: Stamp::Never,
-    };
-    State {
-        edition: t.edition as u32,
-        cycle: 0,
-        acts: 0,
-        datas: 0,
-        banks: [shut; 16],
-        a1: Stamp::Never,
-        a2: Stamp::Never,
-        a3: Stamp::Never,
-        a4: Stamp::Never,
-        rd: Stamp::Never,
-        wr: Stamp::Never,
-        refresh: Stamp::Never,
-    }
 }
