@@ -157,9 +157,10 @@ pub record Demand3 (expected : ℕ) (table : List ℕ) (τ : Table) (l : List Tr
   pub first : (x : Transaction) → getElem? l 0 ≡ some x → lastCommandCycle 0 schedule ≤ span τ x
   pub next : (k : ℕ) (w x : Transaction) → getElem? l k ≡ some w → getElem? l (suc k) ≡ some x
       → lastCommandCycle (suc k) schedule ≤ countFrom τ w (lastCommandCycle k schedule) + span τ x
-  pub told : (k : ℕ) (x : Transaction) → getElem? l k ≡ some x → isRefresh x ≡ false → (span τ x ≡ bound τ (x .bi) (x .bc)) × (bounding (admitted expected table) (x .bi) (x .bc) ≡ Bound (τ .edition) (bound τ (x .bi) (x .bc)))
-  -- "the promised finish of a read is that limit + RL + B" (document 02, request 4), a write's is that limit, a refresh's that limit + RFC: of the finishing cycles in the slice;
-  -- and 32 bits hold each
+  pub told : (k : ℕ) (x : Transaction) → getElem? l k ≡ some x → isRefresh x ≡ false
+      → (span τ x ≡ bound τ (x .bi) (x .bc)) × (bounding (admitted expected table) (x .bi) (x .bc) ≡ Bound (τ .edition) (bound τ (x .bi) (x .bc)))
+  -- "the promised finish of a read is that limit + RL + B" (document 02, request 4), a write's is that limit, a refresh's that limit + RFC
+  -- (request 5): of the finishing cycles in the slice; and 32 bits hold each
   pub firstFinish : (x : Transaction) → getElem? l 0 ≡ some x → getD f 0 0 ≤ finishOf τ x (span τ x)
   pub nextFinish : (k : ℕ) (w x : Transaction) → getElem? l k ≡ some w → getElem? l (suc k) ≡ some x
       → getD f (suc k) 0 ≤ finishOf τ x (countFrom τ w (lastCommandCycle k schedule) + span τ x)
