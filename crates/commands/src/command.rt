@@ -23,6 +23,7 @@ pub fn kind_of(n: u8) -> Kind
         2 => Kind::Rda,
         3 => Kind::Wr,
         4 => Kind::Wra,
+        5 => Kind::Ref,
         n => Kind::Other(n),
     }
 }
@@ -36,6 +37,7 @@ pub fn kind_number(k: Kind) -> u8
         Kind::Rda => 2,
         Kind::Wr => 3,
         Kind::Wra => 4,
+        Kind::Ref => 5,
         Kind::Other(n) => n,
     }
 }

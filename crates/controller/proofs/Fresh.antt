@@ -34,7 +34,7 @@ use Rattle.controller.proofs.Halves.{ran}
 pub fresh-ranged : (τ : Table) → Ranged (freshController τ)
 unfolding kept
 fresh-ranged τ =
-    record { cycle = omega arith; banks = refl; places = refl; four = refl; last = refl; rd = omega arith; wr = omega arith }
+    record { cycle = omega arith; banks = refl; places = refl; four = refl; last = refl; rd = omega arith; wr = omega arith; refresh = omega arith }
 
 pub fresh-told : (τ : Table) → tells (freshController τ) ≡ fresh τ
 unfolding tells kept

@@ -69,6 +69,7 @@ kept-tells c h =
       four-back (c .last) (h .four) (h .last),
       number-stamp (c .rd) (le-leb (c .rd) 4294967295 (h .rd)),
       number-stamp (c .wr) (le-leb (c .wr) 4294967295 (h .wr)),
+      number-stamp (c .refresh) (le-leb (c .refresh) 4294967295 (h .refresh)),
     )
 
 -- ---- from a state whose stamps are below 4294967295
@@ -109,6 +110,7 @@ tells-kept s h =
       stamp-number (s .a4) (at 3),
       stamp-number (s .rd) (at 4),
       stamp-number (s .wr) (at 5),
+      stamp-number (s .refresh) (at 6),
     )
   where
     at : (i : ℕ) → OnSome (λ x. before 4294967295 x ≡ true) (getElem? (lastStamps s) i)
@@ -156,6 +158,7 @@ told-held c h =
           stamp-before (getD (c .last) 3 0) (number-at (c .last) 3 (h .last)),
           stamp-before (c .rd) (le-leb (c .rd) 4294967295 (h .rd)),
           stamp-before (c .wr) (le-leb (c .wr) 4294967295 (h .wr)),
+          stamp-before (c .refresh) (le-leb (c .refresh) 4294967295 (h .refresh)),
         );
       };
     }

@@ -56,7 +56,7 @@ module _ (τ : Table) (l : List Transaction) where
 
   refusal-same : (s u : State) (count room : ℕ) → SameTold τ s u → s .edition ≡ u .edition → runRefusal τ l s count room ≡ runRefusal τ l u count room
   unfolding runRefusal sound
-  refusal-same s u count room q e = rw (q .acts, q .datas, q .cycle, e, q .banks, q .a1, q .a2, q .a3, q .a4, q .rd, q .wr)
+  refusal-same s u count room q e = rw (q .acts, q .datas, q .cycle, e, q .banks, q .a1, q .a2, q .a3, q .a4, q .rd, q .wr, q .refresh)
 
   module _ (acc : Accepted τ) (fit : listFits τ l ≡ true) where
     pub past-unread : (c d : Controller) → Ranged c → Ranged d → SameTold τ (tells c) (tells d) → c .edition ≡ d .edition → (n : ℕ) (b : List ℕ)

@@ -32,7 +32,7 @@ abbrev pub bankKept : Bank → HostBank
 bankKept k = record { opened = k .opened; act = numberOf (k .act); rd = numberOf (k .rd); wr = numberOf (k .wr) }
 
 -- "A state tells: the edition it was started under; its cycle, the next to be tried; how many commands have left each queue; [the banks];
--- the cycles of the last four ACTs, the last RD and the last WR of all."
+-- the cycles of the last four ACTs, the last RD and the last WR of all"; it "tells the last REF's cycle" (document 02, request 5).
 unfoldable pub tells : Controller → State
 tells c =
     record {
@@ -47,6 +47,7 @@ tells c =
       a4 = stampOf (getD (c .last) 3 0);
       rd = stampOf (c .rd);
       wr = stampOf (c .wr);
+      refresh = stampOf (c .refresh);
     }
 
 -- the controller that tells a state
@@ -61,6 +62,7 @@ kept s =
       last = numberOf (s .a1) ∷ numberOf (s .a2) ∷ numberOf (s .a3) ∷ numberOf (s .a4) ∷ [];
       rd = numberOf (s .rd);
       wr = numberOf (s .wr);
+      refresh = numberOf (s .refresh);
     }
 
 -- "A fresh state has the table's edition, cycle 0, all banks closed and "never" throughout."
@@ -79,3 +81,4 @@ pub record Ranged (c : Controller) : Type 0 where
   pub last : every in32 (c .last) ≡ true
   pub rd : c .rd ≤ 4294967295
   pub wr : c .wr ≤ 4294967295
+  pub refresh : c .refresh ≤ 4294967295

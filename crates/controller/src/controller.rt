@@ -22,7 +22,7 @@ pub struct HostBank {
 }
 
 // `cycle` is the next to be tried; `acts` and `datas` have left the two queues; `last` has the cycles of the last four ACTs, newest first;
-// `rd` and `wr` are those of the last RD and the last WR of all.
+// `rd` and `wr` are those of the last RD and the last WR of all, `refresh` that of the last REF.
 #[repr(C)]
 pub struct Controller {
     pub edition: u32,
@@ -33,6 +33,7 @@ pub struct Controller {
     pub last: [u32; 4],
     pub rd: u32,
     pub wr: u32,
+    pub refresh: u32,
 }
 
 // A number as a run keeps it.
@@ -137,6 +138,7 @@ pub fn kept_in(c: Controller) -> Kept
     let a4 = number_in(c.last[3]);
     let rd = number_in(c.rd);
     let wr = number_in(c.wr);
+    let refresh = number_in(c.refresh);
     Kept {
         edition: c.edition,
         cycle: c.cycle as u64,
@@ -149,6 +151,7 @@ pub fn kept_in(c: Controller) -> Kept
         a4: a4,
         rd: rd,
         wr: wr,
+        refresh: refresh,
     }
 }
 
@@ -164,12 +167,14 @@ pub fn controller_of(s: Kept) -> Controller
     let a4 = s.a4;
     let rd = s.rd;
     let wr = s.wr;
+    let refresh = s.refresh;
     let n1 = number_of(a1);
     let n2 = number_of(a2);
     let n3 = number_of(a3);
     let n4 = number_of(a4);
     let last_rd = number_of(rd);
     let last_wr = number_of(wr);
+    let last_ref = number_of(refresh);
     let cycle = cut(s.cycle);
     Controller {
         edition: s.edition,
@@ -180,6 +185,7 @@ pub fn controller_of(s: Kept) -> Controller
         last: [n1, n2, n3, n4],
         rd: last_rd,
         wr: last_wr,
+        refresh: last_ref,
     }
 }
 

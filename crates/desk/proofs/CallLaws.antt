@@ -11,16 +11,16 @@ use borrow.Author.Tests.{le-ltb}
 use Rattle.records.specs.declared.transaction.Transaction.{Transaction}
 use Rattle.records.specs.Tests.{pick, every}
 use Rattle.records.specs.Told.{refusal}
-use Rattle.records.specs.declared.command.Kind.the-variants.{Act}
+use Rattle.records.specs.declared.command.Kind.the-variants.{Act, Ref}
 use Rattle.records.specs.Table.{readTable}
 use Rattle.records.specs.Transaction.{transactionsIn, fits}
 use Rattle.records.specs.Command.{command, commandsIn}
 use Rattle.records.specs.House.{tableA, tableB}
-use Rattle.rules.specs.declared.verdict.Rule.the-variants.{Precharge, Faw, End}
+use Rattle.rules.specs.declared.verdict.Rule.the-variants.{Precharge, Faw, End, Rfc}
 use Rattle.rules.specs.declared.verdict.PatternVerdict.the-variants.{Accepted as AllPassed, Refused as BrokenAt}
 use Rattle.rules.specs.Verdict.{judge}
 use Rattle.rules.specs.Pattern.{copies}
-use Rattle.rules.specs.Worked.{one}
+use Rattle.rules.specs.Worked.{tableR, one}
 use Rattle.judge.specs.declared.answer.Judged.{Judged}
 use Rattle.judge.specs.declared.answer.Judged.the-variants.{Verdict, Refused as NotJudged}
 use Rattle.judge.specs.declared.answer.PatternJudged.{PatternJudged}
@@ -39,7 +39,7 @@ use Rattle.desk.specs.Schedules.{BuildsChecked, Schedules}
 use Rattle.desk.specs.Running.{runsChecked, running}
 use Rattle.desk.specs.Numbers.{Numbers, judgedNumbers, patternNumbers, readNumbers, buildNumbers, runNumbers}
 use Rattle.desk.specs.Causes.{row, FirstRow, lowestOut, fewInto}
-use Rattle.desk.specs.Calls.{A, told, judgesBytes, Patterns, reads, Builds, BuildsBytes, runsBytes}
+use Rattle.desk.specs.Handed.{A, told, judgesBytes, Patterns, reads, Builds, BuildsBytes, runsBytes}
 use Rattle.desk.proofs.Unique.{only}
 use Rattle.desk.proofs.Causes.{causes}
 use Rattle.controller.specs.declared.controller.Controller.{Controller}
@@ -87,7 +87,7 @@ few-transactions s l e k = not-three (fewInto s (length l)) (not (every (fits ta
 pub many-transactions : (s : List ℕ) (l : List Transaction) → length s ≡ 1028 → length l ≡ 257 → reads 7 A s l ≡ told 3 0 7
 unfolding admitted readTable reading decoding checkInto
 many-transactions s l e k =
-    by (fewInto s (length l)) (rangeFrom 8 7 (transactionsIn s) 0) (ap (λ (n : ℕ). eqb (n % 4) 0 && (leb (n / 4) 256 && leb (n / 4) (length l))) e)
+    by (fewInto s (length l)) (rangeFrom 8 0 7 (transactionsIn s) 0) (ap (λ (n : ℕ). eqb (n % 4) 0 && (leb (n / 4) 256 && leb (n / 4) (length l))) e)
   where
     by : (g : Bool) (x : Checked) → g ≡ false → readNumbers (decodedBy (pick g x (NotFine (refusal 3 0 7))) tableA s l .answer) ≡ told 3 0 7
     by g x e = rw e refl
@@ -95,7 +95,7 @@ many-transactions s l e k =
 -- the check of so many bytes
 bytes-many : (s : List ℕ) → length s ≡ 1028 → checkBytes tableA s ≡ NotFine (refusal 3 0 7)
 unfolding checkBytes
-bytes-many s e = by (eqb (length s % 4) 0 && leb (length s / 4) 256) (rangeFrom 8 7 (transactionsIn s) 0) (ap (λ (n : ℕ). eqb (n % 4) 0 && leb (n / 4) 256) e)
+bytes-many s e = by (eqb (length s % 4) 0 && leb (length s / 4) 256) (rangeFrom 8 0 7 (transactionsIn s) 0) (ap (λ (n : ℕ). eqb (n % 4) 0 && leb (n / 4) 256) e)
   where
     by : (g : Bool) (x : Checked) → g ≡ false → pick g x (NotFine (refusal 3 0 7)) ≡ NotFine (refusal 3 0 7)
     by g x e = rw e refl
@@ -128,3 +128,8 @@ refused-38 (suc (suc zero)) = refl
 refused-38 (suc (suc (suc zero))) = refl
 refused-38 (suc (suc (suc (suc zero)))) = refl
 refused-38 (suc (suc (suc (suc (suc n))))) = rw (le-ltb (suc (suc (suc (suc (suc n))))) 5 (omega arith)) refl
+
+pub refused-49 : (n : ℕ) → copies tableR 49 (command 0 Ref 0 0 ∷ []) n ≡ pick (ltb n 2) AllPassed (BrokenAt Rfc 2 0)
+refused-49 zero = refl
+refused-49 (suc zero) = refl
+refused-49 (suc (suc n)) = rw (le-ltb (suc (suc n)) 2 (omega arith)) refl

@@ -4,16 +4,16 @@ use mathlib.Core.Path.{refl}
 use mathlib.Core.List.{[], _∷_, _++_}
 use lib.ListN.{replicate}
 use Rattle.records.specs.Told.{refusal}
-use Rattle.records.specs.declared.command.Kind.the-variants.{Act}
+use Rattle.records.specs.declared.command.Kind.the-variants.{Act, Ref}
 use Rattle.records.specs.Table.{readTable, writeTable}
 use Rattle.records.specs.Transaction.{transactionsFrom, readTransaction, writeTransaction}
 use Rattle.records.specs.Command.{command, commandsFrom, bytesOfAll, readCommand, writeCommand}
 use Rattle.records.specs.House.{tableA}
-use Rattle.rules.specs.declared.verdict.Rule.the-variants.{Precharge, Faw, End}
+use Rattle.rules.specs.declared.verdict.Rule.the-variants.{Precharge, Faw, End, Rfc}
 use Rattle.rules.specs.declared.verdict.PatternVerdict.the-variants.{Accepted as AllPassed, Refused as BrokenAt}
 use Rattle.rules.specs.Queues.{actQueue, dataQueue}
 use Rattle.rules.specs.Bound.{bound, boundS, boundD, boundX}
-use Rattle.rules.specs.Worked.{one, All}
+use Rattle.rules.specs.Worked.{refresh, tableR, one, All}
 use Rattle.rules.proofs.Pattern.{five-legal}
 use Rattle.judge.specs.declared.answer.PatternJudged.the-variants.{Verdict as PatternVerdict, Refused as PatternNotJudged}
 use Rattle.judge.specs.Answer.{judged}
@@ -31,9 +31,10 @@ use Rattle.desk.specs.Bounds.{bounding}
 use Rattle.desk.specs.Transactions.{reading}
 use Rattle.desk.specs.Schedules.{BuildsChecked, Schedules}
 use Rattle.desk.specs.Running.{starting, runsChecked, running}
-use Rattle.desk.specs.Calls.{A, B, fine, out, recordCalls, judgeCalls, listCalls, scheduleCalls, runCalls, calls}
+use Rattle.desk.specs.Handed.{A, B, R, fine, out}
+use Rattle.desk.specs.Calls.{recordCalls, judgeCalls, listCalls, scheduleCalls, runCalls, calls}
 use Rattle.desk.proofs.NeverRuns.{refused-start}
-use Rattle.desk.proofs.CallLaws.{pattern-tells, build-tells, bytes-tell, some, few-records, many-records, few-transactions, many-transactions, many-built, many-run, refused-37, left-open, refused-38}
+use Rattle.desk.proofs.CallLaws.{pattern-tells, build-tells, bytes-tell, some, few-records, many-records, few-transactions, many-transactions, many-built, many-run, refused-37, left-open, refused-38, refused-49}
 
 infixr 4 _⨾_
 -- a proof of the first statement, and of the rest
@@ -47,6 +48,11 @@ of-records =
     ⨾ refl
     ⨾ refl
     ⨾ refl
+    ⨾ refl
+    ⨾ refl
+    ⨾ refl
+    ⨾ (refl, refl)
+    ⨾ (refl, refl)
     ⨾ (refl, refl)
     ⨾ (refl, refl)
     ⨾ refl
@@ -55,6 +61,11 @@ of-records =
     ⨾ (refl, refl)
     ⨾ (refl, refl)
     ⨾ (refl, refl)
+    ⨾ refl
+    ⨾ refl
+    ⨾ refl
+    ⨾ (refl, refl)
+    ⨾ refl
     ⨾ refl
     ⨾ refl
     ⨾ refl
@@ -91,6 +102,14 @@ of-judges =
     ⨾ refl
     ⨾ refl
     ⨾ refl
+    ⨾ refl
+    ⨾ refl
+    ⨾ refl
+    ⨾ refl
+    ⨾ refl
+    ⨾ refl
+    ⨾ refl
+    ⨾ refl
     ⨾ pattern-tells 8 A (0 ∷ []) 0 (PatternNotJudged (refusal 10 7 7)) refl
     ⨾ pattern-tells 7 A (0 ∷ []) 0 (PatternNotJudged (refusal 7 0 7)) (some 6, refl)
     ⨾ pattern-tells 7 A [] 0 (PatternNotJudged (refusal 8 0 7)) (some 7, refl)
@@ -98,12 +117,16 @@ of-judges =
     ⨾ pattern-tells 7 A (bytesOfAll one) 37 (PatternVerdict 7 (BrokenAt Precharge 2 0)) (refl, refl, refused-37)
     ⨾ pattern-tells 7 A (bytesOfAll (command 0 Act 0 0 ∷ [])) 1 (PatternVerdict 7 (BrokenAt End 1 1)) (refl, refl, left-open)
     ⨾ pattern-tells 7 B (bytesOfAll one) 38 (PatternVerdict 7 (BrokenAt Faw 5 0)) (refl, refl, refused-38)
+    ⨾ pattern-tells 7 R (bytesOfAll (command 0 Ref 0 0 ∷ [])) 50 (PatternVerdict 7 AllPassed) (refl, refl, five-legal tableR 50 (command 0 Ref 0 0 ∷ []) .0 refl)
+    ⨾ pattern-tells 7 R (bytesOfAll (command 0 Ref 0 0 ∷ [])) 49 (PatternVerdict 7 (BrokenAt Rfc 2 0)) (refl, refl, refused-49)
     ⨾ tt
 
 of-lists : All listCalls
 unfolding admitted readTable bounding boundTold bound boundS boundD boundX reading decoding checkInto rangeFrom transactionsFrom
 of-lists =
     refl
+    ⨾ refl
+    ⨾ refl
     ⨾ refl
     ⨾ refl
     ⨾ refl
@@ -134,6 +157,9 @@ of-schedules =
     ⨾ build-tells 7 A (replicate 16 9) (8 ∷ []) (bytesOfAll one) (24 ∷ []) (Built 7 2) (fine ∷ []) (refl, refl, record { schedule = one; built = record { cycles = 11; schedule = refl; acts = refl; datas = refl }; count = refl; buffer = refl; finishes = refl })
     ⨾ build-tells 7 A (replicate 17 9) (8 ∷ 8 ∷ []) (bytesOfAll one ++ (9 ∷ [])) (24 ∷ 8 ∷ []) (Built 7 2) (fine ∷ []) (refl, refl, record { schedule = one; built = record { cycles = 11; schedule = refl; acts = refl; datas = refl }; count = refl; buffer = refl; finishes = refl })
     ⨾ build-tells 7 A [] [] [] [] (Built 7 0) [] (refl, refl, record { schedule = []; built = record { cycles = 0; schedule = refl; acts = refl; datas = refl }; count = refl; buffer = refl; finishes = refl })
+    ⨾ build-tells 7 R (replicate 7 9) [] (replicate 7 9) [] (NotBuilt (refusal 5 0 7)) (refresh ∷ []) (some 4, refl, refl, refl)
+    ⨾ build-tells 7 R (replicate 9 9) (8 ∷ []) (bytesOfAll (command 0 Ref 0 0 ∷ []) ++ (9 ∷ [])) (50 ∷ []) (Built 7 1) (refresh ∷ []) (refl, refl, record { schedule = command 0 Ref 0 0 ∷ []; built = record { cycles = 1; schedule = refl; acts = refl; datas = refl }; count = refl; buffer = refl; finishes = refl })
+    ⨾ build-tells 7 A [] [] [] [] (NotBuilt (refusal 4 1 7)) (fine ∷ refresh ∷ []) (refl, refl, refl)
     ⨾ build-tells 7 A [] [] [] [] (NotBuilt (refusal 5 0 7)) (replicate 256 fine) (some 4, refl, refl, refl)
     ⨾ bytes-tell 8 A [] [] [] [] (NotBuilt (refusal 10 7 7)) (0 ∷ []) (refl, refl, refl)
     ⨾ bytes-tell 7 A (9 ∷ []) (8 ∷ []) (9 ∷ []) (8 ∷ []) (NotBuilt (refusal 3 0 7)) (recordsOf (out ∷ []) ++ (0 ∷ [])) (refl, refl, refl)
@@ -141,6 +167,8 @@ of-schedules =
     ⨾ bytes-tell 7 A (replicate 15 9) [] (replicate 15 9) [] (NotBuilt (refusal 5 0 7)) (recordsOf (fine ∷ [])) (some 4, refl, refl, refl)
     ⨾ bytes-tell 7 A (replicate 16 9) [] (replicate 16 9) [] (NotBuilt (refusal 6 0 7)) (recordsOf (fine ∷ [])) (some 5, refl, refl, refl)
     ⨾ bytes-tell 7 A (replicate 17 9) (8 ∷ []) (bytesOfAll one ++ (9 ∷ [])) (24 ∷ []) (Built 7 2) (recordsOf (fine ∷ [])) (refl, refl, record { schedule = one; built = record { cycles = 11; schedule = refl; acts = refl; datas = refl }; count = refl; buffer = refl; finishes = refl })
+    ⨾ bytes-tell 7 R (replicate 8 9) (8 ∷ []) (bytesOfAll (command 0 Ref 0 0 ∷ [])) (50 ∷ []) (Built 7 1) (recordsOf (refresh ∷ [])) (refl, refl, record { schedule = command 0 Ref 0 0 ∷ []; built = record { cycles = 1; schedule = refl; acts = refl; datas = refl }; count = refl; buffer = refl; finishes = refl })
+    ⨾ bytes-tell 7 A [] [] [] [] (NotBuilt (refusal 4 1 7)) (recordsOf (fine ∷ refresh ∷ [])) (refl, refl, refl)
     ⨾ many-built
     ⨾ tt
 
@@ -154,6 +182,15 @@ of-runs =
     ⨾ refl
     ⨾ refl
     ⨾ refused-start
+    ⨾ refl
+    ⨾ refl
+    ⨾ refl
+    ⨾ refl
+    ⨾ refl
+    ⨾ refl
+    ⨾ refl
+    ⨾ refl
+    ⨾ refl
     ⨾ refl
     ⨾ refl
     ⨾ refl

@@ -80,7 +80,7 @@ module _ (expected : ℕ) (table : List ℕ) (R : TableRead → Numbers → Type
     (gives : (x : Refusal) (a : Numbers) → R (Refused x) a → a ≡ refusing x) (goes-on : (a : Numbers) → R (Read (tableAt table)) a → FirstRow rest a) where
   by-table : (a : Numbers) → R (admitted expected table) a → FirstRow (tableRows expected table rest) a
   unfolding admitted readTable
-  by-table a = on (not (eqb (length table) 32 && eqb (tableAt table .last) 0)) (not (inRange (tableAt table)))
+  by-table a = on (not (eqb (length table) 32)) (not (inRange (tableAt table)))
     where
       t : Table
       t = tableAt table
@@ -100,14 +100,14 @@ module _ (expected : ℕ) (table : List ℕ) (R : TableRead → Numbers → Type
 
 module _ (τ : Table) (R : Checked → Numbers → Type 0) (rest : List Row) (a : Numbers)
     (gives : (x : Refusal) → R (NotFine x) a → a ≡ refusing x) (goes-on : R Fine a → FirstRow rest a) where
-  by-range : (l : List Transaction) (k p : ℕ) → p ≡ k + lowestOut τ l → R (rangeFrom (τ .banks) (τ .edition) l k) a
+  by-range : (l : List Transaction) (k p : ℕ) → p ≡ k + lowestOut τ l → R (rangeFrom (τ .banks) (τ .rfc) (τ .edition) l k) a
       → FirstRow (row 4 p (not (every (fits τ) l)) ∷ rest) a
   unfolding rangeFrom
   by-range [] k p e r = goes-on r
   by-range (x ∷ l) k p e r = on (fits τ x) e r (by-range l (k + 1) p)
     where
-      on : (b : Bool) → p ≡ k + pick b (suc (lowestOut τ l)) 0 → R (pick b (rangeFrom (τ .banks) (τ .edition) l (k + 1)) (NotFine (refusal 4 k (τ .edition)))) a
-          → (p ≡ k + 1 + lowestOut τ l → R (rangeFrom (τ .banks) (τ .edition) l (k + 1)) a → FirstRow (row 4 p (not (every (fits τ) l)) ∷ rest) a)
+      on : (b : Bool) → p ≡ k + pick b (suc (lowestOut τ l)) 0 → R (pick b (rangeFrom (τ .banks) (τ .rfc) (τ .edition) l (k + 1)) (NotFine (refusal 4 k (τ .edition)))) a
+          → (p ≡ k + 1 + lowestOut τ l → R (rangeFrom (τ .banks) (τ .rfc) (τ .edition) l (k + 1)) a → FirstRow (row 4 p (not (every (fits τ) l)) ∷ rest) a)
           → FirstRow (row 4 p (not (b && every (fits τ) l)) ∷ rest) a
       on true e r ih = ih (omega arith) r
       on false e r ih =

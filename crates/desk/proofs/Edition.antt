@@ -17,7 +17,7 @@ use Rattle.records.specs.declared.refusal.Refusal.{Refusal}
 use Rattle.records.specs.Tests.{pick}
 use Rattle.records.specs.Told.{refusal, firstFailed}
 use Rattle.records.specs.Table.{tableAt, inRange, tableRefusal, readTable, Accepted}
-use Rattle.records.specs.Transaction.{transactionsIn, fitsIn}
+use Rattle.records.specs.Transaction.{transactionsIn, fits}
 use Rattle.records.specs.Command.{commandsIn}
 use Rattle.records.proofs.Laws.{read-was, table-size}
 use Rattle.rules.specs.Verdict.{judge}
@@ -62,24 +62,21 @@ use Rattle.desk.proofs.Stood.{unread, unbuilt, unrun, table-unwritten, 
 
 -- why the reader refuses a table
 abbrev NotRead : List ℕ → Refusal → Type 0
-NotRead s x =
-    ((x ≡ refusal 1 0 0) × ((length s ≡ 32 → ⊥) ⊎ (tableAt s .last ≡ 0 → ⊥)))
-    ⊎ ((x ≡ refusal 2 0 0) × (length s ≡ 32) × (tableAt s .last ≡ 0) × (inRange (tableAt s) ≡ false))
+NotRead s x = ((x ≡ refusal 1 0 0) × (length s ≡ 32 → ⊥)) ⊎ ((x ≡ refusal 2 0 0) × (length s ≡ 32) × (inRange (tableAt s) ≡ false))
 
 -- a table is refused by the first of numbers 1 and 2 that fails
 read-refused : (s : List ℕ) (x : Refusal) → readTable s ≡ Refused x → NotRead s x
 unfolding readTable
-read-refused s x r = on (eqb (length s) 32) refl (eqb (tableAt s .last) 0) refl (inRange (tableAt s)) refl r
+read-refused s x r = on (eqb (length s) 32) refl (inRange (tableAt s)) refl r
   where
     by : Bool → Bool → ℕ
     by one two = firstFailed ((1, not one) ∷ (2, not two) ∷ [])
 
-    on : (a : Bool) → eqb (length s) 32 ≡ a → (b : Bool) → eqb (tableAt s .last) 0 ≡ b → (c : Bool) → inRange (tableAt s) ≡ c
-        → pick (eqb (by (a && b) c) 0) (Read (tableAt s)) (Refused (refusal (by (a && b) c) 0 0)) ≡ Refused x → NotRead s x
-    on false p b q c h e = inl (cc, inl (eqb-false (length s) 32 p))
-    on true p false q c h e = inl (cc, inr (eqb-false (tableAt s .last) 0 q))
-    on true p true q false h e = inr (cc, eqb-true (length s) 32 p, eqb-true (tableAt s .last) 0 q, h)
-    on true p true q true h e = let z : _≡_ {A = ℕ} 0 1 = cc in absurd (omega arith)
+    on : (a : Bool) → eqb (length s) 32 ≡ a → (b : Bool) → inRange (tableAt s) ≡ b
+        → pick (eqb (by a b) 0) (Read (tableAt s)) (Refused (refusal (by a b) 0 0)) ≡ Refused x → NotRead s x
+    on false p b q e = inl (cc, eqb-false (length s) 32 p)
+    on true p false q e = inr (cc, eqb-true (length s) 32 p, q)
+    on true p true q e = let z : _≡_ {A = ℕ} 0 1 = cc in absurd (omega arith)
 
 -- the three ways in which a table is not admitted
 refused-by : (e : ℕ) (s : List ℕ) (x : Refusal) → admitted e s ≡ Refused x → NotAdmitted e s x
@@ -124,13 +121,13 @@ admits e s τ r =
 -- ---- the check of a list names the table's edition
 
 module _ (τ : Table) (x : Refusal) where
-  range-names : (l : List Transaction) (k : ℕ) → rangeFrom (τ .banks) (τ .edition) l k ≡ NotFine x → x .edition ≡ τ .edition
+  range-names : (l : List Transaction) (k : ℕ) → rangeFrom (τ .banks) (τ .rfc) (τ .edition) l k ≡ NotFine x → x .edition ≡ τ .edition
   unfolding rangeFrom
   range-names [] k e = let z : _≡_ {A = ℕ} 0 1 = cc in absurd (omega arith)
-  range-names (t ∷ l) k e = on (fitsIn (τ .banks) t) e (range-names l (k + 1))
+  range-names (t ∷ l) k e = on (fits τ t) e (range-names l (k + 1))
     where
-      on : (b : Bool) → pick b (rangeFrom (τ .banks) (τ .edition) l (k + 1)) (NotFine (refusal 4 k (τ .edition))) ≡ NotFine x
-          → (rangeFrom (τ .banks) (τ .edition) l (k + 1) ≡ NotFine x → x .edition ≡ τ .edition) → x .edition ≡ τ .edition
+      on : (b : Bool) → pick b (rangeFrom (τ .banks) (τ .rfc) (τ .edition) l (k + 1)) (NotFine (refusal 4 k (τ .edition))) ≡ NotFine x
+          → (rangeFrom (τ .banks) (τ .rfc) (τ .edition) l (k + 1) ≡ NotFine x → x .edition ≡ τ .edition) → x .edition ≡ τ .edition
       on true e ih = ih e
       on false e ih = let w : refusal 4 k (τ .edition) ≡ x = cc in ap (λ (y : Refusal). y .edition) (sym w)
 

@@ -17,7 +17,7 @@ use Rattle.records.specs.Tests.{pick}
 use Rattle.records.specs.Told.{refusal}
 use Rattle.records.specs.Table.{tableAt, inRange, tableRefusal, readTable, Accepted}
 use Rattle.records.specs.Transaction.{transactionsIn}
-use Rattle.records.proofs.Laws.{and-right, passes, read-was}
+use Rattle.records.proofs.Laws.{passes, read-was}
 use Rattle.rules.proofs.Ranges.{ranges}
 use Rattle.heads.specs.Queue.{Listed}
 use Rattle.lists.specs.declared.check.Checked.{Checked}
@@ -42,9 +42,9 @@ accepted-read s τ r =
   where
     taken : (size : ℕ) (t : Table) → tableRefusal size t ≡ 0 → Accepted t
     taken size t z =
-        let p = passes 1 (not (eqb size 32 && eqb (t .last) 0)) ((2, not (inRange t)) ∷ []) (λ k. omega arith) z in
+        let p = passes 1 (not (eqb size 32)) ((2, not (inRange t)) ∷ []) (λ k. omega arith) z in
         let q = passes 2 (not (inRange t)) [] (λ k. omega arith) (p .1) in
-        rw (and-right (eqb size 32) (eqb (t .last) 0) (not-false _ (p .0)), not-false (inRange t) (q .0)) refl
+        not-false (inRange t) (q .0)
 
 -- a table that is admitted is read, and is of the expected edition
 pub expected-read : (e : ℕ) (s : List ℕ) (τ : Table) → admitted e s ≡ Read τ → (readTable s ≡ Read τ) × (τ .edition ≡ e)

@@ -15,7 +15,7 @@ use Rattle.records.specs.declared.transaction.Transaction.{Transaction}
 use Rattle.records.specs.declared.refusal.Refusal.{Refusal}
 use Rattle.records.specs.Tests.{allOf, every, within}
 use Rattle.records.specs.Table.{timings, Accepted}
-use Rattle.records.proofs.Laws.{and-left, and-right}
+use Rattle.records.proofs.Laws.{and-left}
 use Rattle.rules.specs.declared.state.State.{State}
 use Rattle.rules.specs.Queues.{actQueue, dataQueue}
 use Rattle.engine.specs.Run.{commandsLeft}
@@ -32,9 +32,8 @@ use Rattle.desk.proofs.Laws.{read-accepted}
 -- no accepted table has edition 0
 some-edition : (τ : Table) → Accepted τ → 1 ≤ τ .edition
 some-edition τ acc =
-    let rest = leb 2 (τ .ccd) && (leb (τ .b) (τ .ccd) && every (within 1 255) (timings τ)) in
-    let e = and-right (eqb (τ .last) 0) (within 1 65535 (τ .edition) && (within 1 16 (τ .banks) && rest)) acc in
-    leb-true 1 (τ .edition) (and-left (leb 1 (τ .edition)) (leb (τ .edition) 65535) (and-left (within 1 65535 (τ .edition)) (within 1 16 (τ .banks) && rest) e))
+    let rest = within 1 16 (τ .banks) && (leb 2 (τ .ccd) && (leb (τ .b) (τ .ccd) && (leb (τ .rfc) 1023 && every (within 1 1023) (timings τ)))) in
+    leb-true 1 (τ .edition) (and-left (leb 1 (τ .edition)) (leb (τ .edition) 65535) (and-left (within 1 65535 (τ .edition)) rest acc))
 
 edition-0 : tells noController .edition ≡ 0
 unfolding tells kept

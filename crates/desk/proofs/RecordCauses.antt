@@ -32,19 +32,19 @@ module _ (s : List ℕ) where
       record {
         tableRead =
             let z = tableRefusal (length s) (tableAt s) in
-            two 1 2 (not (eqb (length s) 32 && eqb (tableAt s .last) 0)) (not (inRange (tableAt s))) (tableNumbers (readTable s))
+            two 1 2 (not (eqb (length s) 32)) (not (inRange (tableAt s))) (tableNumbers (readTable s))
             (by-number tableNumbers z (TableIs (tableAt s)) (NoTable (refusal z 0 0)) (refl, refl) (refl, refl));
         tableWritten = λ l.
             let z = tableRefusal (length s) (tableOf l) in
-            two 1 2 (not (eqb (length s) 32 && eqb (tableOf l .last) 0)) (not (inRange (tableOf l))) (writtenNumbers (writeTable l s .answer))
+            two 1 2 (not (eqb (length s) 32)) (not (inRange (tableOf l))) (writtenNumbers (writeTable l s .answer))
             (by-number (λ (w : Wrote). writtenNumbers (w .answer)) z (record { answer = Done (tableOf l .edition); buffer = over (bytes16 l) s }) (kept z) (refl, refl) (refl, refl));
         transactionRead =
             let z = transactionRefusal (length s) (transactionAt s 0) in
-            two 3 4 (not (eqb (length s) 4)) (not (fitsIn 16 (transactionAt s 0))) (transactionNumbers (readTransaction s))
+            two 3 4 (not (eqb (length s) 4)) (not (fitsIn 16 1 (transactionAt s 0))) (transactionNumbers (readTransaction s))
             (by-number transactionNumbers z (TransactionIs (transactionAt s 0)) (NoTransaction (refusal z 0 0)) (refl, refl) (refl, refl));
         transactionWritten = λ x.
             let z = transactionRefusal (length s) x in
-            two 3 4 (not (eqb (length s) 4)) (not (fitsIn 16 x)) (writtenNumbers (writeTransaction x s .answer))
+            two 3 4 (not (eqb (length s) 4)) (not (fitsIn 16 1 x)) (writtenNumbers (writeTransaction x s .answer))
             (by-number (λ (w : Wrote). writtenNumbers (w .answer)) z (record { answer = Done 0; buffer = over (transactionBytes x) s }) (kept z) (refl, refl) (refl, refl));
         commandRead =
             let z = commandRefusal (length s) in

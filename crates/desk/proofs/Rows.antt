@@ -6,8 +6,9 @@ use native.Mathlib.Nat.{zero-add}
 use mathlib.Core.Bool.{Bool, true, false}
 use mathlib.Core.Path.{_≡_, refl, sym, ap, _∙_, subst}
 use mathlib.Core.Logic.{_⊎_, inl, inr, ⊎-elim}
-use mathlib.Core.List.{List, [], _∷_, _++_}
-use lib.ListN.{length, getD, take}
+use mathlib.Core.Option.{some}
+use mathlib.Core.List.{List, [], _∷_, _++_, map}
+use lib.ListN.{length, getElem?, getD, take}
 use Rattle.records.specs.declared.table.Table.{Table}
 use Rattle.records.specs.declared.command.Command.{Command}
 use Rattle.records.specs.Little.{num, num32}
@@ -32,28 +33,20 @@ use Rattle.judge.specs.declared.answer.PatternJudged.the-variants.{Verdict as P
 use Rattle.desk.specs.Numbers.{Numbers, telling, ruleNumber, commandNumbers, verdictValues, judgedNumbers, patternValues, patternNumbers}
 use Rattle.desk.specs.Demands.{FirstFails, BreaksNumber}
 
--- the rules of a list have the numbers from n on
-abbrev NumberedFrom : ℕ → List Rule → Type 0
-NumberedFrom n [] = Unit {0}
-NumberedFrom n (x ∷ l) = (ruleNumber x ≡ n) × NumberedFrom (suc n) l
-
-first-fails : (ts : List Bool) (l : List Rule) (n : ℕ) (x : Rule) → NumberedFrom n l → firstBroken ts l ≡ Breaks x
-    → (k : ℕ) × (ruleNumber x ≡ n + k) × (getD ts k true ≡ false) × ((m : ℕ) → m < k → getD ts m true ≡ true)
-first-fails [] l n x w e = let z : _≡_ {A = ℕ} 0 1 = cc in absurd (omega arith)
-first-fails (t ∷ ts) [] n x w e = let z : _≡_ {A = ℕ} 0 1 = cc in absurd (omega arith)
-first-fails (false ∷ ts) (y ∷ l) n x w e = let same : y ≡ x = cc in (0, ap ruleNumber (sym same) ∙ omega (arith, w .0), refl, λ m h. absurd (omega arith))
-first-fails (true ∷ ts) (y ∷ l) n x w e = let q = first-fails ts l (suc n) x (w .1) e in (suc (q .0), omega (arith, q .1), q .2, lower (q .0) (q .3))
+first-fails : (ts : List Bool) (l : List Rule) (x : Rule) → firstBroken ts l ≡ Breaks x
+    → (k : ℕ) × (getElem? (map ruleNumber l) k ≡ some (ruleNumber x)) × (getD ts k true ≡ false) × ((m : ℕ) → m < k → getD ts m true ≡ true)
+first-fails [] l x e = let z : _≡_ {A = ℕ} 0 1 = cc in absurd (omega arith)
+first-fails (t ∷ ts) [] x e = let z : _≡_ {A = ℕ} 0 1 = cc in absurd (omega arith)
+first-fails (false ∷ ts) (y ∷ l) x e = let same : y ≡ x = cc in (0, ap (λ (r : Rule). some (ruleNumber r)) same, refl, λ m h. absurd (omega arith))
+first-fails (true ∷ ts) (y ∷ l) x e = let q = first-fails ts l x e in (suc (q .0), q .1, q .2, lower (q .0) (q .3))
   where
     lower : (k : ℕ) → ((m : ℕ) → m < k → getD ts m true ≡ true) → (m : ℕ) → m < suc k → getD (true ∷ ts) m true ≡ true
     lower k f zero h = refl
     lower k f (suc m) h = f m (omega arith)
 
--- the rules that a record is tested by have the numbers 1 to 9
-in-order : NumberedFrom 1 rulesInOrder
-in-order = (refl, (refl, (refl, (refl, (refl, (refl, (refl, (refl, (refl, tt)))))))))
-
+-- the numbers of `numbersTested` are those of the rules in their order
 row-number : (τ : Table) (r : Command) (h : List Command) (x : Rule) → broken τ r h ≡ Breaks x → FirstFails (rules τ r h) (ruleNumber x)
-row-number τ r h x e = let q = first-fails (rules τ r h) rulesInOrder 1 x in-order e in (q .0, omega (arith, q .1), q .2, q .3)
+row-number τ r h x e = first-fails (rules τ r h) rulesInOrder x e
 
 pub by-numbers : (τ : Table) (h rs : List Command) (x : Rule) (n i : ℕ) → ruleNumber x ≡ n → FirstBroken τ h rs x i → BreaksNumber τ h rs n i
 by-numbers τ h rs x n i e b =

@@ -2,7 +2,7 @@
 -- judge as it stands there, it serves every transaction within its bound, and transactions added at the end move nothing.
 -- Assumes nothing.
 use Prim.Native.Nat.{ℕ, zero, suc, _+_, _*_, _/_, _%_, _≤_, _<_}
-use mathlib.Core.Bool.{true}
+use mathlib.Core.Bool.{true, false}
 use mathlib.Core.Path.{_≡_, refl, sym, ap, _∙_, subst}
 use mathlib.Core.Option.{some}
 use mathlib.Core.List.{List, [], _∷_, append-nil}
@@ -20,17 +20,18 @@ use Rattle.records.specs.declared.command.Command.{Command}
 use Rattle.records.specs.Tests.{every}
 use Rattle.records.specs.Told.{over}
 use Rattle.records.specs.Table.{Accepted}
-use Rattle.records.specs.Transaction.{transactionsIn, fits, listFits}
+use Rattle.records.specs.Transaction.{transactionsIn, isRefresh, fits, listFits}
 use Rattle.records.specs.Command.{commandsFrom, commandsIn, bytesOfAll}
 use Rattle.records.proofs.Laws.{and-left, and-right}
 use Rattle.rules.specs.declared.verdict.Verdict.the-variants.{Accepted as Passed}
 use Rattle.rules.specs.Queues.{actQueue, dataQueue}
 use Rattle.rules.specs.Verdict.{Legal}
-use Rattle.rules.specs.Finish.{finishOf, finish}
-use Rattle.rules.specs.Bound.{bound}
-use Rattle.rules.specs.Promise.{cycleOf, Kept, lastDataCycle}
+use Rattle.rules.specs.Finish.{finishOf, countFrom, finish}
+use Rattle.rules.specs.Bound.{bound, span}
+use Rattle.rules.specs.Promise.{cycleOf, Kept, lastCommandCycle}
 use Rattle.rules.proofs.TestLaws.{OnSome, every-at}
-use Rattle.rules.proofs.Fit.{is-fit}
+use Rattle.rules.proofs.Fit.{is-fit, plain-fit}
+use Rattle.rules.proofs.Ranges.{ranges}
 use Rattle.rules.proofs.Promises.{kept}
 use Rattle.heads.proofs.Laws.{acts-due, datas-due}
 use Rattle.judge.specs.declared.answer.Judged.the-variants.{Verdict}
@@ -109,12 +110,12 @@ module _ (τ : Table) (l : List Transaction) (rs : List Command) (f₀ f : List 
       ap (drop (length l)) e
       ∙ (drop-at new (drop (length new) f₀) (length l) (finishes-length τ l 0 rs) ∙ ap (λ (n : ℕ). drop n f₀) (finishes-length τ l 0 rs))
 
--- ---- the bound of a transaction that fits
+-- ---- the bound of a read or a write that fits
 
-bound-told : (τ : Table) (x : Transaction) → fits τ x ≡ true → bounding (Read τ) (x .bi) (x .bc) ≡ Bound (τ .edition) (bound τ (x .bi) (x .bc))
+bound-told : (τ : Table) → Accepted τ → (x : Transaction) → fits τ x ≡ true → isRefresh x ≡ false → bounding (Read τ) (x .bi) (x .bc) ≡ Bound (τ .edition) (bound τ (x .bi) (x .bc))
 unfolding bounding boundTold
-bound-told τ x e =
-    let k = is-fit τ x e in
+bound-told τ acc x e er =
+    let k = plain-fit τ x (is-fit τ (ranges τ acc .banks .least) x e) er in
     rw (
       le-leb 1 (x .bi) (k .oneI),
       le-leb (x .bi) 16 (k .maxI),
@@ -161,13 +162,15 @@ module _ (expected : ℕ) (table : List ℕ) (τ : Table) (read : admitted expec
         served = q .finishes;
         first = q .firstIn;
         next = q .nextIn;
-        firstFinish = λ x at. subst (λ (z : ℕ). z ≤ finishOf τ x (bound τ (x .bi) (x .bc))) (sym (stands 0 x at)) (q .firstFinish x at);
-        nextFinish = λ j x at.
-            subst (λ (z : ℕ). z ≤ finishOf τ x (lastDataCycle j rs + bound τ (x .bi) (x .bc))) (sym (stands (suc j) x at)) (q .nextFinish j x at);
+        firstFinish = λ x at. subst (λ (z : ℕ). z ≤ finishOf τ x (span τ x)) (sym (stands 0 x at)) (q .firstFinish x at);
+        nextFinish = λ j w x was at.
+            subst (λ (z : ℕ). z ≤ finishOf τ x (countFrom τ w (lastCommandCycle j rs) + span τ x)) (sym (stands (suc j) x at)) (q .nextFinish j w x was at);
         fits = λ j x at. subst (λ (z : ℕ). z < 4294967296) (sym (stands j x at)) (q .finishFits j x at);
-        told = λ j x at.
-            of-bytes (λ (a : TableRead). bounding a (x .bi) (x .bc) ≡ Bound (τ .edition) (bound τ (x .bi) (x .bc)))
-            (bound-told τ x (subst (OnSome (λ y. fits τ y ≡ true)) at (every-at (fits τ) l j (and-right (leb (length l) 256) (every (fits τ) l) fit))));
+        told = λ j x at er. (
+          rw er,
+          of-bytes (λ (a : TableRead). bounding a (x .bi) (x .bc) ≡ Bound (τ .edition) (bound τ (x .bi) (x .bc)))
+              (bound-told τ acc x (subst (OnSome (λ y. fits τ y ≡ true)) at (every-at (fits τ) l j (and-right (leb (length l) 256) (every (fits τ) l) fit))) er),
+        );
         unmoved = λ j. q .unmoved (take j l) (drop j l) (sym (take-append-drop j l));
       }
 

@@ -3,124 +3,44 @@
 use Prim.Native.Nat.{ℕ}
 use mathlib.Core.Path.{_≡_}
 use mathlib.Core.List.{List, [], _∷_, _++_}
-use lib.ListN.{length, take, replicate}
+use lib.ListN.{length, replicate}
 use Rattle.records.specs.declared.transaction.Transaction.{Transaction}
-use Rattle.records.specs.declared.command.Kind.the-variants.{Act, Rd, Rda, Wr, Wra, Other}
-use Rattle.records.specs.declared.command.Command.{Command}
+use Rattle.records.specs.declared.command.Kind.the-variants.{Act, Rd, Rda, Wr, Wra, Ref, Other}
 use Rattle.records.specs.declared.command.CommandRead.the-variants.{Read as CommandIs}
 use Rattle.records.specs.declared.refusal.Refusal.{Refusal}
-use Rattle.records.specs.Told.{refusal, Wrote}
 use Rattle.records.specs.Little.{bytes16}
 use Rattle.records.specs.Table.{readTable, writeTable}
-use Rattle.records.specs.Transaction.{transactionsIn, readTransaction, writeTransaction}
+use Rattle.records.specs.Transaction.{readTransaction, writeTransaction}
 use Rattle.records.specs.Command.{command, bytesOfAll, readCommand, writeCommand}
-use Rattle.records.specs.House.{numbersA, numbersB, numbersC}
-use Rattle.rules.specs.Worked.{read, one, eleven, All}
-use Rattle.judge.specs.declared.answer.PatternJudged.{PatternJudged}
-use Rattle.builder.specs.declared.build.BuildAnswer.{BuildAnswer}
-use Rattle.lists.specs.Check.{checkList, checkBytes}
+use Rattle.records.specs.House.{house, numbersA}
+use Rattle.rules.specs.Worked.{read, refresh, one, eleven, thenRef, All}
+use Rattle.lists.specs.Check.{checkList}
 use Rattle.lists.specs.Packed.{recordsOf}
 use Rattle.controller.specs.declared.controller.Controller.{Controller}
 use Rattle.desk.specs.declared.running.StartAnswer.the-variants.{Refused as NotStarted}
 use Rattle.desk.specs.Admit.{admitted}
-use Rattle.desk.specs.Judging.{judging, PatternTold}
-use Rattle.desk.specs.Bounds.{bounding}
 use Rattle.desk.specs.Transactions.{reading}
-use Rattle.desk.specs.Schedules.{Schedules}
 use Rattle.desk.specs.Running.{starting, running}
 use Rattle.desk.specs.Runs.{NeverRuns}
-use Rattle.desk.specs.Numbers.{Numbers, telling, refusing, tableNumbers, transactionNumbers, commandNumbers, writtenNumbers, judgedNumbers, patternNumbers, boundNumbers, readNumbers, buildNumbers, startNumbers, runNumbers}
-
--- ---- what is handed in
-
--- the 32 bytes of tables A, B and C; of A with RC 50; of A with CCD 1, which number 2 refuses; and of that with a last number 1
-abbrev pub A : List ℕ
-A = bytes16 numbersA
-
-abbrev pub B : List ℕ
-B = bytes16 numbersB
-
-abbrev pub C : List ℕ
-C = bytes16 numbersC
-
-abbrev pub A50 : List ℕ
-A50 = bytes16 (7 ∷ 8 ∷ 4 ∷ 4 ∷ 10 ∷ 10 ∷ 28 ∷ 50 ∷ 6 ∷ 32 ∷ 10 ∷ 8 ∷ 6 ∷ 12 ∷ 6 ∷ 0 ∷ [])
-
-abbrev pub ccd1 : ℕ → List ℕ
-ccd1 last = bytes16 (7 ∷ 8 ∷ 4 ∷ 1 ∷ 10 ∷ 10 ∷ 28 ∷ 38 ∷ 6 ∷ 32 ∷ 10 ∷ 8 ∷ 6 ∷ 12 ∷ 6 ∷ last ∷ [])
-
--- a read that fits the table, and one that does not
-abbrev pub fine : Transaction
-fine = read 0 1 1
-
-abbrev pub out : Transaction
-out = read 8 1 1
-
--- a controller of an edition and a cycle, from whose queues so many commands have gone; nothing else has happened to it
-abbrev pub gone : ℕ → ℕ → ℕ → ℕ → Controller
-gone e t acts datas =
-    record {
-      edition = e;
-      cycle = t;
-      acts = acts;
-      datas = datas;
-      banks = replicate 16 (record { opened = 0; act = 4294967295; rd = 4294967295; wr = 4294967295 });
-      last = replicate 4 4294967295;
-      rd = 4294967295;
-      wr = 4294967295;
-    }
-
--- ---- what is told
-
--- a refusal by a number, at a position, with an edition
-abbrev pub told : ℕ → ℕ → ℕ → Numbers
-told n p e = refusing (refusal n p e)
-
-abbrev pub judges : ℕ → List ℕ → List Command → Numbers
-judges e t rs = judgedNumbers (judging (admitted e t) (bytesOfAll rs))
-
-abbrev pub judgesBytes : ℕ → List ℕ → List ℕ → Numbers
-judgesBytes e t s = judgedNumbers (judging (admitted e t) s)
-
--- whatever answer keeps the promise tells these numbers
-abbrev pub Patterns : ℕ → List ℕ → List ℕ → ℕ → Numbers → Type 0
-Patterns e t s L n = (r : PatternJudged) → PatternTold (admitted e t) s L r → patternNumbers r ≡ n
-
-abbrev pub bounds : ℕ → List ℕ → ℕ → ℕ → Numbers
-bounds e t bi bc = boundNumbers (bounding (admitted e t) bi bc)
-
-abbrev pub reads : ℕ → List ℕ → List ℕ → List Transaction → Numbers
-reads e t s l = readNumbers (reading (admitted e t) s l .answer)
-
--- whatever answer and buffers keep the promise, the answer tells these numbers and the buffers hold b and f
-abbrev pub Builds : ℕ → List ℕ → List Transaction → List ℕ → List ℕ → Numbers → List ℕ → List ℕ → Type 0
-Builds e t l b₀ f₀ n b f =
-    (r : BuildAnswer) (b' f' : List ℕ) → Schedules (λ τ. checkList τ l) (admitted e t) l b₀ b' f₀ f' r → (buildNumbers r ≡ n) × (b' ≡ b) × (f' ≡ f)
-
-abbrev pub BuildsBytes : ℕ → List ℕ → List ℕ → List ℕ → List ℕ → Numbers → List ℕ → List ℕ → Type 0
-BuildsBytes e t s b₀ f₀ n b f =
-    (r : BuildAnswer) (b' f' : List ℕ) → Schedules (λ τ. checkBytes τ s) (admitted e t) (transactionsIn s) b₀ b' f₀ f' r → (buildNumbers r ≡ n) × (b' ≡ b) × (f' ≡ f)
-
-abbrev pub runs : ℕ → List ℕ → Controller → List Transaction → ℕ → ℕ → Numbers
-runs e t c l n room = runNumbers (running (λ τ. checkList τ l) (admitted e t) c l n (replicate room 9) .told .answer)
-
-abbrev pub runsBytes : ℕ → List ℕ → Controller → List ℕ → ℕ → ℕ → Numbers
-runsBytes e t c s n room = runNumbers (running (λ τ. checkBytes τ s) (admitted e t) c (transactionsIn s) n (replicate room 9) .told .answer)
-
-abbrev pub Writes : Wrote → Numbers → List ℕ → Type 0
-Writes w n b = (writtenNumbers (w .answer) ≡ n) × (w .buffer ≡ b)
+use Rattle.desk.specs.Numbers.{telling, tableNumbers, transactionNumbers, commandNumbers, startNumbers}
+use Rattle.desk.specs.Handed.{A, B, C, A50, ccd1, cut, withRfc, R, R200, fine, out, refreshed, gone, told, judges, judgesBytes, Patterns, bounds, reads, Builds, BuildsBytes, runs, runsBytes, Writes}
 
 -- ---- the calls on one record
 
 abbrev pub recordCalls : List (Type 0)
 recordCalls =
-    -- a table: read; of 31 bytes, which are out of range too; out of range; with a last number that is not 0 too
+    -- a table: read; of 31 bytes, which are out of range too; out of range; RFC and a timing number at 1,023, and one beyond
     (tableNumbers (readTable A) ≡ telling 7 numbersA)
-    ∷ (tableNumbers (readTable (take 31 (ccd1 0))) ≡ told 1 0 0)
-    ∷ (tableNumbers (readTable (ccd1 0)) ≡ told 2 0 0)
-    ∷ (tableNumbers (readTable (ccd1 1)) ≡ told 1 0 0)
+    ∷ (tableNumbers (readTable cut) ≡ told 1 0 0)
+    ∷ (tableNumbers (readTable ccd1) ≡ told 2 0 0)
+    ∷ (tableNumbers (readTable (withRfc 1023)) ≡ telling 7 (house 32 6 1023))
+    ∷ (tableNumbers (readTable (withRfc 1024)) ≡ told 2 0 0)
+    ∷ (tableNumbers (readTable (bytes16 (house 1023 6 0))) ≡ telling 7 (house 1023 6 0))
+    ∷ (tableNumbers (readTable (bytes16 (house 1024 6 0))) ≡ told 2 0 0)
     ∷ Writes (writeTable numbersA (replicate 32 9)) (telling 7 []) A
     ∷ Writes (writeTable numbersA (replicate 33 9)) (told 1 0 0) (replicate 33 9)
+    ∷ Writes (writeTable (house 32 6 1024) (replicate 33 9)) (told 1 0 0) (replicate 33 9)
+    ∷ Writes (writeTable (house 32 6 1024) (replicate 32 9)) (told 2 0 0) (replicate 32 9)
     -- a transaction: banks counts as 16; 3 before 4
     ∷ (transactionNumbers (readTransaction (1 ∷ 15 ∷ 16 ∷ 16 ∷ [])) ≡ telling 0 (1 ∷ 15 ∷ 16 ∷ 16 ∷ []))
     ∷ (transactionNumbers (readTransaction (1 ∷ 16 ∷ 1 ∷ 1 ∷ [])) ≡ told 4 0 0)
@@ -128,6 +48,11 @@ recordCalls =
     ∷ Writes (writeTransaction fine (replicate 4 9)) (telling 0 []) (0 ∷ 0 ∷ 1 ∷ 1 ∷ [])
     ∷ Writes (writeTransaction (read 16 1 1) (replicate 4 9)) (told 4 0 0) (replicate 4 9)
     ∷ Writes (writeTransaction (read 16 1 1) (replicate 5 9)) (told 3 0 0) (replicate 5 9)
+    -- a refresh, "accepted where no table is given"; with BI 1; a type above 2
+    ∷ (transactionNumbers (readTransaction (2 ∷ 0 ∷ 0 ∷ 0 ∷ [])) ≡ telling 0 (2 ∷ 0 ∷ 0 ∷ 0 ∷ []))
+    ∷ (transactionNumbers (readTransaction (2 ∷ 0 ∷ 1 ∷ 0 ∷ [])) ≡ told 4 0 0)
+    ∷ (transactionNumbers (readTransaction (3 ∷ 0 ∷ 1 ∷ 1 ∷ [])) ≡ told 4 0 0)
+    ∷ Writes (writeTransaction refresh (replicate 4 9)) (telling 0 []) (2 ∷ 0 ∷ 0 ∷ 0 ∷ [])
     -- a command: the kinds by their numbers, and any other byte
     ∷ (commandNumbers (readCommand (1 ∷ 2 ∷ 3 ∷ 4 ∷ 0 ∷ 6 ∷ 7 ∷ 8 ∷ [])) ≡ telling 0 (67305985 ∷ 0 ∷ 6 ∷ 2055 ∷ []))
     ∷ (readCommand (0 ∷ 0 ∷ 0 ∷ 0 ∷ 0 ∷ 0 ∷ 0 ∷ 0 ∷ []) ≡ CommandIs (command 0 Act 0 0))
@@ -135,7 +60,8 @@ recordCalls =
     ∷ (readCommand (0 ∷ 0 ∷ 0 ∷ 0 ∷ 2 ∷ 0 ∷ 0 ∷ 0 ∷ []) ≡ CommandIs (command 0 Rda 0 0))
     ∷ (readCommand (0 ∷ 0 ∷ 0 ∷ 0 ∷ 3 ∷ 0 ∷ 0 ∷ 0 ∷ []) ≡ CommandIs (command 0 Wr 0 0))
     ∷ (readCommand (0 ∷ 0 ∷ 0 ∷ 0 ∷ 4 ∷ 0 ∷ 0 ∷ 0 ∷ []) ≡ CommandIs (command 0 Wra 0 0))
-    ∷ (readCommand (0 ∷ 0 ∷ 0 ∷ 0 ∷ 5 ∷ 0 ∷ 0 ∷ 0 ∷ []) ≡ CommandIs (command 0 (Other 5) 0 0))
+    ∷ (readCommand (0 ∷ 0 ∷ 0 ∷ 0 ∷ 5 ∷ 0 ∷ 0 ∷ 0 ∷ []) ≡ CommandIs (command 0 Ref 0 0))
+    ∷ (readCommand (0 ∷ 0 ∷ 0 ∷ 0 ∷ 6 ∷ 0 ∷ 0 ∷ 0 ∷ []) ≡ CommandIs (command 0 (Other 6) 0 0))
     ∷ (commandNumbers (readCommand (replicate 9 0)) ≡ told 7 0 0)
     ∷ Writes (writeCommand (command 10 Rda 3 1) (replicate 9 9)) (telling 0 []) (10 ∷ 0 ∷ 0 ∷ 0 ∷ 2 ∷ 3 ∷ 1 ∷ 0 ∷ 9 ∷ [])
     ∷ Writes (writeCommand (command 10 Rda 3 1) (replicate 7 9)) (told 5 0 0) (replicate 7 9)
@@ -146,8 +72,8 @@ recordCalls =
 abbrev pub judgeCalls : List (Type 0)
 judgeCalls =
     -- 1 before 2, 2 before 10, 10 before 7, 7
-    (judgesBytes 8 (ccd1 1) (0 ∷ []) ≡ told 1 0 0)
-    ∷ (judgesBytes 8 (ccd1 0) (0 ∷ []) ≡ told 2 0 0)
+    (judgesBytes 8 cut (0 ∷ []) ≡ told 1 0 0)
+    ∷ (judgesBytes 8 ccd1 (0 ∷ []) ≡ told 2 0 0)
     ∷ (judgesBytes 8 A (0 ∷ []) ≡ told 10 7 7)
     ∷ (judgesBytes 0 A (0 ∷ []) ≡ told 10 7 7)
     ∷ (judgesBytes 7 A (0 ∷ []) ≡ told 7 0 7)
@@ -157,7 +83,7 @@ judgeCalls =
     -- accepted: nothing, and example 1; then each rule by its number, with the record, and no copy
     ∷ (judges 7 A [] ≡ telling 7 [])
     ∷ (judges 7 A one ≡ telling 7 [])
-    ∷ (judges 7 A (command 0 (Other 5) 0 0 ∷ []) ≡ telling 7 (1 ∷ 0 ∷ []))
+    ∷ (judges 7 A (command 0 (Other 6) 0 0 ∷ []) ≡ telling 7 (1 ∷ 0 ∷ []))
     ∷ (judges 7 A (command 0 Act 8 0 ∷ []) ≡ telling 7 (1 ∷ 0 ∷ []))
     ∷ (judges 7 A (command 6 Act 0 0 ∷ command 6 Act 1 0 ∷ []) ≡ telling 7 (2 ∷ 1 ∷ []))
     ∷ (judges 7 A (command 0 Act 0 0 ∷ command 9 Act 0 0 ∷ []) ≡ telling 7 (3 ∷ 1 ∷ []))
@@ -169,6 +95,15 @@ judgeCalls =
     ∷ (judges 7 A (command 0 Act 0 0 ∷ command 9 Rda 0 0 ∷ []) ≡ telling 7 (8 ∷ 1 ∷ []))
     ∷ (judges 7 A (command 0 Act 0 0 ∷ command 6 Act 1 0 ∷ command 16 Rda 0 0 ∷ command 19 Rda 1 0 ∷ []) ≡ telling 7 (9 ∷ 3 ∷ []))
     ∷ (judges 7 A (command 0 Act 0 0 ∷ []) ≡ telling 7 (10 ∷ 1 ∷ []))
+    -- a REF: its bank is 0; under RFC 0; 11 with a bank open, and before its precharge start + RP; 12 of a REF, and of an ACT; 6 before 12
+    ∷ (judges 7 R (command 0 Ref 1 0 ∷ []) ≡ telling 7 (1 ∷ 0 ∷ []))
+    ∷ (judges 7 A (command 0 Ref 0 0 ∷ command 1 Ref 0 0 ∷ []) ≡ telling 7 [])
+    ∷ (judges 7 R (command 0 Act 5 0 ∷ command 1 Ref 0 0 ∷ []) ≡ telling 7 (11 ∷ 1 ∷ []))
+    ∷ (judges 7 R (thenRef 37 0) ≡ telling 7 (11 ∷ 2 ∷ []))
+    ∷ (judges 7 R (thenRef 38 0) ≡ telling 7 [])
+    ∷ (judges 7 R (command 0 Ref 0 0 ∷ command 49 Ref 0 0 ∷ []) ≡ telling 7 (12 ∷ 1 ∷ []))
+    ∷ (judges 7 R (command 0 Ref 0 0 ∷ command 49 Act 0 0 ∷ []) ≡ telling 7 (12 ∷ 1 ∷ []))
+    ∷ (judges 7 R200 (thenRef 38 0 ++ (command 50 Act 1 0 ∷ [])) ≡ telling 7 (6 ∷ 3 ∷ []))
     -- a pattern: 10 before 7, 7 before 8, 8; accepted; refused, with the copy; in a single copy too
     ∷ Patterns 8 A (0 ∷ []) 0 (told 10 7 7)
     ∷ Patterns 7 A (0 ∷ []) 0 (told 7 0 7)
@@ -177,6 +112,8 @@ judgeCalls =
     ∷ Patterns 7 A (bytesOfAll one) 37 (telling 7 (4 ∷ 2 ∷ 0 ∷ []))
     ∷ Patterns 7 A (bytesOfAll (command 0 Act 0 0 ∷ [])) 1 (telling 7 (10 ∷ 1 ∷ 1 ∷ []))
     ∷ Patterns 7 B (bytesOfAll one) 38 (telling 7 (7 ∷ 5 ∷ 0 ∷ []))
+    ∷ Patterns 7 R (bytesOfAll (command 0 Ref 0 0 ∷ [])) 50 (telling 7 [])
+    ∷ Patterns 7 R (bytesOfAll (command 0 Ref 0 0 ∷ [])) 49 (telling 7 (12 ∷ 2 ∷ 0 ∷ []))
     ∷ []
 
 -- ---- the bound, and lists
@@ -200,6 +137,9 @@ listCalls =
     ∷ (reading (admitted 7 A) (recordsOf (fine ∷ fine ∷ [])) (out ∷ out ∷ []) .list ≡ fine ∷ fine ∷ [])
     ∷ (reading (admitted 7 A) (recordsOf (fine ∷ [])) (out ∷ out ∷ []) .list ≡ fine ∷ out ∷ [])
     ∷ (reads 7 A [] [] ≡ telling 7 (0 ∷ []))
+    -- a refresh, and where RFC is 0
+    ∷ (reads 7 R (recordsOf (fine ∷ refresh ∷ [])) (out ∷ out ∷ []) ≡ telling 7 (2 ∷ []))
+    ∷ (reads 7 A (recordsOf (fine ∷ refresh ∷ [])) (out ∷ out ∷ []) ≡ told 4 1 7)
     -- 256 transactions as bytes, and one more, with places enough
     ∷ ((s : List ℕ) (l : List Transaction) → length s ≡ 1024 → length l ≡ 256 → reads 7 A s l .refused ≡ 3 → ⊥)
     ∷ ((s : List ℕ) (l : List Transaction) → length s ≡ 1028 → length l ≡ 257 → reads 7 A s l ≡ told 3 0 7)
@@ -220,6 +160,10 @@ scheduleCalls =
     ∷ Builds 7 A (fine ∷ []) (replicate 16 9) (8 ∷ []) (telling 7 (2 ∷ [])) (bytesOfAll one) (24 ∷ [])
     ∷ Builds 7 A (fine ∷ []) (replicate 17 9) (8 ∷ 8 ∷ []) (telling 7 (2 ∷ [])) (bytesOfAll one ++ (9 ∷ [])) (24 ∷ 8 ∷ [])
     ∷ Builds 7 A [] [] [] (telling 7 (0 ∷ [])) [] []
+    -- a refresh is one command due, and finishes at its cycle + RFC; where RFC is 0
+    ∷ Builds 7 R (refresh ∷ []) (replicate 7 9) [] (told 5 0 7) (replicate 7 9) []
+    ∷ Builds 7 R (refresh ∷ []) (replicate 9 9) (8 ∷ []) (telling 7 (1 ∷ [])) (bytesOfAll (command 0 Ref 0 0 ∷ []) ++ (9 ∷ [])) (50 ∷ [])
+    ∷ Builds 7 A (fine ∷ refresh ∷ []) [] [] (told 4 1 7) [] []
     -- 256 decoded transactions are not too many
     ∷ Builds 7 A (replicate 256 fine) [] [] (told 5 0 7) [] []
     -- the same of a list's bytes
@@ -229,6 +173,8 @@ scheduleCalls =
     ∷ BuildsBytes 7 A (recordsOf (fine ∷ [])) (replicate 15 9) [] (told 5 0 7) (replicate 15 9) []
     ∷ BuildsBytes 7 A (recordsOf (fine ∷ [])) (replicate 16 9) [] (told 6 0 7) (replicate 16 9) []
     ∷ BuildsBytes 7 A (recordsOf (fine ∷ [])) (replicate 17 9) (8 ∷ []) (telling 7 (2 ∷ [])) (bytesOfAll one ++ (9 ∷ [])) (24 ∷ [])
+    ∷ BuildsBytes 7 R (recordsOf (refresh ∷ [])) (replicate 8 9) (8 ∷ []) (telling 7 (1 ∷ [])) (bytesOfAll (command 0 Ref 0 0 ∷ [])) (50 ∷ [])
+    ∷ BuildsBytes 7 A (recordsOf (fine ∷ refresh ∷ [])) [] [] (told 4 1 7) [] []
     ∷ ((s b f : List ℕ) → length s ≡ 1028 → BuildsBytes 7 A s b f (told 3 0 7) b f)
     ∷ []
 
@@ -240,8 +186,8 @@ runCalls =
     (startNumbers (starting (admitted 7 A) .answer) ≡ telling 7 [])
     ∷ (starting (admitted 7 A) .controller ≡ gone 7 0 0 0)
     ∷ (startNumbers (starting (admitted 8 A) .answer) ≡ told 10 7 7)
-    ∷ (startNumbers (starting (admitted 8 (ccd1 0)) .answer) ≡ told 2 0 0)
-    ∷ (startNumbers (starting (admitted 8 (ccd1 1)) .answer) ≡ told 1 0 0)
+    ∷ (startNumbers (starting (admitted 8 ccd1) .answer) ≡ told 2 0 0)
+    ∷ (startNumbers (starting (admitted 8 cut) .answer) ≡ told 1 0 0)
     ∷ (starting (admitted 8 A) .controller ≡ gone 0 0 0 0)
     -- whatever table refuses it, no run takes what a refused start hands out
     ∷ ((e : ℕ) (t : List ℕ) (x : Refusal) → starting (admitted e t) .answer ≡ NotStarted x → NeverRuns (starting (admitted e t) .controller))
@@ -268,6 +214,16 @@ runCalls =
     ∷ (runs 7 A (gone 7 0 0 0) (fine ∷ []) 99 16 ≡ telling 7 (2 ∷ 11 ∷ []))
     ∷ (running (λ τ. checkList τ (fine ∷ [])) (admitted 7 A) (gone 7 0 0 0) (fine ∷ []) 99 (replicate 17 9) .buffer ≡ bytesOfAll one ++ (9 ∷ []))
     ∷ (runs 7 A (gone 7 0 0 0) [] 99 0 ≡ telling 7 (0 ∷ 0 ∷ []))
+    -- with a refresh: where RFC is 0; its REF is a command left, and a place of the ACT queue; the last REF's cycle is before the state's own
+    ∷ (runs 7 A (gone 7 0 0 0) (fine ∷ refresh ∷ []) 1 0 ≡ told 4 1 7)
+    ∷ (runs 7 R (gone 7 0 0 0) (refresh ∷ fine ∷ []) 99 23 ≡ told 5 0 7)
+    ∷ (runs 7 R (gone 7 0 0 0) (refresh ∷ fine ∷ []) 99 24 ≡ telling 7 (3 ∷ 61 ∷ []))
+    ∷ (runs 7 R (gone 7 0 1 0) (refresh ∷ fine ∷ []) 99 15 ≡ told 5 0 7)
+    ∷ (runs 7 R (gone 7 0 1 0) (refresh ∷ fine ∷ []) 99 16 ≡ telling 7 (2 ∷ 11 ∷ []))
+    ∷ (runs 7 R (gone 7 0 1 1) (refresh ∷ fine ∷ []) 0 0 ≡ told 9 0 7)
+    ∷ (runs 7 R (gone 7 0 2 1) (refresh ∷ fine ∷ []) 0 0 ≡ telling 7 (0 ∷ 0 ∷ []))
+    ∷ (runs 7 R (refreshed 7 5 1 0 5) (refresh ∷ fine ∷ []) 0 0 ≡ told 9 0 7)
+    ∷ (runs 7 R (refreshed 7 6 1 0 5) (refresh ∷ fine ∷ []) 99 16 ≡ telling 7 (2 ∷ 60 ∷ []))
     -- the same of a list's bytes
     ∷ (runsBytes 8 A (gone 7 0 0 0) (0 ∷ []) 1 0 ≡ told 10 7 7)
     ∷ (runsBytes 7 A (gone 7 0 0 0) (recordsOf (out ∷ []) ++ (0 ∷ [])) 1 0 ≡ told 3 0 7)

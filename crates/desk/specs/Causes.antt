@@ -42,10 +42,10 @@ abbrev pub FirstRow : List Row → Numbers → Type 0
 FirstRow [] a = (a .refused ≡ 0) × (a .position ≡ 0)
 FirstRow (r ∷ l) a = pick (r .applies) ((a .refused ≡ r .number) × (a .position ≡ r .position)) (FirstRow l a)
 
--- 1: "table not 32 bytes, or its last number not 0"; 2: "a table number out of range, CCD below 2 or below B"; then the rows that the call has
--- besides
+-- 1: "table not 32 bytes"; it "no longer looks at" the last number (document 02, request 5). 2: "a table number out of range, CCD below 2 or
+-- below B", RFC's among them. Then the rows that the call has besides
 abbrev pub readRows : ℕ → Table → List Row → List Row
-readRows size τ rest = row 1 0 (not (eqb size 32 && eqb (τ .last) 0)) ∷ row 2 0 (not (inRange τ)) ∷ rest
+readRows size τ rest = row 1 0 (not (eqb size 32)) ∷ row 2 0 (not (inRange τ)) ∷ rest
 
 -- 10: the table's edition is not the expected one, "position the table's edition"
 abbrev pub tableRows : ℕ → List ℕ → List Row → List Row
@@ -56,7 +56,7 @@ abbrev pub lowestOut : Table → List Transaction → ℕ
 lowestOut τ [] = 0
 lowestOut τ (x ∷ l) = pick (fits τ x) (suc (lowestOut τ l)) 0
 
--- 3, by whether the size is good; 4: "a transaction out of range", position "its number, the lowest"
+-- 3, by whether the size is good; 4: "a transaction out of range", a refresh "when RFC is 0" among them, position "its number, the lowest"
 abbrev pub listRows : Table → Bool → List Transaction → List Row → List Row
 listRows τ good l rest = row 3 0 (not good) ∷ row 4 (lowestOut τ l) (not (every (fits τ) l)) ∷ rest
 
@@ -111,12 +111,13 @@ pub record Causes (expected : ℕ) (table : List ℕ) : Type 0 where
 
 -- the calls on one record: s is the bytes read, or what the buffer held. "A call that writes a record checks the values as a reader would, and
 -- the room: number 1 for a table buffer that isn't 32 bytes, 3 for a transaction buffer that isn't 4, 5 for a command buffer under 8. A reader of
--- one record gives 1, 3 or 7 for any size but 32, 4 or 8." "Where no table is given, banks counts as 16."
+-- one record gives 1, 3 or 7 for any size but 32, 4 or 8." "Where no table is given, banks counts as 16", and a refresh is
+-- "accepted where no table is given" (document 02, request 5): RFC counts as not 0.
 pub record RecordCauses (s : List ℕ) : Type 0 where
   pub tableRead : FirstRow (readRows (length s) (tableAt s) []) (tableNumbers (readTable s))
   pub tableWritten : (l : List ℕ) → FirstRow (readRows (length s) (tableOf l) []) (writtenNumbers (writeTable l s .answer))
-  pub transactionRead : FirstRow (row 3 0 (not (eqb (length s) 4)) ∷ row 4 0 (not (fitsIn 16 (transactionAt s 0))) ∷ []) (transactionNumbers (readTransaction s))
+  pub transactionRead : FirstRow (row 3 0 (not (eqb (length s) 4)) ∷ row 4 0 (not (fitsIn 16 1 (transactionAt s 0))) ∷ []) (transactionNumbers (readTransaction s))
   pub transactionWritten : (x : Transaction)
-      → FirstRow (row 3 0 (not (eqb (length s) 4)) ∷ row 4 0 (not (fitsIn 16 x)) ∷ []) (writtenNumbers (writeTransaction x s .answer))
+      → FirstRow (row 3 0 (not (eqb (length s) 4)) ∷ row 4 0 (not (fitsIn 16 1 x)) ∷ []) (writtenNumbers (writeTransaction x s .answer))
   pub commandRead : FirstRow (row 7 0 (not (eqb (length s) 8)) ∷ []) (commandNumbers (readCommand s))
   pub commandWritten : (c : Command) → FirstRow (row 5 0 (not (leb 8 (length s))) ∷ []) (writtenNumbers (writeCommand c s .answer))

@@ -19,7 +19,7 @@ use Rattle.records.specs.Tests.{pick}
 use Rattle.records.specs.Told.{refusal}
 use Rattle.records.specs.Little.{num, num32}
 use Rattle.records.specs.Table.{tableAt, inRange, readTable, writeTable, Accepted}
-use Rattle.records.specs.Transaction.{transactionsIn, writeTransaction}
+use Rattle.records.specs.Transaction.{transactionsIn, isRefresh, writeTransaction}
 use Rattle.records.specs.Command.{commandsIn, bytesOfAll, readCommand, writeCommand}
 use Rattle.rules.specs.declared.state.Stamp.the-variants.{At}
 use Rattle.rules.specs.declared.verdict.Rule.{Rule}
@@ -30,9 +30,9 @@ use Rattle.rules.specs.Verdict.{allShut}
 use Rattle.rules.specs.Pattern.{onto, copy, endToEnd, copies, EveryNumberLegal}
 use Rattle.rules.specs.Queues.{actQueue, dataQueue}
 use Rattle.rules.specs.CycleRule.{Built as IsBuilt}
-use Rattle.rules.specs.Finish.{lastData, finishOf, finish}
-use Rattle.rules.specs.Bound.{bound}
-use Rattle.rules.specs.Promise.{ofFirst, cycleOf, lastDataCycle}
+use Rattle.rules.specs.Finish.{lastCommand, finishOf, countFrom, finish}
+use Rattle.rules.specs.Bound.{bound, span}
+use Rattle.rules.specs.Promise.{ofFirst, cycleOf, lastCommandCycle}
 use Rattle.rules.specs.Demands.{FineTo}
 use Rattle.judge.specs.declared.answer.Judged.the-variants.{Verdict}
 use Rattle.judge.specs.declared.answer.PatternJudged.{PatternJudged}
@@ -54,11 +54,11 @@ use Rattle.desk.specs.Running.{starting, running}
 use Rattle.desk.specs.Causes.{Causes, RecordCauses}
 use Rattle.desk.specs.Numbers.{telling, ruleNumber, commandNumbers, judgedNumbers, patternNumbers, boundNumbers, readNumbers, buildNumbers, startNumbers, runNumbers}
 
--- why a table is not admitted: number 1 by its size or its last number, number 2 by a number out of range, number 10 by its edition
+-- why a table is not admitted: number 1 by its size alone, number 2 by a number out of range, number 10 by its edition
 abbrev pub NotAdmitted : ℕ → List ℕ → Refusal → Type 0
 NotAdmitted expected table x =
-    ((x ≡ refusal 1 0 0) × ((length table ≡ 32 → ⊥) ⊎ (tableAt table .last ≡ 0 → ⊥)))
-    ⊎ (((x ≡ refusal 2 0 0) × (length table ≡ 32) × (tableAt table .last ≡ 0) × (inRange (tableAt table) ≡ false))
+    ((x ≡ refusal 1 0 0) × (length table ≡ 32 → ⊥))
+    ⊎ (((x ≡ refusal 2 0 0) × (length table ≡ 32) × (inRange (tableAt table) ≡ false))
     ⊎ ((τ : Table) × (readTable table ≡ Read τ) × (τ .edition ≡ expected → ⊥) × (x ≡ refusal 10 (τ .edition) (τ .edition))))
 
 -- Demand 1: "Any bytes at all can be handed in" (no call requires anything), "A refused call writes no byte", "Every answer worked out from a
@@ -96,12 +96,17 @@ pub record Demand1 (expected : ℕ) (table : List ℕ) : Type 0 where
   pub runBytes : (c : Controller) (s : List ℕ) (n : ℕ) (b : List ℕ)
       → runNumbers (running (λ τ. checkBytes τ s) (admitted expected table) c (transactionsIn s) n b .told .answer) .edition ≡ editionOf (readTable table)
 
--- of a record's tests, which stand in the order of the rules' numbers, from 1: number n is the first that fails
-abbrev pub FirstFails : List Bool → ℕ → Type 0
-FirstFails ts n = (k : ℕ) × (n ≡ k + 1) × (getD ts k true ≡ false) × ((m : ℕ) → m < k → getD ts m true ≡ true)
+-- the numbers of the rules that a record is tested by, in the order of the tests: rules 11 and 12 "are tested after rule 9" (document 02,
+-- request 5)
+abbrev pub numbersTested : List ℕ
+numbersTested = 1 ∷ 2 ∷ 3 ∷ 4 ∷ 5 ∷ 6 ∷ 7 ∷ 8 ∷ 9 ∷ 11 ∷ 12 ∷ []
 
--- record i of rs breaks rule n, 1 to 9, against all records before it, of which those of h are the oldest, and no record before it breaks a
--- rule; or n is 10, "at the end a bank is open; the record number is then the count"
+-- of a record's tests, which stand in that order: number n is that of the first that fails
+abbrev pub FirstFails : List Bool → ℕ → Type 0
+FirstFails ts n = (k : ℕ) × (getElem? numbersTested k ≡ some n) × (getD ts k true ≡ false) × ((m : ℕ) → m < k → getD ts m true ≡ true)
+
+-- record i of rs breaks rule n, 1 to 9, 11 or 12, against all records before it, of which those of h are the oldest, and no record before it
+-- breaks a rule; or n is 10, "at the end a bank is open; the record number is then the count"
 abbrev pub BreaksNumber : Table → List Command → List Command → ℕ → ℕ → Type 0
 BreaksNumber τ h rs n i =
     FineTo τ h rs i
@@ -144,17 +149,21 @@ pub record Demand3 (expected : ℕ) (table : List ℕ) (τ : Table) (l : List Tr
   -- the finishing cycles stand in the slice, and all beyond them is as it stood
   pub finishes : (k : ℕ) (x : Transaction) → getElem? l k ≡ some x → getD f k 0 ≡ cycleOf (finish τ x k schedule)
   pub later : drop (length l) f ≡ drop (length l) f₀
-  -- each transaction has a last read or write command
-  pub served : (k : ℕ) → k < length l → lastData k schedule ≡ At (lastDataCycle k schedule)
+  -- each transaction has a last read or write command, a refresh its REF
+  pub served : (k : ℕ) → k < length l → lastCommand k schedule ≡ At (lastCommandCycle k schedule)
   -- "each transaction's last read or write command comes no later than its predecessor's last plus the bound .. (for the first, counted from
-  -- cycle 0)", which is what the call `bound` tells
-  pub first : (x : Transaction) → getElem? l 0 ≡ some x → lastDataCycle 0 schedule ≤ bound τ (x .bi) (x .bc)
-  pub next : (k : ℕ) (x : Transaction) → getElem? l (suc k) ≡ some x → lastDataCycle (suc k) schedule ≤ lastDataCycle k schedule + bound τ (x .bi) (x .bc)
-  pub told : (k : ℕ) (x : Transaction) → getElem? l k ≡ some x → bounding (admitted expected table) (x .bi) (x .bc) ≡ Bound (τ .edition) (bound τ (x .bi) (x .bc))
-  -- "the promised finish of a read is that limit + RL + B" (document 02, request 4), a write's is that limit: of the finishing cycles in the slice;
-  -- and 32 bits hold each
-  pub firstFinish : (x : Transaction) → getElem? l 0 ≡ some x → getD f 0 0 ≤ finishOf τ x (bound τ (x .bi) (x .bc))
-  pub nextFinish : (k : ℕ) (x : Transaction) → getElem? l (suc k) ≡ some x → getD f (suc k) 0 ≤ finishOf τ x (lastDataCycle k schedule + bound τ (x .bi) (x .bc))
+  -- cycle 0)", which is what the call `bound` tells of a read or a write; "The promise counts from that finish where the predecessor", w, "is a
+  -- refresh", and a REF comes "within S of where its count starts" (document 02, request 5)
+  pub first : (x : Transaction) → getElem? l 0 ≡ some x → lastCommandCycle 0 schedule ≤ span τ x
+  pub next : (k : ℕ) (w x : Transaction) → getElem? l k ≡ some w → getElem? l (suc k) ≡ some x
+      → lastCommandCycle (suc k) schedule ≤ countFrom τ w (lastCommandCycle k schedule) + span τ x
+  pub told : (k : ℕ) (x : Transaction) → getElem? l k ≡ some x → isRefresh x ≡ false
+      → (span τ x ≡ bound τ (x .bi) (x .bc)) × (bounding (admitted expected table) (x .bi) (x .bc) ≡ Bound (τ .edition) (bound τ (x .bi) (x .bc)))
+  -- "the promised finish of a read is that limit + RL + B" (document 02, request 4), a write's is that limit, a refresh's that limit + RFC
+  -- (request 5): of the finishing cycles in the slice; and 32 bits hold each
+  pub firstFinish : (x : Transaction) → getElem? l 0 ≡ some x → getD f 0 0 ≤ finishOf τ x (span τ x)
+  pub nextFinish : (k : ℕ) (w x : Transaction) → getElem? l k ≡ some w → getElem? l (suc k) ≡ some x
+      → getD f (suc k) 0 ≤ finishOf τ x (countFrom τ w (lastCommandCycle k schedule) + span τ x)
   pub fits : (k : ℕ) (x : Transaction) → getElem? l k ≡ some x → getD f k 0 < 4294967296
   -- "Transactions added at the end move no command of the earlier ones by a cycle": the schedule of the first j alone
   pub unmoved : (j : ℕ) → IsBuilt τ (take j l) (ofFirst (length (take j l)) schedule)

@@ -9,4 +9,5 @@ pub mod Causes
 pub mod Only
 pub mod Demands
 pub mod Runs
+pub mod Handed
 pub mod Calls

@@ -13,7 +13,7 @@ use Rattle.records.specs.declared.command.CommandRead.the-variants.{Read as Com
 use Rattle.records.specs.Table.{numbersOf}
 use Rattle.records.specs.Command.{kindNumber}
 use Rattle.rules.specs.declared.verdict.Rule.{Rule}
-use Rattle.rules.specs.declared.verdict.Rule.the-variants.{Range, Order, Opened, Precharge, Rc, Rrd, Faw, Rcd, Distance, End}
+use Rattle.rules.specs.declared.verdict.Rule.the-variants.{Range, Order, Opened, Precharge, Rc, Rrd, Faw, Rcd, Distance, End, Refresh, Rfc}
 use Rattle.rules.specs.declared.verdict.Verdict.{Verdict}
 use Rattle.rules.specs.declared.verdict.Verdict.the-variants.{Accepted as Passed, Refused as Broken}
 use Rattle.rules.specs.declared.verdict.PatternVerdict.{PatternVerdict}
@@ -48,7 +48,7 @@ telling e l = record { refused = 0; position = 0; edition = e; values = l }
 abbrev pub refusing : Refusal → Numbers
 refusing x = record { refused = x .number; position = x .position; edition = x .edition; values = [] }
 
--- document 01's number of a rule. (That of a kind of command is `kindNumber`, beside the record that holds it.)
+-- document 01's number of a rule, and document 02's of request 5's. (That of a kind of command is `kindNumber`, beside the record that holds it.)
 abbrev pub ruleNumber : Rule → ℕ
 ruleNumber Range = 1
 ruleNumber Order = 2
@@ -60,6 +60,8 @@ ruleNumber Faw = 7
 ruleNumber Rcd = 8
 ruleNumber Distance = 9
 ruleNumber End = 10
+ruleNumber Refresh = 11
+ruleNumber Rfc = 12
 
 -- ---- one record
 

@@ -1,9 +1,9 @@
-// The numbers that document 01 gives the rules.
+// The numbers that documents 01 and 02 give the rules.
 use rules::verdict::Rule;
 ghost use mathlib.Core.Path.{_≡_};
 ghost use Rattle.desk.specs.Numbers.{ruleNumber};
 
-// Document 01's number of a rule.
+// The paper's number of a rule.
 pub fn rule_number(x: Rule) -> u32
     ensures { λ r. ⌜ r ≡ ruleNumber x ⌝ }
 {
@@ -18,5 +18,7 @@ pub fn rule_number(x: Rule) -> u32
         Rule::Rcd => 8,
         Rule::Distance => 9,
         Rule::End => 10,
+        Rule::Refresh => 11,
+        Rule::Rfc => 12,
     }
 }

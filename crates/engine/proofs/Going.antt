@@ -16,7 +16,7 @@ use Rattle.records.specs.declared.command.Command.{Command}
 use Rattle.records.specs.Command.{bytesOf, bytesOfAll}
 use Rattle.records.proofs.Bytes.{length-over, over-more}
 use Rattle.rules.specs.declared.state.State.{State}
-use Rattle.rules.specs.Kinds.{isAct, isData}
+use Rattle.rules.specs.Kinds.{isData, inActQueue}
 use Rattle.rules.specs.State.{addIf, note, idle, after}
 use Rattle.rules.specs.Pattern.{onto}
 use Rattle.rules.specs.Queues.{actQueue, dataQueue}
@@ -228,12 +228,12 @@ module _ {τ : Table} {bs : List ℕ} {n : ℕ} {s₀ : State} {count : ℕ} {b�
 
   -- both queues after it has left its own
   abbrev Left : Queues → Type 0
-  Left q' = BothStand τ bs n (addIf (isAct (c .kind)) (s .acts)) (addIf (not (isAct (c .kind))) (s .datas)) q'
+  Left q' = BothStand τ bs n (addIf (inActQueue (c .kind)) (s .acts)) (addIf (not (inActQueue (c .kind))) (s .datas)) q'
 
-  pub act-left : isAct (c .kind) ≡ true → (r : Queue) → Stands τ bs n false (actsLeft τ bs q + 1) r → Left (record { acts = r; datas = q .datas })
+  pub act-left : inActQueue (c .kind) ≡ true → (r : Queue) → Stands τ bs n false (actsLeft τ bs q + 1) r → Left (record { acts = r; datas = q .datas })
   act-left e r h = rw e (record { ofActs = recount (ap (λ (x : ℕ). x + 1) (g .queues .ofActs .left)) h; ofDatas = g .queues .ofDatas })
 
-  pub data-left : isAct (c .kind) ≡ false → (r : Queue) → Stands τ bs n true (datasLeft τ bs q + 1) r → Left (record { acts = q .acts; datas = r })
+  pub data-left : inActQueue (c .kind) ≡ false → (r : Queue) → Stands τ bs n true (datasLeft τ bs q + 1) r → Left (record { acts = q .acts; datas = r })
   data-left e r h = rw e (record { ofActs = g .queues .ofActs; ofDatas = recount (ap (λ (x : ℕ). x + 1) (g .queues .ofDatas .left)) h })
 
   abbrev next : State
@@ -242,7 +242,7 @@ module _ {τ : Table} {bs : List ℕ} {n : ℕ} {s₀ : State} {count : ℕ} {b�
   noted : after s (some c) ≡ next
   noted = ap (λ (t : ℕ). note s t (c .kind) (c .bank)) (leaving .cycle)
 
-  data-count : addIf (not (isAct (c .kind))) (s .datas) ≡ next .datas
+  data-count : addIf (not (inActQueue (c .kind))) (s .datas) ≡ next .datas
   data-count = rw (← leaving .queue)
 
   pub moves : (q' : Queues) → Left q' → Going τ bs n s₀ count b₀ (putAt b (8 * k) (bytesOf c)) next q' (i + 1) (k + 1)

@@ -1,6 +1,6 @@
 -- A turn of a run's loop, for a state that is kept in plain numbers and changed in place.
 -- Assumes nothing.
-use Prim.Native.Nat.{ℕ, _+_, _*_, _≤_, _<_}
+use Prim.Native.Nat.{ℕ, _+_, _*_, _<_}
 use mathlib.Core.Path.{_≡_, refl, sym, ap, _∙_, subst}
 use mathlib.Core.Bool.{Bool, true, false, not, _&&_, _||_}
 use mathlib.Core.Option.{none, some}
@@ -11,16 +11,15 @@ use Rattle.records.specs.Tests.{pick}
 use Rattle.records.specs.Told.{putAt}
 use Rattle.records.specs.declared.table.Table.{Table}
 use Rattle.records.specs.declared.command.Kind.{Kind}
-use Rattle.records.specs.declared.command.Kind.the-variants.{Act, Rd, Rda, Wr, Wra, Other}
+use Rattle.records.specs.declared.command.Kind.the-variants.{Act, Rd, Rda, Wr, Wra, Ref, Other}
 use Rattle.records.specs.declared.command.Command.{Command}
 use Rattle.records.specs.Command.{bytesOf}
 use Rattle.rules.specs.declared.state.State.{State}
-use Rattle.rules.specs.Kinds.{isAct, isWr, isData, isKnown}
-use Rattle.rules.specs.State.{addIf, idle}
+use Rattle.rules.specs.Kinds.{isAct, isWr, isRef, isData, inActQueue, isKnown}
+use Rattle.rules.specs.State.{past, addIf, rule11, idle}
 use Rattle.rules.specs.Queues.{actQueue, dataQueue}
 use Rattle.rules.specs.CycleRule.{goes}
 use Rattle.rules.specs.Run.{stops}
-use Rattle.rules.proofs.TestLaws.{true-false}
 use Rattle.heads.specs.declared.head.Head.{Head}
 use Rattle.heads.specs.declared.queue.Queues.{Queues}
 use Rattle.heads.specs.Queue.{BothStand}
@@ -28,10 +27,10 @@ use Rattle.heads.proofs.Laws.{first}
 use Rattle.timing.specs.declared.kept.KeptBank.{KeptBank}
 use Rattle.timing.specs.declared.kept.Kept.{Kept}
 use Rattle.timing.specs.Kept.{isClosing, stampOf, toldBank, told, shutKept, keptAfter}
-use Rattle.timing.proofs.Telling.{told-at, actKept, told-act, dataKept, told-data}
+use Rattle.timing.proofs.Telling.{told-at, actKept, told-act, dataKept, told-data, refKept, told-ref}
 use Rattle.engine.specs.Choose.{commandOf, dataFree, actFree}
-use Rattle.engine.proofs.Laws.{goes-data, data-head-kind, goes-act, goes-none, act-head-kind}
-use Rattle.engine.proofs.Going.{Going, early, stops-is, idles, Moving, leaving, note-asked, moves}
+use Rattle.engine.proofs.Laws.{goes-data, data-head-kind, goes-act, act-head-kind, goes-ref}
+use Rattle.engine.proofs.Going.{Going, early, stops-is, idles, Moving, note-asked, moves}
 
 -- the tests of the loop are those of what the state tells
 pub kept-stops : (τ : Table) (bs : List ℕ) (n : ℕ) (s : Kept) (a d : ℕ) (x y : Bool) → a ≡ length (actQueue τ (first bs n)) → d ≡ length (dataQueue τ (first bs n))
@@ -39,13 +38,42 @@ pub kept-stops : (τ : Table) (bs : List ℕ) (n : ℕ) (s : Kept) (a d : ℕ) (
 unfolding told
 kept-stops τ bs n s a d x y p q e f = stops-is τ bs n (told s) a d x y p q e f
 
-data-no-act : (k : Kind) → isData k ≡ true → isAct k ≡ false
-data-no-act Act e = sym e
-data-no-act Rd e = refl
-data-no-act Rda e = refl
-data-no-act Wr e = refl
-data-no-act Wra e = refl
-data-no-act (Other n) e = refl
+pub data-only : (k : Kind) → isData k ≡ true → (inActQueue k ≡ false) × (isAct k ≡ false) × (isRef k ≡ false)
+data-only Act e = (sym e, sym e, refl)
+data-only Rd e = (refl, refl, refl)
+data-only Rda e = (refl, refl, refl)
+data-only Wr e = (refl, refl, refl)
+data-only Wra e = (refl, refl, refl)
+data-only Ref e = (sym e, refl, sym e)
+data-only (Other n) e = (refl, refl, refl)
+
+data-known : (k : Kind) → isData k ≡ true → isKnown k ≡ true
+data-known Act e = refl
+data-known Rd e = refl
+data-known Rda e = refl
+data-known Wr e = refl
+data-known Wra e = refl
+data-known Ref e = refl
+data-known (Other n) e = e
+
+-- a command of the ACT queue
+pub act-queues : (k : Kind) → isAct k ≡ true → inActQueue k ≡ true
+act-queues Act e = refl
+act-queues Rd e = e
+act-queues Rda e = e
+act-queues Wr e = e
+act-queues Wra e = e
+act-queues Ref e = refl
+act-queues (Other n) e = e
+
+pub ref-queues : (k : Kind) → isRef k ≡ true → inActQueue k ≡ true
+ref-queues Act e = refl
+ref-queues Rd e = e
+ref-queues Rda e = e
+ref-queues Wr e = e
+ref-queues Wra e = e
+ref-queues Ref e = refl
+ref-queues (Other n) e = e
 
 -- what goes, and its kind
 module _ (τ : Table) (bs : List ℕ) (n : ℕ) (s : Kept) (q : Queues) (h : BothStand τ bs n (told s .acts) (told s .datas) q) where
@@ -59,35 +87,37 @@ module _ (τ : Table) (bs : List ℕ) (n : ℕ) (s : Kept) (q : Queues) (h : Bot
   data? = d .there && (ltb (d .act) (s .acts) && dataFree τ (toldBank (getD (s .banks) (d .bank) shutKept)) (stampOf (s .rd)) (stampOf (s .wr)) (commandOf d (s .cycle)))
 
   abbrev act? : Bool
-  act? = a .there && actFree τ (toldBank (getD (s .banks) (a .bank) shutKept)) (stampOf (s .a1)) (stampOf (s .a4)) (commandOf a (s .cycle))
+  act? = a .there && actFree τ (toldBank (getD (s .banks) (a .bank) shutKept)) (stampOf (s .a1)) (stampOf (s .a4)) (stampOf (s .refresh)) (commandOf a (s .cycle))
 
   module _ (x : Bool) (p : x ≡ data?) where
-    pub kept-data : x ≡ true → (goes τ (first bs n) (told s) ≡ some (commandOf d (s .cycle))) × (isAct (d .kind) ≡ false)
+    pub kept-data : x ≡ true → (goes τ (first bs n) (told s) ≡ some (commandOf d (s .cycle))) × (isData (d .kind) ≡ true)
     unfolding told
     kept-data e = (
       goes-data τ bs n (told s) q h x (rw (told-at s (d .bank)) p) e,
-      data-no-act (d .kind) (data-head-kind τ bs n (told s) q h x (rw (told-at s (d .bank)) p) e),
+      data-head-kind τ bs n (told s) q h x (rw (told-at s (d .bank)) p) e,
     )
 
-    module _ (e : x ≡ false) (z : Bool) (r : z ≡ act?) where
-      pub kept-act : z ≡ true → (goes τ (first bs n) (told s) ≡ some (commandOf a (s .cycle))) × (isAct (a .kind) ≡ true)
-      unfolding told
-      kept-act v = (
-        goes-act τ bs n (told s) q h x (rw (told-at s (d .bank)) p) e z (rw (told-at s (a .bank)) r) v,
-        ap isAct (act-head-kind τ bs n (told s) q h x (rw (told-at s (d .bank)) p) e z (rw (told-at s (a .bank)) r) v),
-      )
+    module _ (e : x ≡ false) (k : Bool) (is-ref : k ≡ isRef (a .kind)) (z : Bool) where
+      module _ (w : k ≡ false) (r : z ≡ act?) where
+        pub kept-act : goes τ (first bs n) (told s) ≡ pick z (some (commandOf a (s .cycle))) none
+        unfolding told
+        kept-act = goes-act τ bs n (told s) q h x (rw (told-at s (d .bank)) p) e z (sym is-ref ∙ w) (rw (told-at s (a .bank)) r)
 
-      pub kept-none : z ≡ false → goes τ (first bs n) (told s) ≡ none
-      unfolding told
-      kept-none v = goes-none τ bs n (told s) q h x (rw (told-at s (d .bank)) p) e z (rw (told-at s (a .bank)) r) v
+        pub kept-act-kind : z ≡ true → isAct (a .kind) ≡ true
+        unfolding told
+        kept-act-kind v = act-head-kind τ bs n (told s) q h x (rw (told-at s (d .bank)) p) e z (sym is-ref ∙ w) (rw (told-at s (a .bank)) r) v
 
-data-known : (k : Kind) → isData k ≡ not (isAct k) → isAct k ≡ false → isKnown k ≡ true
-data-known Act e a = refl
-data-known Rd e a = refl
-data-known Rda e a = refl
-data-known Wr e a = refl
-data-known Wra e a = refl
-data-known (Other n) e a = true-false true refl (sym e)
+      -- a REF that keeps rule 12 goes or not, as the banks are at rest or not; one that does not keep it does not go
+      module _ (w : k ≡ true) (r : z ≡ (a .there && past (stampOf (s .refresh)) (τ .rfc) (s .cycle))) where
+        by-rest : (y : Bool) → y ≡ rule11 τ (told s) (s .cycle) → goes τ (first bs n) (told s) ≡ pick (z && y) (some (commandOf a (s .cycle))) none
+        unfolding told
+        by-rest y v = goes-ref τ bs n (told s) q h x (rw (told-at s (d .bank)) p) e (sym is-ref ∙ w) z r y v
+
+        pub kept-ref : z ≡ true → (y y' : Bool) → y ≡ rule11 τ (told s) (s .cycle) → y ≡ y' → goes τ (first bs n) (told s) ≡ pick y' (some (commandOf a (s .cycle))) none
+        kept-ref i y y' v f = by-rest y v ∙ (ap (λ (b : Bool). pick (b && y) (some (commandOf a (s .cycle))) none) i ∙ ap (λ (b : Bool). pick b (some (commandOf a (s .cycle))) none) f)
+
+        pub kept-waits : z ≡ false → goes τ (first bs n) (told s) ≡ none
+        kept-waits i = by-rest (rule11 τ (told s) (s .cycle)) refl ∙ ap (λ (b : Bool). pick (b && rule11 τ (told s) (s .cycle)) (some (commandOf a (s .cycle))) none) i
 
 -- the state with another cycle
 abbrev pub atCycle : Kept → ℕ → Kept
@@ -104,6 +134,7 @@ atCycle s c =
       a4 = s .a4;
       rd = s .rd;
       wr = s .wr;
+      refresh = s .refresh;
     }
 
 -- the state after a data command, whose parts are given
@@ -121,6 +152,7 @@ stored s next b kb rd wr =
       a4 = s .a4;
       rd = rd;
       wr = wr;
+      refresh = s .refresh;
     }
 
 told-idle : (s : Kept) → idle (told s) ≡ told (atCycle s (s .cycle + 1))
@@ -141,22 +173,27 @@ module _ {τ : Table} {bs : List ℕ} {n : ℕ} {s₀ : State} {count : ℕ} {b�
     unfolding told
     kept-asked = note-asked m
 
-    module _ (q' : Queues) (h : BothStand τ bs n (addIf (isAct (c .kind)) (told s .acts)) (addIf (not (isAct (c .kind))) (told s .datas)) q') where
+    module _ (q' : Queues) (h : BothStand τ bs n (addIf (inActQueue (c .kind)) (told s .acts)) (addIf (not (inActQueue (c .kind))) (told s .datas)) q') where
       pub act-moves : isAct (c .kind) ≡ true → Going τ bs n s₀ count b₀ (putAt b (8 * k) (bytesOf c)) (told (actKept s (s .cycle + 1) (c .bank))) q' (i + 1) (k + 1)
       unfolding told
       act-moves a =
           subst (λ (z : State). Going τ bs n s₀ count b₀ (putAt b (8 * k) (bytesOf c)) z q' (i + 1) (k + 1)) (sym (told-act s (c .kind) (s .cycle) (c .bank) a)) (moves m q' h)
 
-      pub data-moves : isAct (c .kind) ≡ false
+      pub ref-moves : isRef (c .kind) ≡ true → Going τ bs n s₀ count b₀ (putAt b (8 * k) (bytesOf c)) (told (refKept s (s .cycle + 1))) q' (i + 1) (k + 1)
+      unfolding told
+      ref-moves a =
+          subst (λ (z : State). Going τ bs n s₀ count b₀ (putAt b (8 * k) (bytesOf c)) z q' (i + 1) (k + 1)) (sym (told-ref s (c .kind) (s .cycle) (c .bank) a)) (moves m q' h)
+
+      pub data-moves : isData (c .kind) ≡ true
           → Going τ bs n s₀ count b₀ (putAt b (8 * k) (bytesOf c)) (told (dataKept s (isWr (c .kind)) (isClosing (c .kind)) (s .cycle + 1) (c .bank))) q' (i + 1) (k + 1)
       unfolding told
-      data-moves a =
+      data-moves e =
           subst (λ (z : State). Going τ bs n s₀ count b₀ (putAt b (8 * k) (bytesOf c)) z q' (i + 1) (k + 1))
-          (sym (told-data s (c .kind) (s .cycle) (c .bank) (data-known (c .kind) (leaving m .queue) a) a)) (moves m q' h)
+          (sym (told-data s (c .kind) (s .cycle) (c .bank) (data-known (c .kind) e) (data-only (c .kind) e .1) (data-only (c .kind) e .2))) (moves m q' h)
 
       -- the same by what the calls gave
       pub data-stored : (w z : Bool) (kb : KeptBank) (rd wr : ℕ) (b' : List ℕ) → w ≡ isWr (c .kind) → z ≡ isClosing (c .kind)
           → kb ≡ keptAfter (getD (s .banks) (c .bank) shutKept) w z (s .cycle + 1) → rd ≡ pick w (s .rd) (s .cycle + 1) → wr ≡ pick w (s .cycle + 1) (s .wr)
-          → b' ≡ putAt b (8 * k) (bytesOf c) → isAct (c .kind) ≡ false
+          → b' ≡ putAt b (8 * k) (bytesOf c) → isData (c .kind) ≡ true
           → Going τ bs n s₀ count b₀ b' (told (stored s (s .cycle + 1) (c .bank) kb rd wr)) q' (i + 1) (k + 1)
-      data-stored w z kb rd wr b' ew ez ek er es eb a = rw (eb, es, er, ek, ez, ew) (data-moves a)
+      data-stored w z kb rd wr b' ew ez ek er es eb e = rw (eb, es, er, ek, ez, ew) (data-moves e)

@@ -11,21 +11,22 @@ use Rattle.records.specs.Tests.{pick, allOf}
 use Rattle.records.specs.declared.table.Table.{Table}
 use Rattle.records.specs.declared.transaction.Transaction.{Transaction}
 use Rattle.records.specs.declared.command.Kind.{Kind}
-use Rattle.records.specs.declared.command.Kind.the-variants.{Act, Rd, Rda, Wr, Wra, Other}
+use Rattle.records.specs.declared.command.Kind.the-variants.{Act, Rd, Rda, Wr, Wra, Ref, Other}
 use Rattle.records.specs.declared.command.Command.{Command}
 use Rattle.records.specs.Transaction.{isWrite}
+use Rattle.records.specs.Command.{command}
 use Rattle.rules.specs.declared.state.Stamp.{Stamp}
 use Rattle.rules.specs.declared.state.Bank.{Bank}
 use Rattle.rules.specs.declared.state.State.{State}
-use Rattle.rules.specs.Kinds.{isAct, isWr, isData}
-use Rattle.rules.specs.State.{bankOf, dataTests, testsBy, breaksNone}
-use Rattle.rules.specs.Queues.{Due, dueAt, actQueue, dataQueue, headAfter}
+use Rattle.rules.specs.Kinds.{isAct, isWr, isRef, isData, inActQueue}
+use Rattle.rules.specs.State.{bankOf, rule11, rule12, dataTests, testsBy, breaksNone}
+use Rattle.rules.specs.Queues.{Due, dueAt, actCount, actQueue, dataQueue, headAfter}
 use Rattle.rules.specs.CycleRule.{hadAct, legalAt, otherwise, goes}
 use Rattle.rules.proofs.TestLaws.{true-false, and-fst, OnSome}
 use Rattle.rules.proofs.Ranges.{ranges}
 use Rattle.rules.proofs.Fit.{AllFit, Inside, place-at, act-bank, data-bank}
-use Rattle.rules.proofs.DataKinds.{is-data, no-act}
-use Rattle.rules.proofs.Queue.{Place, actCount, dataCount, actPlace, dataPlace, actDue, dataDue, act-head, data-head}
+use Rattle.rules.proofs.DataKinds.{is-data, not-in-acts, act-queued, act-no-data}
+use Rattle.rules.proofs.Queue.{Place, dataCount, actPlace, dataPlace, actDue, dataDue, act-head, data-head}
 use Rattle.rules.proofs.Heads.{goes-place}
 use Rattle.heads.specs.declared.head.Head.{Head}
 use Rattle.heads.specs.declared.queue.Queues.{Queues}
@@ -58,31 +59,23 @@ module _ (f : Command → Bool) (t : ℕ) (h : Head) where
       on true = had (ltb (h .act) acts)
       on false = refl
 
--- the cycle rule for the heads a and d, to the banks ka and kd, at cycle t, when `acts` have left the ACT queue
-abbrev chosen : Table → Head → Head → Bank → Bank → Stamp → Stamp → Stamp → Stamp → ℕ → ℕ → Option Command
-chosen τ a d ka kd a1 a4 rd wr acts t =
-    otherwise (legalAt (dataFree τ kd rd wr) t (hadAct acts (dueOf d))) (legalAt (actFree τ ka a1 a4) t (dueOf a))
+-- the cycle rule for the heads a and d, the latter to the bank kd, at cycle t, when `acts` have left the ACT queue; f tests its head
+abbrev chosen : (Command → Bool) → Table → Head → Head → Bank → Stamp → Stamp → ℕ → ℕ → Option Command
+chosen f τ a d kd rd wr acts t = otherwise (legalAt (dataFree τ kd rd wr) t (hadAct acts (dueOf d))) (legalAt f t (dueOf a))
 
 -- what is chosen, by the two tests in the order of the code
-module _ (τ : Table) (a d : Head) (ka kd : Bank) (a1 a4 rd wr : Stamp) (acts t : ℕ) where
-  module _ (x : Bool) (p : x ≡ (d .there && (ltb (d .act) acts && dataFree τ kd rd wr (commandOf d t)))) where
-    chosen-data : x ≡ true → some (commandOf d t) ≡ chosen τ a d ka kd a1 a4 rd wr acts t
-    chosen-data q =
-        sym (ap (λ (o : Option Command). otherwise o (legalAt (actFree τ ka a1 a4) t (dueOf a)))
-        (tried-data (dataFree τ kd rd wr) t d acts ∙ ap (λ (y : Bool). pick y (some (commandOf d t)) none) (sym p ∙ q)))
+module _ (f : Command → Bool) (τ : Table) (a d : Head) (kd : Bank) (rd wr : Stamp) (acts t : ℕ) (x : Bool)
+    (p : x ≡ (d .there && (ltb (d .act) acts && dataFree τ kd rd wr (commandOf d t)))) where
+  chosen-data : x ≡ true → some (commandOf d t) ≡ chosen f τ a d kd rd wr acts t
+  chosen-data q =
+      sym (ap (λ (o : Option Command). otherwise o (legalAt f t (dueOf a)))
+      (tried-data (dataFree τ kd rd wr) t d acts ∙ ap (λ (y : Bool). pick y (some (commandOf d t)) none) (sym p ∙ q)))
 
-    module _ (q : x ≡ false) (z : Bool) (r : z ≡ (a .there && actFree τ ka a1 a4 (commandOf a t))) where
-      no-data : pick z (some (commandOf a t)) none ≡ chosen τ a d ka kd a1 a4 rd wr acts t
-      no-data =
-          sym (ap (λ (o : Option Command). otherwise o (legalAt (actFree τ ka a1 a4) t (dueOf a)))
-          (tried-data (dataFree τ kd rd wr) t d acts ∙ ap (λ (y : Bool). pick y (some (commandOf d t)) none) (sym p ∙ q))
-          ∙ (tried-act (actFree τ ka a1 a4) t a ∙ ap (λ (y : Bool). pick y (some (commandOf a t)) none) (sym r)))
-
-      chosen-act : z ≡ true → some (commandOf a t) ≡ chosen τ a d ka kd a1 a4 rd wr acts t
-      chosen-act v = ap (λ (y : Bool). pick y (some (commandOf a t)) none) (sym v) ∙ no-data
-
-      chosen-none : z ≡ false → none ≡ chosen τ a d ka kd a1 a4 rd wr acts t
-      chosen-none v = ap (λ (y : Bool). pick y (some (commandOf a t)) none) (sym v) ∙ no-data
+  chosen-act : x ≡ false → (z : Bool) → z ≡ (a .there && f (commandOf a t)) → pick z (some (commandOf a t)) none ≡ chosen f τ a d kd rd wr acts t
+  chosen-act q z r =
+      sym (ap (λ (o : Option Command). otherwise o (legalAt f t (dueOf a)))
+      (tried-data (dataFree τ kd rd wr) t d acts ∙ ap (λ (y : Bool). pick y (some (commandOf d t)) none) (sym p ∙ q))
+      ∙ (tried-act f t a ∙ ap (λ (y : Bool). pick y (some (commandOf a t)) none) (sym r)))
 
 -- ---- by what a state tells
 
@@ -94,6 +87,7 @@ module _ (τ : Table) (s : State) (t : ℕ) where
   data-rules Rda b e = refl
   data-rules Wr b e = refl
   data-rules Wra b e = refl
+  data-rules Ref b e = true-false false e refl
   data-rules (Other n) b e = true-false false e refl
 
   abbrev SameLegal : (Command → Bool) → Due → Type 0
@@ -121,10 +115,31 @@ module _ (τ : Table) (s : State) (t : ℕ) where
       of-head (λ x. isData (x .kind) ≡ true) (SameLegal (dataFree τ (bankOf s (h .bank)) (s .rd) (s .wr))) (h .there)
       (record { kind = h .kind; bank = h .bank; number = h .number; act = h .act }) (λ e. sym (ap allOf (data-rules (h .kind) (h .bank) e))) u
 
-  act-legal : (h : Head) → OnSome (λ x. x .kind ≡ Act) (dueOf h) → OnSome (SameLegal (actFree τ (bankOf s (h .bank)) (s .a1) (s .a4))) (dueOf h)
-  act-legal h u =
-      of-head (λ x. x .kind ≡ Act) (SameLegal (actFree τ (bankOf s (h .bank)) (s .a1) (s .a4))) (h .there)
-      (record { kind = h .kind; bank = h .bank; number = h .number; act = h .act }) (λ e. sym (ap (λ (k : Kind). allOf (testsBy τ s k t (h .bank))) e)) u
+  -- the rules of an ACT, and of a REF, by what the state tells
+  act-rules : (k : Kind) (b i : ℕ) → inActQueue k ≡ true → isRef k ≡ false
+      → actFree τ (bankOf s b) (s .a1) (s .a4) (s .refresh) (command t k b i) ≡ breaksNone τ s (command t k b i)
+  act-rules Act b i e f = refl
+  act-rules Rd b i e f = true-false false e refl
+  act-rules Rda b i e f = true-false false e refl
+  act-rules Wr b i e f = true-false false e refl
+  act-rules Wra b i e f = true-false false e refl
+  act-rules Ref b i e f = true-false true refl f
+  act-rules (Other n) b i e f = true-false false e refl
+
+  ref-rules : (k : Kind) (b i : ℕ) → isRef k ≡ true → (rule12 τ s t && rule11 τ s t) ≡ breaksNone τ s (command t k b i)
+  ref-rules Act b i e = true-false false e refl
+  ref-rules Rd b i e = true-false false e refl
+  ref-rules Rda b i e = true-false false e refl
+  ref-rules Wr b i e = true-false false e refl
+  ref-rules Wra b i e = true-false false e refl
+  ref-rules Ref b i e = turned (rule12 τ s t) (rule11 τ s t)
+    where
+      turned : (x y : Bool) → (x && y) ≡ (y && (x && true))
+      turned true true = refl
+      turned true false = refl
+      turned false true = refl
+      turned false false = refl
+  ref-rules (Other n) b i e = true-false false e refl
 
 -- the kinds of what stands in the queues
 data-kinds : (τ : Table) (l : List Transaction) (n : ℕ) → OnSome (λ x. isData (x .kind) ≡ true) (headAfter (dataQueue τ l) n)
@@ -134,12 +149,25 @@ data-kinds τ l n = rw (data-head τ l n) (on (dataPlace l n))
     on none = tt
     on (some p) = is-data (isWrite (p .transaction)) (eqb (p .offset % p .transaction .bc + 1) (p .transaction .bc))
 
-act-kinds : (τ : Table) (l : List Transaction) (n : ℕ) → OnSome (λ x. x .kind ≡ Act) (headAfter (actQueue τ l) n)
+act-kinds : (τ : Table) (l : List Transaction) (n : ℕ) → OnSome (λ x. inActQueue (x .kind) ≡ true) (headAfter (actQueue τ l) n)
 act-kinds τ l n = rw (act-head τ l n) (on (actPlace l n))
   where
-    on : (o : Option Place) → OnSome (λ x. x .kind ≡ Act) (Option·map (actDue τ) o)
+    on : (o : Option Place) → OnSome (λ x. inActQueue (x .kind) ≡ true) (Option·map (actDue τ) o)
     on none = tt
-    on (some p) = refl
+    on (some p) = act-queued (p .transaction)
+
+there-same : (x u v : Bool) → (x ≡ true → u ≡ v) → (x && u) ≡ (x && v)
+there-same true u v e = e refl
+there-same false u v e = refl
+
+act-kind : (k : Kind) → inActQueue k ≡ true → isRef k ≡ false → isAct k ≡ true
+act-kind Act e f = refl
+act-kind Rd e f = e
+act-kind Rda e f = e
+act-kind Wr e f = e
+act-kind Wra e f = e
+act-kind Ref e f = sym f
+act-kind (Other n) e f = e
 
 -- of a head that stands there
 there : (P : Due → Type 0) (h : Head) → h .there ≡ true → OnSome P (dueOf h) → P (record { kind = h .kind; bank = h .bank; number = h .number; act = h .act })
@@ -147,9 +175,8 @@ there P h e u = subst (λ (b : Bool). OnSome P (pick b (some (record { kind = h 
 
 module _ (τ : Table) (bs : List ℕ) (n : ℕ) (s : State) where
   -- what is chosen of the heads of the queues is what goes
-  pub goes-chosen : (q : Queues) → BothStand τ bs n (s .acts) (s .datas) q
-      → chosen τ (q .acts .head) (q .datas .head) (bankOf s (q .acts .head .bank)) (bankOf s (q .datas .head .bank)) (s .a1) (s .a4) (s .rd) (s .wr) (s .acts) (s .cycle)
-      ≡ goes τ (first bs n) s
+  goes-chosen : (q : Queues) → BothStand τ bs n (s .acts) (s .datas) q
+      → chosen (breaksNone τ s) τ (q .acts .head) (q .datas .head) (bankOf s (q .datas .head .bank)) (s .rd) (s .wr) (s .acts) (s .cycle) ≡ goes τ (first bs n) s
   goes-chosen q h =
       let a = h .ofActs .head in
       let d = h .ofDatas .head in
@@ -158,15 +185,13 @@ module _ (τ : Table) (bs : List ℕ) (n : ℕ) (s : State) where
         ← d,
         legal-same τ s (s .cycle) (dataFree τ (bankOf s (q .datas .head .bank)) (s .rd) (s .wr)) (hadAct (s .acts) (dueOf (q .datas .head)))
             (had-same τ s (s .cycle) _ (s .acts) (dueOf (q .datas .head)) (data-legal τ s (s .cycle) (q .datas .head) (rw d (data-kinds τ (first bs n) (s .datas))))),
-        legal-same τ s (s .cycle) (actFree τ (bankOf s (q .acts .head .bank)) (s .a1) (s .a4)) (dueOf (q .acts .head))
-            (act-legal τ s (s .cycle) (q .acts .head) (rw a (act-kinds τ (first bs n) (s .acts)))),
       )
 
   -- a command that goes: its cycle, its bank, and the queue that it leaves
   pub record Leaves (c : Command) : Type 0 where
     pub cycle : c .cycle ≡ s .cycle
     pub bank : c .bank < 16
-    pub queue : isData (c .kind) ≡ not (isAct (c .kind))
+    pub queue : isData (c .kind) ≡ not (inActQueue (c .kind))
 
   pub goes-leaves : Listed τ bs n → OnSome Leaves (goes τ (first bs n) s)
   goes-leaves h =
@@ -174,12 +199,12 @@ module _ (τ : Table) (bs : List ℕ) (n : ℕ) (s : State) where
       (λ p e. record {
         cycle = refl;
         bank = omega (arith, data-bank τ p (subst (OnSome (Inside τ dataCount)) e (place-at τ dataCount (first bs n) fit 0 0 (s .datas))), sixteen);
-        queue = is-data (isWrite (p .transaction)) _ ∙ sym (ap not (no-act (isWrite (p .transaction)) _));
+        queue = is-data (isWrite (p .transaction)) _ ∙ sym (ap not (not-in-acts (isWrite (p .transaction)) _));
       })
       (λ p e. record {
         cycle = refl;
         bank = omega (arith, act-bank τ p (subst (OnSome (Inside τ actCount)) e (place-at τ actCount (first bs n) fit 0 0 (s .acts))), sixteen);
-        queue = refl;
+        queue = act-no-data (p .transaction) ∙ sym (ap not (act-queued (p .transaction)));
       })
     where
       fit : AllFit τ (first bs n)
@@ -199,22 +224,40 @@ module _ (τ : Table) (bs : List ℕ) (n : ℕ) (s : State) where
     abbrev d : Head
     d = q .datas .head
 
+    -- what stands at the head of the ACT queue is a command of that queue
+    queued : a .there ≡ true → inActQueue (a .kind) ≡ true
+    queued e = there (λ k. inActQueue (k .kind) ≡ true) a e (rw (h .ofActs .head) (act-kinds τ (first bs n) (s .acts)))
+
     module _ (x : Bool) (p : x ≡ (d .there && (ltb (d .act) (s .acts) && dataFree τ (bankOf s (d .bank)) (s .rd) (s .wr) (commandOf d (s .cycle))))) where
       pub goes-data : x ≡ true → goes τ (first bs n) s ≡ some (commandOf d (s .cycle))
-      goes-data e = sym (chosen-data τ a d (bankOf s (a .bank)) (bankOf s (d .bank)) (s .a1) (s .a4) (s .rd) (s .wr) (s .acts) (s .cycle) x p e ∙ goes-chosen q h)
+      goes-data e = sym (chosen-data (breaksNone τ s) τ a d (bankOf s (d .bank)) (s .rd) (s .wr) (s .acts) (s .cycle) x p e ∙ goes-chosen q h)
 
       pub data-head-kind : x ≡ true → isData (d .kind) ≡ true
       data-head-kind e = there (λ k. isData (k .kind) ≡ true) d (and-fst (d .there) _ (sym p ∙ e)) (rw (h .ofDatas .head) (data-kinds τ (first bs n) (s .datas)))
 
-      module _ (e : x ≡ false) (z : Bool) (r : z ≡ (a .there && actFree τ (bankOf s (a .bank)) (s .a1) (s .a4) (commandOf a (s .cycle)))) where
-        pub goes-act : z ≡ true → goes τ (first bs n) s ≡ some (commandOf a (s .cycle))
-        goes-act v = sym (chosen-act τ a d (bankOf s (a .bank)) (bankOf s (d .bank)) (s .a1) (s .a4) (s .rd) (s .wr) (s .acts) (s .cycle) x p e z r v ∙ goes-chosen q h)
+      module _ (e : x ≡ false) (z : Bool) where
+        goes-by : z ≡ (a .there && breaksNone τ s (commandOf a (s .cycle))) → goes τ (first bs n) s ≡ pick z (some (commandOf a (s .cycle))) none
+        goes-by r = sym (chosen-act (breaksNone τ s) τ a d (bankOf s (d .bank)) (s .rd) (s .wr) (s .acts) (s .cycle) x p e z r ∙ goes-chosen q h)
 
-        pub goes-none : z ≡ false → goes τ (first bs n) s ≡ none
-        goes-none v = sym (chosen-none τ a d (bankOf s (a .bank)) (bankOf s (d .bank)) (s .a1) (s .a4) (s .rd) (s .wr) (s .acts) (s .cycle) x p e z r v ∙ goes-chosen q h)
+        -- the head of the ACT queue is no REF: an ACT, or nothing
+        module _ (w : isRef (a .kind) ≡ false) (r : z ≡ (a .there && actFree τ (bankOf s (a .bank)) (s .a1) (s .a4) (s .refresh) (commandOf a (s .cycle)))) where
+          pub goes-act : goes τ (first bs n) s ≡ pick z (some (commandOf a (s .cycle))) none
+          goes-act = goes-by (r ∙ there-same (a .there) _ _ (λ v. act-rules τ s (s .cycle) (a .kind) (a .bank) (a .number) (queued v) w))
 
-        pub act-head-kind : z ≡ true → a .kind ≡ Act
-        act-head-kind v = there (λ k. k .kind ≡ Act) a (and-fst (a .there) _ (sym r ∙ v)) (rw (h .ofActs .head) (act-kinds τ (first bs n) (s .acts)))
+          pub act-head-kind : z ≡ true → isAct (a .kind) ≡ true
+          act-head-kind v = act-kind (a .kind) (queued (and-fst (a .there) _ (sym r ∙ v))) w
+
+      -- it is a REF, which keeps rule 12 or not; y tells of rule 11
+      module _ (e : x ≡ false) (w : isRef (a .kind) ≡ true) (z : Bool) (r : z ≡ (a .there && rule12 τ s (s .cycle))) where
+        pub goes-ref : (y : Bool) → y ≡ rule11 τ s (s .cycle) → goes τ (first bs n) s ≡ pick (z && y) (some (commandOf a (s .cycle))) none
+        goes-ref y v =
+            goes-by e (z && y) (ap (λ (b : Bool). b && y) r ∙ (ap (λ (b : Bool). (a .there && rule12 τ s (s .cycle)) && b) v
+            ∙ (apart (a .there) (rule12 τ s (s .cycle)) (rule11 τ s (s .cycle))
+            ∙ ap (λ (b : Bool). a .there && b) (ref-rules τ s (s .cycle) (a .kind) (a .bank) (a .number) w))))
+          where
+            apart : (h k m : Bool) → ((h && k) && m) ≡ (h && (k && m))
+            apart true k m = refl
+            apart false k m = refl
 
 -- tests that stop at the first that fails
 pub and-both : (x y z : Bool) → (x && y) ≡ true → z ≡ (x && (y && z))

@@ -12,14 +12,14 @@ use lib.Seq.{getD-set-same, getD-set-other, getD-append-add}
 use borrow.Author.Tests.{ltb-true, eq-eqb, ne-eqb}
 use Rattle.records.specs.Tests.{pick, every}
 use Rattle.records.specs.declared.command.Kind.{Kind}
-use Rattle.records.specs.declared.command.Kind.the-variants.{Act, Rd, Rda, Wr, Wra, Other}
+use Rattle.records.specs.declared.command.Kind.the-variants.{Act, Rd, Rda, Wr, Wra, Ref, Other}
 use Rattle.records.specs.declared.command.Command.{Command}
 use Rattle.records.specs.Command.{kindOf, kindNumber, commandAt, commandsFrom, bytesOf, bytesOfAll}
 use Rattle.records.proofs.Inverse.{le16-of, le32-of}
 use Rattle.rules.specs.declared.state.Stamp.the-variants.{At}
-use Rattle.rules.specs.Kinds.{isData, isKnown}
+use Rattle.rules.specs.Kinds.{canEnd, isKnown}
 use Rattle.rules.specs.Pattern.{onto}
-use Rattle.rules.specs.Finish.{lastDataIn, lastData}
+use Rattle.rules.specs.Finish.{lastCommandIn, lastCommand}
 use Rattle.rules.proofs.TestLaws.{true-false, and-fst, and-snd}
 use Rattle.rules.proofs.Numbers.{same?}
 use Rattle.engine.specs.Build.{cycleOr, Marked}
@@ -31,37 +31,37 @@ onto-last [] c h = refl
 onto-last (r ∷ cs) c h = onto-last cs c (r ∷ h)
 
 last-more : (k : ℕ) (cs : List Command) (c : Command)
-    → lastData k (cs ++ (c ∷ [])) ≡ pick (eqb (c .number) k && isData (c .kind)) (At (c .cycle)) (lastData k cs)
-last-more k cs c = ap (lastDataIn k) (onto-last cs c [])
+    → lastCommand k (cs ++ (c ∷ [])) ≡ pick (eqb (c .number) k && canEnd (c .kind)) (At (c .cycle)) (lastCommand k cs)
+last-more k cs c = ap (lastCommandIn k) (onto-last cs c [])
 
 and-false : (x : Bool) → (x && false) ≡ false
 and-false true = refl
 and-false false = refl
 
 module _ (cs : List Command) (f₀ f : List ℕ) (m : Marked cs f₀ f) (c : Command) where
-  -- a data command is stored at its number
-  marks : isData (c .kind) ≡ true → c .number < length f → Marked (cs ++ (c ∷ [])) f₀ (set f (c .number) (c .cycle))
+  -- a data command, or a REF, is stored at its number
+  marks : canEnd (c .kind) ≡ true → c .number < length f → Marked (cs ++ (c ∷ [])) f₀ (set f (c .number) (c .cycle))
   marks e p = record { size = length-set f (c .number) (c .cycle) ∙ m .size; each = λ k. ⊎-elim (here k) (there k) (same? k (c .number)) }
     where
-      at-last : (k : ℕ) (b : Bool) → eqb (c .number) k ≡ b → lastData k (cs ++ (c ∷ [])) ≡ pick b (At (c .cycle)) (lastData k cs)
+      at-last : (k : ℕ) (b : Bool) → eqb (c .number) k ≡ b → lastCommand k (cs ++ (c ∷ [])) ≡ pick b (At (c .cycle)) (lastCommand k cs)
       at-last k true q = last-more k cs c ∙ rw (q, e)
       at-last k false q = last-more k cs c ∙ rw (q)
 
-      here : (k : ℕ) → k ≡ c .number → getD (set f (c .number) (c .cycle)) k 0 ≡ cycleOr (getD f₀ k 0) (lastData k (cs ++ (c ∷ [])))
+      here : (k : ℕ) → k ≡ c .number → getD (set f (c .number) (c .cycle)) k 0 ≡ cycleOr (getD f₀ k 0) (lastCommand k (cs ++ (c ∷ [])))
       here k q =
           ap (λ (i : ℕ). getD (set f (c .number) (c .cycle)) i 0) q
           ∙ (getD-set-same f (c .number) (c .cycle) 0 p ∙ sym (ap (cycleOr (getD f₀ k 0)) (at-last k true (eq-eqb (c .number) k (sym q)))))
 
-      there : (k : ℕ) → (k ≡ c .number → ⊥) → getD (set f (c .number) (c .cycle)) k 0 ≡ cycleOr (getD f₀ k 0) (lastData k (cs ++ (c ∷ [])))
+      there : (k : ℕ) → (k ≡ c .number → ⊥) → getD (set f (c .number) (c .cycle)) k 0 ≡ cycleOr (getD f₀ k 0) (lastCommand k (cs ++ (c ∷ [])))
       there k q =
           getD-set-other f (c .number) k (c .cycle) 0 q
           ∙ (m .each k ∙ sym (ap (cycleOr (getD f₀ k 0)) (at-last k false (ne-eqb (c .number) k (λ z. q (sym z))))))
 
   -- an ACT changes nothing
-  passes : isData (c .kind) ≡ false → Marked (cs ++ (c ∷ [])) f₀ f
+  passes : canEnd (c .kind) ≡ false → Marked (cs ++ (c ∷ [])) f₀ f
   passes e = record { size = m .size; each = λ k. m .each k ∙ sym (ap (cycleOr (getD f₀ k 0)) (same k)) }
     where
-      same : (k : ℕ) → lastData k (cs ++ (c ∷ [])) ≡ lastData k cs
+      same : (k : ℕ) → lastCommand k (cs ++ (c ∷ [])) ≡ lastCommand k cs
       same k = last-more k cs c ∙ rw (e, and-false (eqb (c .number) k))
 
 -- ---- the commands of bytes
@@ -108,7 +108,7 @@ module _ (s : List ℕ) (m j : ℕ) (f₀ f : List ℕ) (h : Marked (commandsFro
   pub in-range : c .number < length f
   in-range = omega (arith, number-at s m j (length f₀) e p, ap (λ (y : Command). y .number) q, h .size)
 
-  module _ (d : Bool) (z : d ≡ isData (c .kind)) where
+  module _ (d : Bool) (z : d ≡ canEnd (c .kind)) where
     pub stores : d ≡ true → Marked (commandsFrom s (j + 1) 0) f₀ (set f (c .number) (c .cycle))
     stores y = rw (one-more s j, ← q) (marks (commandsFrom s j 0) f₀ f h c (sym z ∙ y) in-range)
 
@@ -132,6 +132,7 @@ kind-back Rd e = refl
 kind-back Rda e = refl
 kind-back Wr e = refl
 kind-back Wra e = refl
+kind-back Ref e = refl
 kind-back (Other n) e = true-false false e refl
 
 -- the command whose bytes follow others

@@ -26,15 +26,15 @@ use Rattle.rules.specs.Kinds.{isKnown}
 use Rattle.rules.specs.History.{broken, isFine}
 use Rattle.rules.specs.State.{fresh}
 use Rattle.rules.specs.Pattern.{onto}
-use Rattle.rules.specs.Queues.{actQueue, dataQueue}
+use Rattle.rules.specs.Queues.{actCount, actQueue, dataQueue}
 use Rattle.rules.specs.CycleRule.{actsIn, datasIn, goesAt, push, gone, Built}
 use Rattle.rules.specs.Run.{Ran, run}
-use Rattle.rules.specs.Finish.{lastDataIn, lastData, finishOf, finish}
-use Rattle.rules.specs.Promise.{nextCycle, cycleOf, lastDataCycle, Kept}
+use Rattle.rules.specs.Finish.{lastCommandIn, lastCommand, finishOf, finish}
+use Rattle.rules.specs.Promise.{nextCycle, cycleOf, lastCommandCycle, Kept}
 use Rattle.rules.proofs.TestLaws.{and-fst, and-snd, OnSome, on-pick, on-map}
 use Rattle.rules.proofs.Numbers.{from?}
-use Rattle.rules.proofs.DataKinds.{is-known}
-use Rattle.rules.proofs.Queue.{Place, actCount, dataCount, placeOf, find}
+use Rattle.rules.proofs.DataKinds.{is-known, act-known}
+use Rattle.rules.proofs.Queue.{Place, dataCount, placeOf, find}
 use Rattle.rules.proofs.Heads.{goes-place}
 use Rattle.rules.proofs.Count.{length-turn}
 use Rattle.rules.proofs.Promises.{promise}
@@ -51,9 +51,9 @@ use Rattle.engine.proofs.Marks.{Each, Readable, read-back}
 find-number : (f : Transaction → ℕ) (l : List Transaction) (i a k : ℕ) → OnSome (λ p. p .number < i + length l) (find f l i a k)
 find-number f [] i a k = tt
 find-number f (x ∷ l) i a k =
-    on-pick (λ p. p .number < i + suc (length l)) (ltb k (f x)) (placeOf x i a k) (find f l (suc i) (a + x .bi) (k - f x)) (λ e. omega arith)
-    (λ e. on-map {P = λ p. p .number < suc i + length l} {Q = λ p. p .number < i + suc (length l)} (find f l (suc i) (a + x .bi) (k - f x)) (λ p h. omega arith)
-    (find-number f l (suc i) (a + x .bi) (k - f x)))
+    on-pick (λ p. p .number < i + suc (length l)) (ltb k (f x)) (placeOf x i a k) (find f l (suc i) (a + actCount x) (k - f x)) (λ e. omega arith)
+    (λ e. on-map {P = λ p. p .number < suc i + length l} {Q = λ p. p .number < i + suc (length l)} (find f l (suc i) (a + actCount x) (k - f x)) (λ p h. omega arith)
+    (find-number f l (suc i) (a + actCount x) (k - f x)))
 
 pub record Ours (l : List Transaction) (c : Command) : Type 0 where
   pub number : c .number < length l
@@ -78,7 +78,7 @@ module _ (τ : Table) (l : List Transaction) where
       goes-ours =
           goes-place (λ c. isFine (broken τ c (gone m τ l))) τ l m (actsIn (gone m τ l)) (datasIn (gone m τ l)) (Ours l)
           (λ p e. record { number = at dataCount (datasIn (gone m τ l)) p e; known = is-known (isWrite (p .transaction)) _ })
-          (λ p e. record { number = at actCount (actsIn (gone m τ l)) p e; known = refl })
+          (λ p e. record { number = at actCount (actsIn (gone m τ l)) p e; known = act-known (p .transaction) })
 
 each-onto : (P : Command → Type 0) (a b : List Command) → Each P a → Each P b → Each P (onto a b)
 each-onto P [] b u v = v
@@ -100,7 +100,7 @@ numbers l n h (r ∷ rs) u = rw (lt-ltb (r .number) n (omega (arith, u .0 .numbe
 
 -- ---- the finishing cycles
 
-no-more : (l : List Transaction) (k : ℕ) → length l ≤ k → (h : List Command) → Each (Ours l) h → lastDataIn k h ≡ Never
+no-more : (l : List Transaction) (k : ℕ) → length l ≤ k → (h : List Command) → Each (Ours l) h → lastCommandIn k h ≡ Never
 no-more l k e [] u = refl
 no-more l k e (r ∷ h) u = rw (ne-eqb (r .number) k (λ z. omega (arith, u .0 .number))) (no-more l k e h (u .1))
 
@@ -135,8 +135,8 @@ module _ (τ : Table) (bs : List ℕ) (n : ℕ) (rs : List Command) (f₀ f g : 
   size : length (finishesFrom τ (first bs n) 0 rs) ≡ n
   size = finishes-length τ (first bs n) 0 rs ∙ length-from bs n 0
 
-  -- the last data commands stand at their numbers
-  marked-at : (k : ℕ) → k < n → getD f k 0 ≡ lastDataCycle k rs
+  -- the last commands stand at their numbers
+  marked-at : (k : ℕ) → k < n → getD f k 0 ≡ lastCommandCycle k rs
   marked-at k z = m .each k ∙ ap (cycleOr (getD f₀ k 0)) (q .finishes k (omega (arith, length-from bs n 0)))
 
   finished : Finished τ bs n f g → g ≡ over (finishesFrom τ (first bs n) 0 rs) f₀

@@ -13,7 +13,7 @@ use Rattle.rules.specs.declared.state.Stamp.{Stamp}
 use Rattle.rules.specs.declared.state.Stamp.the-variants.{Never, At}
 use Rattle.rules.specs.Pattern.{onto}
 use Rattle.rules.specs.CycleRule.{Built}
-use Rattle.rules.specs.Finish.{lastData, finishOf, finish}
+use Rattle.rules.specs.Finish.{lastCommand, finishOf, finish}
 use Rattle.rules.specs.Promise.{nextCycle, cycleOf}
 use Rattle.engine.specs.declared.build.Schedule.{Schedule}
 
@@ -27,12 +27,12 @@ abbrev pub cycleOr : ℕ → Stamp → ℕ
 cycleOr d Never = d
 cycleOr d (At c) = c
 
--- at each number the cycle of the last data command of it, and else what stood there
+-- at each number the cycle of the last command of it, and else what stood there
 pub record Marked (cs : List Command) (f₀ f : List ℕ) : Type 0 where
   pub size : length f ≡ length f₀
-  pub each : (k : ℕ) → getD f k 0 ≡ cycleOr (getD f₀ k 0) (lastData k cs)
+  pub each : (k : ℕ) → getD f k 0 ≡ cycleOr (getD f₀ k 0) (lastCommand k cs)
 
--- the cycles f of last data commands became g: finishing cycles, for the first n transactions of the bytes s, and all beyond as it stood
+-- the cycles f of last commands became g: finishing cycles, for the first n transactions of the bytes s, and all beyond as it stood
 pub record Finished (τ : Table) (s : List ℕ) (n : ℕ) (f g : List ℕ) : Type 0 where
   pub size : length g ≡ length f
   pub each : (k : ℕ) → k < n → getD g k 0 ≡ finishOf τ (transactionAt s (4 * k)) (getD f k 0)

@@ -16,9 +16,11 @@ use Rattle.heads.specs.declared.head.Head.{Head}
 abbrev pub commandOf : Head → ℕ → Command
 commandOf h t = command t (h .kind) (h .bank) (h .number)
 
--- a data command, and an ACT, to bank k breaks no rule, by the last RD and WR of all, and by the first and the fourth of the last ACTs
+-- a data command to bank k breaks no rule, by the last RD and WR of all
 abbrev pub dataFree : Table → Bank → Stamp → Stamp → Command → Bool
 dataFree τ k rd wr c = allOf (dataTestsOf τ k (farBy (square τ) rd wr (isWr (c .kind)) (c .cycle)) (c .cycle))
 
-abbrev pub actFree : Table → Bank → Stamp → Stamp → Command → Bool
-actFree τ k a1 a4 c = allOf (actTestsOf τ k (past a1 (τ .rrd) (c .cycle)) (past a4 (τ .faw) (c .cycle)) (c .cycle))
+-- an ACT to bank k, by the first and the fourth of the last ACTs and the last REF
+abbrev pub actFree : Table → Bank → Stamp → Stamp → Stamp → Command → Bool
+actFree τ k a1 a4 refresh c =
+    allOf (actTestsOf τ k (past a1 (τ .rrd) (c .cycle)) (past a4 (τ .faw) (c .cycle)) (past refresh (τ .rfc) (c .cycle)) (c .cycle))

@@ -6,12 +6,15 @@ use records::tests::both_of;
 use timing::kept::KeptBank;
 use timing::kept::kept_act_free;
 use timing::kept::kept_data_free;
+use timing::kept::since;
 use timing::kinds::is_wr;
+use timing::square::wide;
 ghost use mathlib.Core.Path.{_≡_};
 ghost use mathlib.Core.Bool.{_&&_};
 ghost use Prim.Native.Nat.{_<_};
 ghost use lib.Dec.{ltb};
 ghost use Rattle.rules.specs.Square.{square};
+ghost use Rattle.rules.specs.State.{past};
 ghost use Rattle.timing.specs.Kept.{stampOf, toldBank};
 ghost use Rattle.engine.specs.Choose.{commandOf, dataFree, actFree};
 
@@ -50,12 +53,19 @@ pub fn data_goes(
     false
 }
 
-// The ACT queue's head breaks no rule at cycle c.
-pub fn act_goes(t: Table, a: Head, k: KeptBank, a1: u64, a4: u64, c: u64) -> bool
-    ensures { λ r. ⌜ r ≡ (a .there && actFree t (toldBank k) (stampOf a1) (stampOf a4) (commandOf a c)) ⌝ }
+// The ACT queue's head, an ACT, breaks no rule at cycle c.
+pub fn act_goes(t: Table, a: Head, k: KeptBank, a1: u64, a4: u64, refresh: u64, c: u64) -> bool
+    ensures { λ r. ⌜ r ≡ (a .there && actFree t (toldBank k) (stampOf a1) (stampOf a4) (stampOf refresh) (commandOf a c)) ⌝ }
 {
     if a.there {
-        return kept_act_free(t, k, a1, a4, c);
+        return kept_act_free(t, k, a1, a4, since(refresh, wide(t.rfc), c), c);
     }
     false
+}
+
+// The ACT queue's head, a REF, keeps rule 12 at cycle c. Rule 11 is asked of it after that alone, since it goes over all banks.
+pub fn ref_waited(t: Table, a: Head, refresh: u64, c: u64) -> bool
+    ensures { λ r. ⌜ r ≡ (a .there && past (stampOf refresh) (t .rfc) c) ⌝ }
+{
+    both_of(a.there, since(refresh, wide(t.rfc), c))
 }

@@ -2,6 +2,7 @@
 use crate::choose::act_goes;
 use crate::choose::command_of;
 use crate::choose::data_goes;
+use crate::choose::ref_waited;
 use commands::command::put_command;
 use heads::due::Counts;
 use heads::queue::Queues;
@@ -14,7 +15,9 @@ use timing::kept::Kept;
 use timing::kept::KeptBank;
 use timing::kept::either_64;
 use timing::kept::kept_after;
+use timing::kept::kept_rests;
 use timing::kinds::is_closing;
+use timing::kinds::is_ref;
 use timing::kinds::is_wr;
 use timing::square::distances;
 ghost use mathlib.Core.Path.{_≡_};
@@ -97,30 +100,52 @@ pub fn run(
             s.rd = either_64(write, s.rd, later);
             s.wr = either_64(write, later, s.wr);
         } else {
-            let ai = ah.bank as usize;
-            let ka = s.banks[ai];
-            if act_goes(t, ah, ka, s.a1, s.a4, cycle) {
-                put_command(command_of(ah, cycle), buffer, 8 * k);
-                k = k + 1;
-                let next = advance(t, list, n, false, a);
-                q = Queues {
-                    acts: next,
-                    datas: d,
-                };
-                s.cycle = later;
-                s.acts = s.acts + 1;
-                s.banks[ai] = KeptBank {
-                    opened: 1,
-                    act: later,
-                    rd: 0,
-                    wr: 0,
-                };
-                s.a4 = s.a3;
-                s.a3 = s.a2;
-                s.a2 = s.a1;
-                s.a1 = later;
+            let head = ah.kind;
+            if is_ref(head) {
+                if ref_waited(t, ah, s.refresh, cycle) {
+                    if kept_rests(t, s, cycle) {
+                        put_command(command_of(ah, cycle), buffer, 8 * k);
+                        k = k + 1;
+                        let next = advance(t, list, n, false, a);
+                        q = Queues {
+                            acts: next,
+                            datas: d,
+                        };
+                        s.cycle = later;
+                        s.acts = s.acts + 1;
+                        s.refresh = later;
+                    } else {
+                        s.cycle = later;
+                    }
+                } else {
+                    s.cycle = later;
+                }
             } else {
-                s.cycle = later;
+                let ai = ah.bank as usize;
+                let ka = s.banks[ai];
+                if act_goes(t, ah, ka, s.a1, s.a4, s.refresh, cycle) {
+                    put_command(command_of(ah, cycle), buffer, 8 * k);
+                    k = k + 1;
+                    let next = advance(t, list, n, false, a);
+                    q = Queues {
+                        acts: next,
+                        datas: d,
+                    };
+                    s.cycle = later;
+                    s.acts = s.acts + 1;
+                    s.banks[ai] = KeptBank {
+                        opened: 1,
+                        act: later,
+                        rd: 0,
+                        wr: 0,
+                    };
+                    s.a4 = s.a3;
+                    s.a3 = s.a2;
+                    s.a2 = s.a1;
+                    s.a1 = later;
+                } else {
+                    s.cycle = later;
+                }
             }
         }
     }

@@ -4,6 +4,7 @@ use Prim.Native.Nat.{ℕ, zero, suc, _+_, _-_, _*_, _≤_, _<_}
 use native.Mathlib.Omega.{arith}
 use native.Mathlib.Nat.{mul-le-mul}
 use mathlib.Core.Path.{_≡_, refl, sym, ap, _∙_}
+use mathlib.Core.Logic.{inl, inr}
 use mathlib.Core.Bool.{Bool, true, false}
 use mathlib.Core.Option.{none, some, Option·map}
 use mathlib.Core.List.{List, [], _∷_, _++_}
@@ -14,10 +15,11 @@ use Rattle.records.specs.Tests.{pick, every}
 use Rattle.records.specs.declared.table.Table.{Table}
 use Rattle.records.specs.declared.transaction.Transaction.{Transaction}
 use Rattle.records.specs.Transaction.{transactionAt, transactionsFrom, fits}
-use Rattle.rules.specs.Queues.{Due, actQueue, dataQueue, headAfter}
+use Rattle.rules.specs.Queues.{Due, actCount, actQueue, dataQueue, headAfter}
+use Rattle.rules.proofs.Ranges.{ranges}
 use Rattle.rules.proofs.TestLaws.{and-fst, and-snd}
-use Rattle.rules.proofs.Fit.{Fit, AllFit, is-fit, all-fit}
-use Rattle.rules.proofs.Queue.{Place, actCount, dataCount, placeOf, find, actDue, dataDue, sum, actSum, act-head, data-head, act-length, data-length, at-own, find-end, sum-append}
+use Rattle.rules.proofs.Fit.{Fits, AllFit, is-fit, all-fit, plain-count}
+use Rattle.rules.proofs.Queue.{Place, dataCount, placeOf, find, actDue, dataDue, sum, actSum, act-head, data-head, act-length, data-length, at-own, find-end, sum-append}
 use Rattle.heads.specs.Queue.{Listed, queueOf, Placed, Found}
 
 -- the first k transactions
@@ -74,12 +76,17 @@ every-back : (f : Transaction → Bool) (p q : List Transaction) → every f (p 
 every-back f [] q e = e
 every-back f (x ∷ p) q e = every-back f p q (and-snd (f x) (every f (p ++ q)) e)
 
+pub count-most : (τ : Table) (x : Transaction) → Fits τ x → actCount x ≤ 16
+count-most τ x (inl w) = rw (w .refresh) (omega arith)
+count-most τ x (inr w) = omega (arith, plain-count τ x w, w .maxI)
+
 pub acts-most : (τ : Table) (l : List Transaction) → AllFit τ l → sum actCount l ≤ 16 * length l
 acts-most τ [] v = omega arith
-acts-most τ (x ∷ l) v = omega (arith, v .0 .maxI, acts-most τ l (v .1))
+acts-most τ (x ∷ l) v = omega (arith, count-most τ x (v .0), acts-most τ l (v .1))
 
-pub size-most : (τ : Table) (x : Transaction) → Fit τ x → dataCount x ≤ 256
-size-most τ x v = mul-le-mul {n₁ = x .bi} {m₁ = x .bc} {n₂ = 16} {m₂ = 16} (v .maxI) (v .maxC)
+pub size-most : (τ : Table) (x : Transaction) → Fits τ x → dataCount x ≤ 256
+size-most τ x (inl w) = mul-le-mul {n₁ = x .bi} {m₁ = x .bc} {n₂ = 16} {m₂ = 16} (omega (arith, w .noI)) (omega (arith, w .noC))
+size-most τ x (inr w) = mul-le-mul {n₁ = x .bi} {m₁ = x .bc} {n₂ = 16} {m₂ = 16} (w .maxI) (w .maxC)
 
 pub datas-most : (τ : Table) (l : List Transaction) → AllFit τ l → sum dataCount l ≤ 256 * length l
 datas-most τ [] v = omega arith
@@ -97,13 +104,16 @@ module _ {τ : Table} {bs : List ℕ} {n : ℕ} (h : Listed τ bs n) where
       let r = transactionAt bs (4 * k) ∷ transactionsFrom bs (n - (k + 1)) (4 * k + 4) in
       and-fst (fits τ (transactionAt bs (4 * k))) _ (every-back (fits τ) (first bs k) r (rw (whole bs n k p) at each))
 
-  pub fit-at : (k : ℕ) → k < n → Fit τ (transactionAt bs (4 * k))
-  fit-at k p = is-fit τ (transactionAt bs (4 * k)) (fits-at k p)
+  one : 1 ≤ τ .banks
+  one = ranges τ (h .table) .banks .least
+
+  pub fit-at : (k : ℕ) → k < n → Fits τ (transactionAt bs (4 * k))
+  fit-at k p = is-fit τ one (transactionAt bs (4 * k)) (fits-at k p)
 
   pub first-fits : (k : ℕ) → k ≤ n → AllFit τ (first bs k)
   first-fits k p =
       let e : n ≡ k + (n - k) = omega arith in
-      all-fit τ (first bs k) (every-front (fits τ) (first bs k) (transactionsFrom bs (n - k) (0 + 4 * k)) (rw (ap (first bs) e ∙ from-split bs k (n - k) 0) at each))
+      all-fit τ one (first bs k) (every-front (fits τ) (first bs k) (transactionsFrom bs (n - k) (0 + 4 * k)) (rw (ap (first bs) e ∙ from-split bs k (n - k) 0) at each))
 
   pub acts-few : (k : ℕ) → k ≤ n → sum actCount (first bs k) ≤ 16 * k
   acts-few k p = omega (arith, acts-most τ (first bs k) (first-fits k p), length-from bs k 0)
@@ -128,7 +138,7 @@ abbrev pub dueIn : Bool → Table → Place → Due
 dueIn true τ = dataDue τ
 dueIn false τ = actDue τ
 
-pub size-is : (b : Bool) (x : Transaction) → pick b (x .bi * x .bc) (x .bi) ≡ countIn b x
+pub size-is : (b : Bool) (x : Transaction) → pick b (x .bi * x .bc) (actCount x) ≡ countIn b x
 size-is true x = refl
 size-is false x = refl
 
@@ -163,27 +173,27 @@ head-past b τ l m =
 
 -- ---- the search
 
--- where it stands that began at transaction k₀: as many have left, and the ACTs are counted on
+-- where it stands that began at transaction k₀: as many have left, and the commands of the ACT queue are counted on
 pub record Sought (bs : List ℕ) (n : ℕ) (b : Bool) (k₀ off₀ a₀ k off a : ℕ) : Type 0 where
   pub within : k ≤ n
   pub left : sum (countIn b) (first bs k) + off ≡ sum (countIn b) (first bs k₀) + off₀
   pub before : a + sum actCount (first bs k₀) ≡ a₀ + sum actCount (first bs k)
 
 module _ {bs : List ℕ} {n : ℕ} {b : Bool} {k₀ off₀ a₀ k off a : ℕ} (h : Sought bs n b k₀ off₀ a₀ k off a) where
-  pub sought-on : k < n → (x : Transaction) → x ≡ transactionAt bs (4 * k) → (m w : ℕ) → m ≡ pick b (x .bi * x .bc) (x .bi) → w ≡ x .bi → m ≤ off
+  pub sought-on : k < n → (x : Transaction) → x ≡ transactionAt bs (4 * k) → (m w : ℕ) → m ≡ pick b (x .bi * x .bc) (actCount x) → w ≡ actCount x → m ≤ off
       → Sought bs n b k₀ off₀ a₀ (k + 1) (off - m) (a + w)
   sought-on p x e m w f g q =
       record {
         within = omega arith;
         left = omega (arith, h .left, f, size-is b x, ap (countIn b) e, sum-more (countIn b) bs k);
-        before = omega (arith, h .before, g, ap (λ (y : Transaction). y .bi) e, sum-more actCount bs k);
+        before = omega (arith, h .before, g, ap actCount e, sum-more actCount bs k);
       }
 
   module _ {τ : Table} (placed : Placed τ bs n (record { number = k₀; offset = off₀; before = a₀ })) where
     pub before-is : a ≡ sum actCount (first bs k)
     before-is = omega (arith, h .before, placed .before, act-length τ (first bs k₀))
 
-    pub sought : (k < n → off < pick b (transactionAt bs (4 * k) .bi * transactionAt bs (4 * k) .bc) (transactionAt bs (4 * k) .bi))
+    pub sought : (k < n → off < pick b (transactionAt bs (4 * k) .bi * transactionAt bs (4 * k) .bc) (actCount (transactionAt bs (4 * k))))
         → Found τ bs n b (length (queueOf b τ (first bs k₀)) + off₀) (record { number = k; offset = off; before = a })
     sought i =
         record {
@@ -194,5 +204,5 @@ module _ {bs : List ℕ} {n : ℕ} {b : Bool} {k₀ off₀ a₀ k off a : ℕ} (
 
 -- a count of what the first transactions put into a queue, with transaction k
 pub count-on : (b : Bool) (bs : List ℕ) (k : ℕ) (x : Transaction) → x ≡ transactionAt bs (4 * k) → (a m : ℕ) → a ≡ sum (countIn b) (first bs k)
-    → m ≡ pick b (x .bi * x .bc) (x .bi) → a + m ≡ sum (countIn b) (first bs (k + 1))
+    → m ≡ pick b (x .bi * x .bc) (actCount x) → a + m ≡ sum (countIn b) (first bs (k + 1))
 count-on b bs k x e a m p q = omega (arith, p, q, size-is b x, ap (countIn b) e, sum-more (countIn b) bs k)

@@ -9,7 +9,7 @@ use Rattle.records.specs.declared.table.Table.{Table}
 use Rattle.records.specs.declared.transaction.Transaction.{Transaction}
 use Rattle.records.specs.Table.{Accepted}
 use Rattle.records.specs.Transaction.{transactionAt, transactionsFrom, listFits}
-use Rattle.rules.specs.Queues.{Due, actQueue, dataQueue, headAfter}
+use Rattle.rules.specs.Queues.{Due, actCount, actQueue, dataQueue, headAfter}
 use Rattle.heads.specs.declared.due.Counts.{Counts}
 use Rattle.heads.specs.declared.queue.Place.{Place}
 use Rattle.heads.specs.declared.queue.Queue.{Queue}
@@ -35,7 +35,7 @@ Counted τ bs n c = (c .acts ≡ length (actQueue τ (transactionsFrom bs n 0)))
 abbrev pub leftAt : Table → List ℕ → Bool → Place → ℕ
 leftAt τ bs b p = length (queueOf b τ (transactionsFrom bs (p .number) 0)) + p .offset
 
--- a place counts the ACTs of the transactions before its own
+-- a place counts the commands of the ACT queue of the transactions before its own
 pub record Placed (τ : Table) (bs : List ℕ) (n : ℕ) (p : Place) : Type 0 where
   pub within : p .number ≤ n
   pub before : p .before ≡ length (actQueue τ (transactionsFrom bs (p .number) 0))
@@ -44,7 +44,7 @@ pub record Placed (τ : Table) (bs : List ℕ) (n : ℕ) (p : Place) : Type 0 wh
 pub record Found (τ : Table) (bs : List ℕ) (n : ℕ) (b : Bool) (count : ℕ) (p : Place) : Type 0 where
   pub placed : Placed τ bs n p
   pub left : leftAt τ bs b p ≡ count
-  pub inside : p .number < n → p .offset < pick b (transactionAt bs (4 * p .number) .bi * transactionAt bs (4 * p .number) .bc) (transactionAt bs (4 * p .number) .bi)
+  pub inside : p .number < n → p .offset < pick b (transactionAt bs (4 * p .number) .bi * transactionAt bs (4 * p .number) .bc) (actCount (transactionAt bs (4 * p .number)))
 
 -- a queue that `count` commands have left, and its head
 pub record Stands (τ : Table) (bs : List ℕ) (n : ℕ) (b : Bool) (count : ℕ) (q : Queue) : Type 0 where

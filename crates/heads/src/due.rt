@@ -18,8 +18,8 @@ pub fn due(t: Table, list: &[u8], n: usize) -> Counts
     let mut datas: u32 = 0;
     while k < n {
         let x = transaction_at(list, 4 * k);
-        acts = acts + size_in(false, x.bi, x.bc);
-        datas = datas + size_in(true, x.bi, x.bc);
+        acts = acts + size_in(false, x.kind, x.bi, x.bc);
+        datas = datas + size_in(true, x.kind, x.bi, x.bc);
         k = k + 1;
     }
     Counts {

@@ -8,7 +8,7 @@ ghost use mathlib.Core.Bool.{true};
 ghost use Prim.Native.Nat.{_+_, _*_, _<_, _≤_};
 ghost use Rattle.records.specs.Table.{Accepted};
 ghost use Rattle.records.specs.Transaction.{fits};
-ghost use Rattle.rules.specs.Queues.{bankAt};
+ghost use Rattle.rules.specs.Queues.{bankAt, actCount};
 ghost use Rattle.rules.proofs.Queue.{placeOf, actDue, dataDue};
 ghost use Rattle.heads.specs.Head.{headOf, noHead};
 
@@ -47,11 +47,20 @@ pub fn bank_at(t: Table, x: Transaction, k: u32) -> u8
     (past - banks) as u8
 }
 
-// The ACT of transaction x, number i, that `offset` of its ACTs come before; `before` stand before the transaction.
+// The ACT of transaction x, number i, that `offset` of its ACTs come before, or its REF; `before` stand before the transaction.
 pub fn act_head(t: Table, x: Transaction, i: usize, before: u32, offset: u32) -> Head
-    requires { ⌜ Accepted t × (fits t x ≡ true) × (offset < x .bi) × (i < 256) × (before ≤ 16 * i) ⌝ }
+    requires { ⌜ Accepted t × (fits t x ≡ true) × (offset < actCount x) × (i < 256) × (before ≤ 16 * i) ⌝ }
     ensures { λ r. ⌜ r ≡ headOf (actDue t (placeOf x i before offset)) ⌝ }
 {
+    if x.kind == 2 {
+        return Head {
+            there: true,
+            kind: Kind::Ref,
+            bank: 0,
+            number: i as u16,
+            act: before + offset,
+        };
+    }
     let bank = bank_at(t, x, offset);
     Head {
         there: true,

@@ -8,14 +8,16 @@ use records::table::Table;
 use records::transaction::transaction_at;
 ghost use mathlib.Core.Path.{_≡_};
 ghost use mathlib.Core.Bool.{true, false};
-ghost use Prim.Native.Nat.{_+_, _*_, _<_};
+ghost use Prim.Native.Nat.{_+_, _*_, _≤_, _<_};
+ghost use lib.Dec.{eqb};
 ghost use Rattle.records.specs.Tests.{pick};
 ghost use Rattle.records.specs.Transaction.{transactionsFrom};
 ghost use Rattle.rules.specs.Queues.{headAfter};
 ghost use Rattle.heads.specs.Head.{dueOf};
 ghost use Rattle.heads.specs.Queue.{Listed, queueOf, leftAt, Placed, Found, Stands, BothStand};
 
-// A place in a queue: a transaction's number, how many of its commands have left, and the ACTs of the transactions before it.
+// A place in a queue: a transaction's number, how many of its commands have left, and how many commands of the ACT
+// queue belong to the transactions before it.
 pub struct Place {
     pub number: usize,
     pub offset: u32,
@@ -32,20 +34,21 @@ pub struct Queues {
     pub datas: Queue,
 }
 
-pub fn wide_8(x: u8) -> u32
-    ensures { λ r. ⌜ r ≡ x ⌝ }
+// How many commands a transaction of a type puts into the ACT queue: BI ACTs, or one REF.
+pub fn acts_in(kind: u8, bi: u8) -> u32
+    ensures { λ r. ⌜ (r ≡ pick (eqb kind 2) 1 bi) × (r ≤ 255) ⌝ }
 {
-    x as u32
+    if kind == 2 { 1 } else { bi as u32 }
 }
 
-// How many commands a transaction puts into the data queue, or into the ACT queue.
-pub fn size_in(datas: bool, bi: u8, bc: u8) -> u32
-    ensures { λ r. ⌜ r ≡ pick datas (bi * bc) bi ⌝ }
+// How many it puts into the data queue, or into the ACT queue.
+pub fn size_in(datas: bool, kind: u8, bi: u8, bc: u8) -> u32
+    ensures { λ r. ⌜ r ≡ pick datas (bi * bc) (pick (eqb kind 2) 1 bi) ⌝ }
 {
     if datas {
         return bi as u32 * bc as u32;
     }
-    bi as u32
+    acts_in(kind, bi)
 }
 
 // The place, inside a transaction or past the last, at which as many commands have left. From a place at which one command more has left it
@@ -59,7 +62,7 @@ pub fn seek(t: Table, list: &[u8], n: usize, datas: bool, from: Place) -> Place
     let mut before = from.before;
     while k < n {
         let x = transaction_at(list, 4 * k);
-        let size = size_in(datas, x.bi, x.bc);
+        let size = size_in(datas, x.kind, x.bi, x.bc);
         if offset < size {
             return Place {
                 number: k,
@@ -68,7 +71,7 @@ pub fn seek(t: Table, list: &[u8], n: usize, datas: bool, from: Place) -> Place
             };
         }
         offset = offset - size;
-        before = before + wide_8(x.bi);
+        before = before + acts_in(x.kind, x.bi);
         k = k + 1;
     }
     Place {

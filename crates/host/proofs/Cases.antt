@@ -35,4 +35,7 @@ each-case =
     ⨾ refl
     ⨾ refl
     ⨾ refl
+    ⨾ refl
+    ⨾ refl
+    ⨾ refl
     ⨾ tt

@@ -7,13 +7,13 @@ use Rattle.records.specs.declared.refusal.Refusal.{Refusal}
 use Rattle.records.specs.declared.refusal.Written.the-variants.{Done, Refused as NotWritten}
 use Rattle.records.specs.declared.table.TableRead.the-variants.{Read as TableIs, Refused as NoTable}
 use Rattle.records.specs.declared.transaction.TransactionRead.the-variants.{Read as TransactionIs, Refused as NoTransaction}
-use Rattle.records.specs.declared.command.Kind.the-variants.{Wra}
+use Rattle.records.specs.declared.command.Kind.the-variants.{Wra, Ref}
 use Rattle.records.specs.declared.command.CommandRead.the-variants.{Read as CommandIs, Refused as NoCommand}
 use Rattle.records.specs.Told.{refusal}
 use Rattle.records.specs.Transaction.{transaction}
 use Rattle.records.specs.Command.{command}
 use Rattle.records.specs.House.{numbersA, tableA}
-use Rattle.rules.specs.declared.verdict.Rule.the-variants.{Rc, Rrd}
+use Rattle.rules.specs.declared.verdict.Rule.the-variants.{Rc, Rrd, Refresh, Rfc}
 use Rattle.rules.specs.declared.verdict.Verdict.the-variants.{Accepted, Refused}
 use Rattle.rules.specs.declared.verdict.PatternVerdict.the-variants.{Accepted as AllAccepted, Refused as RefusedAt}
 use Rattle.judge.specs.declared.answer.Judged.the-variants.{Verdict as Says, Refused as NotJudged}
@@ -49,6 +49,7 @@ cases =
     ∷ (ofTransaction (TransactionIs (transaction 1 2 3 4)) ≡ record { refused = 0; position = 0; edition = 0; kind = 1; start = 2; bi = 3; bc = 4 })
     ∷ (ofTransaction (NoTransaction no3) ≡ record { refused = 3; position = 5; edition = 7; kind = 0; start = 0; bi = 0; bc = 0 })
     ∷ (ofCommand (CommandIs (command 10 Wra 2 3)) ≡ record { refused = 0; position = 0; edition = 0; cycle = 10; kind = 4; bank = 2; number = 3 })
+    ∷ (ofCommand (CommandIs (command 10 Ref 0 3)) ≡ record { refused = 0; position = 0; edition = 0; cycle = 10; kind = 5; bank = 0; number = 3 })
     ∷ (ofCommand (NoCommand no3) ≡ record { refused = 3; position = 5; edition = 7; cycle = 0; kind = 0; bank = 0; number = 0 })
     ∷ (ofRead (Stored 7 2) ≡ plain 0 0 7 2 0)
     ∷ (ofRead (NotStored no3) ≡ plain 3 5 7 0 0)
@@ -63,8 +64,10 @@ cases =
     -- a verdict on a schedule names no copy
     ∷ (verdictOf (Says 7 Accepted) ≡ verdict 0 0 7 0 0 0)
     ∷ (verdictOf (Says 7 (Refused Rc 3)) ≡ verdict 0 0 7 5 0 3)
+    ∷ (verdictOf (Says 7 (Refused Refresh 3)) ≡ verdict 0 0 7 11 0 3)
     ∷ (verdictOf (NotJudged no3) ≡ verdict 3 5 7 0 0 0)
     ∷ (patternOf (PatternSays 7 AllAccepted) ≡ verdict 0 0 7 0 0 0)
     ∷ (patternOf (PatternSays 7 (RefusedAt Rrd 2 3)) ≡ verdict 0 0 7 6 2 3)
+    ∷ (patternOf (PatternSays 7 (RefusedAt Rfc 2 3)) ≡ verdict 0 0 7 12 2 3)
     ∷ (patternOf (PatternNotJudged no3) ≡ verdict 3 5 7 0 0 0)
     ∷ []

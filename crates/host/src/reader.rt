@@ -60,7 +60,7 @@ pub fn numbers_of(t: Table) -> [u16; 16]
         t.rtp,
         t.wr,
         t.wtr,
-        t.last,
+        t.rfc,
     ]
 }
 

@@ -212,7 +212,7 @@ fn numbers(t: Table) {
     number(t.rtp);
     number(t.wr);
     number(t.wtr);
-    number(t.last);
+    number(t.rfc);
 }
 
 fn transaction(x: Transaction) {

@@ -10,7 +10,7 @@ use lib.ListN.{length}
 use Rattle.records.specs.declared.command.Command.{Command}
 use Rattle.records.specs.Command.{command, commandAt, commandsFrom, commandsIn}
 use Rattle.rules.specs.declared.state.State.{State}
-use Rattle.rules.specs.Kinds.{isAct, isData}
+use Rattle.rules.specs.Kinds.{isData, inActQueue}
 use Rattle.rules.specs.State.{addIf}
 use Rattle.rules.specs.CycleRule.{actsIn, datasIn}
 use Rattle.rules.specs.Pattern.{moved, copy, onto}
@@ -83,6 +83,6 @@ pub room : (L : ℕ) (s : List ℕ) (k i : ℕ) {st : State} → k < 5 → i ≤
 room L s k i k5 low few q =
     let copies : k * recordCount s ≤ 4 * 69632 = mul-le-mul {n₁ = k} {m₁ = recordCount s} {n₂ = 4} {m₂ = 69632} (omega arith) few in
     let all : length (seen L s k i) ≤ 348160 = omega (arith, length-before s (L * k) i (whole L s k), length-whole L s k) in (
-      omega (arith, q .acts, count-few (λ r. isAct (r .kind)) actsIn refl (λ r h. refl) (seen L s k i)),
+      omega (arith, q .acts, count-few (λ r. inActQueue (r .kind)) actsIn refl (λ r h. refl) (seen L s k i)),
       omega (arith, q .datas, count-few (λ r. isData (r .kind)) datasIn refl (λ r h. refl) (seen L s k i)),
     )

@@ -1,5 +1,6 @@
 // One copy of a schedule, record by record.
 use broken::found::found_on;
+use broken::found::found_ref;
 use broken::found::in_table;
 use commands::command::command_at;
 use records::table::Table;
@@ -13,8 +14,10 @@ use timing::kept::KeptBank;
 use timing::kept::either_64;
 use timing::kept::kept_after;
 use timing::kept::kept_open;
+use timing::kept::kept_rests;
 use timing::kinds::is_act;
 use timing::kinds::is_closing;
+use timing::kinds::is_ref;
 use timing::kinds::is_wr;
 ghost use mathlib.Core.Path.{_≡_};
 ghost use Prim.Native.Nat.{suc, _*_, _≤_, _<_};
@@ -95,47 +98,65 @@ pub fn judge_copy(t: Table, q: [[u32; 2]; 2], s: &[u8], length: u32, k: u32, sta
                 verdict: Verdict::Refused(Rule::Range, number),
             };
         }
-        let at = b as usize;
-        let bank = state.banks[at];
-        match found_on(
-            t,
-            q,
-            state.cycle,
-            bank,
-            state.a1,
-            state.a4,
-            state.rd,
-            state.wr,
-            kind,
-            c,
-        ) {
-            Found::Broken(x) => {
-                return Copied {
-                    state: state,
-                    verdict: Verdict::Refused(x, number),
-                };
-            }
-            Found::Fine => {
-                let later = c + 1;
-                state.cycle = later;
-                if is_act(kind) {
-                    state.acts = state.acts + 1;
-                    state.banks[at] = KeptBank {
-                        opened: 1,
-                        act: later,
-                        rd: 0,
-                        wr: 0,
+        if is_ref(kind) {
+            match found_ref(t, state.cycle, kept_rests(t, state, c), state.refresh, c) {
+                Found::Broken(x) => {
+                    return Copied {
+                        state: state,
+                        verdict: Verdict::Refused(x, number),
                     };
-                    state.a4 = state.a3;
-                    state.a3 = state.a2;
-                    state.a2 = state.a1;
-                    state.a1 = later;
-                } else {
-                    let write = is_wr(kind);
-                    state.datas = state.datas + 1;
-                    state.banks[at] = kept_after(bank, write, is_closing(kind), later);
-                    state.rd = either_64(write, state.rd, later);
-                    state.wr = either_64(write, later, state.wr);
+                }
+                Found::Fine => {
+                    let later = c + 1;
+                    state.cycle = later;
+                    state.acts = state.acts + 1;
+                    state.refresh = later;
+                }
+            }
+        } else {
+            let at = b as usize;
+            let bank = state.banks[at];
+            match found_on(
+                t,
+                q,
+                state.cycle,
+                bank,
+                state.a1,
+                state.a4,
+                state.rd,
+                state.wr,
+                state.refresh,
+                kind,
+                c,
+            ) {
+                Found::Broken(x) => {
+                    return Copied {
+                        state: state,
+                        verdict: Verdict::Refused(x, number),
+                    };
+                }
+                Found::Fine => {
+                    let later = c + 1;
+                    state.cycle = later;
+                    if is_act(kind) {
+                        state.acts = state.acts + 1;
+                        state.banks[at] = KeptBank {
+                            opened: 1,
+                            act: later,
+                            rd: 0,
+                            wr: 0,
+                        };
+                        state.a4 = state.a3;
+                        state.a3 = state.a2;
+                        state.a2 = state.a1;
+                        state.a1 = later;
+                    } else {
+                        let write = is_wr(kind);
+                        state.datas = state.datas + 1;
+                        state.banks[at] = kept_after(bank, write, is_closing(kind), later);
+                        state.rd = either_64(write, state.rd, later);
+                        state.wr = either_64(write, later, state.wr);
+                    }
                 }
             }
         }

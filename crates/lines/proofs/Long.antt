@@ -9,7 +9,7 @@ use Rattle.text.specs.Decimal.{decimal}
 use Rattle.text.specs.Puts.{Puts}
 use Rattle.text.proofs.Digits.{at-most, then-long}
 use Rattle.records.specs.declared.command.Kind.{Kind}
-use Rattle.records.specs.declared.command.Kind.the-variants.{Act, Rd, Rda, Wr, Wra, Other}
+use Rattle.records.specs.declared.command.Kind.the-variants.{Act, Rd, Rda, Wr, Wra, Ref, Other}
 use Rattle.records.specs.declared.command.Command.{Command}
 use Rattle.records.specs.declared.refusal.Refusal.{Refusal}
 use Rattle.records.specs.Little.{num, num32}
@@ -56,6 +56,7 @@ kind-most Rd h = omega arith
 kind-most Rda h = omega arith
 kind-most Wr h = omega arith
 kind-most Wra h = omega arith
+kind-most Ref h = omega arith
 kind-most (Other n) h = at-most 2 n (omega arith)
 
 -- a command of bytes

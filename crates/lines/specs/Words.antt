@@ -3,7 +3,7 @@ use Prim.Native.Nat.{ℕ}
 use mathlib.Core.List.{List, [], _∷_}
 use Rattle.text.specs.Decimal.{decimal}
 use Rattle.records.specs.declared.command.Kind.{Kind}
-use Rattle.records.specs.declared.command.Kind.the-variants.{Act, Rd, Rda, Wr, Wra, Other}
+use Rattle.records.specs.declared.command.Kind.the-variants.{Act, Rd, Rda, Wr, Wra, Ref, Other}
 
 -- `edition `
 abbrev pub editionWord : List ℕ
@@ -32,11 +32,12 @@ space = 32 ∷ []
 abbrev pub newline : List ℕ
 newline = 10 ∷ []
 
--- `ACT`, `RD`, `RDA`, `WR`, `WRA`; any other kind is its number, and no schedule has one
+-- `ACT`, `RD`, `RDA`, `WR`, `WRA`, `REF`; any other kind is its number, and no schedule has one
 unfoldable pub kindText : Kind → List ℕ
 kindText Act = 65 ∷ 67 ∷ 84 ∷ []
 kindText Rd = 82 ∷ 68 ∷ []
 kindText Rda = 82 ∷ 68 ∷ 65 ∷ []
 kindText Wr = 87 ∷ 82 ∷ []
 kindText Wra = 87 ∷ 82 ∷ 65 ∷ []
+kindText Ref = 82 ∷ 69 ∷ 70 ∷ []
 kindText (Other n) = decimal n

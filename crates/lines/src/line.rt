@@ -33,6 +33,7 @@ fn put_kind(out: &mut [u8], at: usize, k: Kind) -> usize
         Kind::Rda => put_word(out, at, b"RDA"),
         Kind::Wr => put_word(out, at, b"WR"),
         Kind::Wra => put_word(out, at, b"WRA"),
+        Kind::Ref => put_word(out, at, b"REF"),
         Kind::Other(n) => put_number(out, at, n as u64),
     }
 }

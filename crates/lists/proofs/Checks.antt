@@ -22,38 +22,38 @@ use Rattle.lists.proofs.Runs.{from-more, from-none, length-from}
 
 -- ---- the loop: what is left from number k on gives the whole answer
 
-range-none : (banks e k : ℕ) → rangeFrom banks e [] k ≡ Fine
+range-none : (banks rfc e k : ℕ) → rangeFrom banks rfc e [] k ≡ Fine
 unfolding rangeFrom
-range-none banks e k = refl
+range-none banks rfc e k = refl
 
-range-cons : (banks e : ℕ) (x : Transaction) (l : List Transaction) (k : ℕ) → rangeFrom banks e (x ∷ l) k ≡ pick (fitsIn banks x) (rangeFrom banks e l (k + 1)) (Refused (refusal 4 k e))
+range-cons : (banks rfc e : ℕ) (x : Transaction) (l : List Transaction) (k : ℕ) → rangeFrom banks rfc e (x ∷ l) k ≡ pick (fitsIn banks rfc x) (rangeFrom banks rfc e l (k + 1)) (Refused (refusal 4 k e))
 unfolding rangeFrom
-range-cons banks e x l k = refl
+range-cons banks rfc e x l k = refl
 
-module _ (banks e : ℕ) (s : List ℕ) (n : ℕ) where
+module _ (banks rfc e : ℕ) (s : List ℕ) (n : ℕ) where
   abbrev pub leftFrom : ℕ → Checked
-  leftFrom k = rangeFrom banks e (transactionsFrom s (n - k) (4 * k)) k
+  leftFrom k = rangeFrom banks rfc e (transactionsFrom s (n - k) (4 * k)) k
 
-  pub left-all : leftFrom 0 ≡ rangeFrom banks e (transactionsFrom s n 0) 0
+  pub left-all : leftFrom 0 ≡ rangeFrom banks rfc e (transactionsFrom s n 0) 0
   left-all = rw sub-zero
 
   module _ (k : ℕ) (h : k < n) where
-    here : leftFrom k ≡ pick (fitsIn banks (transactionAt s (4 * k))) (leftFrom (k + 1)) (Refused (refusal 4 k e))
-    here = ap (λ (l : List Transaction). rangeFrom banks e l k) (from-more s n k h) ∙ range-cons banks e (transactionAt s (4 * k)) (transactionsFrom s (n - (k + 1)) (4 * (k + 1))) k
+    here : leftFrom k ≡ pick (fitsIn banks rfc (transactionAt s (4 * k))) (leftFrom (k + 1)) (Refused (refusal 4 k e))
+    here = ap (λ (l : List Transaction). rangeFrom banks rfc e l k) (from-more s n k h) ∙ range-cons banks rfc e (transactionAt s (4 * k)) (transactionsFrom s (n - (k + 1)) (4 * (k + 1))) k
 
-    pub left-fits : fitsIn banks (transactionAt s (4 * k)) ≡ true → leftFrom (k + 1) ≡ leftFrom k
+    pub left-fits : fitsIn banks rfc (transactionAt s (4 * k)) ≡ true → leftFrom (k + 1) ≡ leftFrom k
     left-fits t = sym (here ∙ ap (λ (b : Bool). pick b (leftFrom (k + 1)) (Refused (refusal 4 k e))) t)
 
-    pub left-out : fitsIn banks (transactionAt s (4 * k)) ≡ false → Refused (refusal 4 k e) ≡ leftFrom k
+    pub left-out : fitsIn banks rfc (transactionAt s (4 * k)) ≡ false → Refused (refusal 4 k e) ≡ leftFrom k
     left-out t = sym (here ∙ ap (λ (b : Bool). pick b (leftFrom (k + 1)) (Refused (refusal 4 k e))) t)
 
   pub left-none : (k : ℕ) → n ≤ k → Fine ≡ leftFrom k
-  left-none k h = sym (ap (λ (l : List Transaction). rangeFrom banks e l k) (from-none s (n - k) (4 * k) (omega arith)) ∙ range-none banks e k)
+  left-none k h = sym (ap (λ (l : List Transaction). rangeFrom banks rfc e l k) (from-none s (n - k) (4 * k) (omega arith)) ∙ range-none banks rfc e k)
 
 -- ---- number 3
 
 module _ (τ : Table) (l : List Transaction) (b : Bool) where
-  pub sized : b ≡ true → rangeFrom (τ .banks) (τ .edition) l 0 ≡ checkSized τ b l
+  pub sized : b ≡ true → rangeFrom (τ .banks) (τ .rfc) (τ .edition) l 0 ≡ checkSized τ b l
   sized e = sym (ap (λ (t : Bool). checkSized τ t l) e)
 
   pub not-sized : b ≡ false → Refused (refusal 3 0 (τ .edition)) ≡ checkSized τ b l
@@ -118,20 +118,20 @@ over-list τ l h = not-sized τ l (leb (length l) 256) (lt-leb (length l) 256 h)
 
 -- ---- what the check of a list tells
 
-range-fine : (banks e : ℕ) (l : List Transaction) (k : ℕ) → rangeFrom banks e l k ≡ Fine → every (fitsIn banks) l ≡ true
+range-fine : (banks rfc e : ℕ) (l : List Transaction) (k : ℕ) → rangeFrom banks rfc e l k ≡ Fine → every (fitsIn banks rfc) l ≡ true
 unfolding rangeFrom
-range-fine banks e [] k h = refl
-range-fine banks e (x ∷ l) k h = on (fitsIn banks x) (range-fine banks e l (k + 1)) h
+range-fine banks rfc e [] k h = refl
+range-fine banks rfc e (x ∷ l) k h = on (fitsIn banks rfc x) (range-fine banks rfc e l (k + 1)) h
   where
-    on : (b : Bool) → (rangeFrom banks e l (k + 1) ≡ Fine → every (fitsIn banks) l ≡ true) → pick b (rangeFrom banks e l (k + 1)) (Refused (refusal 4 k e)) ≡ Fine → (b && every (fitsIn banks) l) ≡ true
+    on : (b : Bool) → (rangeFrom banks rfc e l (k + 1) ≡ Fine → every (fitsIn banks rfc) l ≡ true) → pick b (rangeFrom banks rfc e l (k + 1)) (Refused (refusal 4 k e)) ≡ Fine → (b && every (fitsIn banks rfc) l) ≡ true
     on true r h = r h
     on false r h = let z : _≡_ {A = ℕ} 0 1 = cc in absurd (omega arith)
 
-fine-range : (banks e : ℕ) (l : List Transaction) (k : ℕ) → every (fitsIn banks) l ≡ true → rangeFrom banks e l k ≡ Fine
+fine-range : (banks rfc e : ℕ) (l : List Transaction) (k : ℕ) → every (fitsIn banks rfc) l ≡ true → rangeFrom banks rfc e l k ≡ Fine
 unfolding rangeFrom
-fine-range banks e [] k h = refl
-fine-range banks e (x ∷ l) k h =
-    rw (and-left (fitsIn banks x) (every (fitsIn banks) l) h) (fine-range banks e l (k + 1) (and-right (fitsIn banks x) (every (fitsIn banks) l) h))
+fine-range banks rfc e [] k h = refl
+fine-range banks rfc e (x ∷ l) k h =
+    rw (and-left (fitsIn banks rfc x) (every (fitsIn banks rfc) l) h) (fine-range banks rfc e l (k + 1) (and-right (fitsIn banks rfc x) (every (fitsIn banks rfc) l) h))
 
 -- it finds nothing to refuse exactly where the list fits
 pub fine-fits : (τ : Table) (l : List Transaction) → checkList τ l ≡ Fine → listFits τ l ≡ true
@@ -139,11 +139,11 @@ unfolding checkList
 fine-fits τ l e = on (leb (length l) 256) e
   where
     on : (b : Bool) → checkSized τ b l ≡ Fine → (b && every (fits τ) l) ≡ true
-    on true e = range-fine (τ .banks) (τ .edition) l 0 e
+    on true e = range-fine (τ .banks) (τ .rfc) (τ .edition) l 0 e
     on false e = was-sized τ l false e
 
 pub fits-fine : (τ : Table) (l : List Transaction) → listFits τ l ≡ true → checkList τ l ≡ Fine
 unfolding checkList
 fits-fine τ l h =
     sym (sized τ l (leb (length l) 256) (and-left (leb (length l) 256) (every (fits τ) l) h))
-    ∙ fine-range (τ .banks) (τ .edition) l 0 (and-right (leb (length l) 256) (every (fits τ) l) h)
+    ∙ fine-range (τ .banks) (τ .rfc) (τ .edition) l 0 (and-right (leb (length l) 256) (every (fits τ) l) h)

@@ -37,7 +37,7 @@ no-case r e = let z : _≡_ {A = ℕ} 0 1 = cc in absurd (omega arith)
 abbrev Found : Table → List Transaction → ℕ → Refusal → Type 0
 Found τ l k r = (j : ℕ) × (r ≡ refusal 4 (k + j) (τ .edition)) × Lowest τ l j
 
-lowest : (τ : Table) (l : List Transaction) (k : ℕ) (r : Refusal) → rangeFrom (τ .banks) (τ .edition) l k ≡ Refused r → Found τ l k r
+lowest : (τ : Table) (l : List Transaction) (k : ℕ) (r : Refusal) → rangeFrom (τ .banks) (τ .rfc) (τ .edition) l k ≡ Refused r → Found τ l k r
 unfolding rangeFrom
 lowest τ [] k r h = no-case r (sym h)
 lowest τ (x ∷ l) k r h = on (fits τ x) refl (lowest τ l (k + 1) r) h
@@ -51,8 +51,8 @@ lowest τ (x ∷ l) k r h = on (fits τ x) refl (lowest τ l (k + 1) r) h
         below zero h = t
         below (suc i) h = w .lower i (omega arith)
 
-    on : (b : Bool) → fits τ x ≡ b → (rangeFrom (τ .banks) (τ .edition) l (k + 1) ≡ Refused r → Found τ l (k + 1) r)
-        → pick b (rangeFrom (τ .banks) (τ .edition) l (k + 1)) (Refused (refusal 4 k (τ .edition))) ≡ Refused r → Found τ (x ∷ l) k r
+    on : (b : Bool) → fits τ x ≡ b → (rangeFrom (τ .banks) (τ .rfc) (τ .edition) l (k + 1) ≡ Refused r → Found τ l (k + 1) r)
+        → pick b (rangeFrom (τ .banks) (τ .rfc) (τ .edition) l (k + 1)) (Refused (refusal 4 k (τ .edition))) ≡ Refused r → Found τ (x ∷ l) k r
     on true t rest h = further t (rest h)
     on false t rest h =
         (0, (cc) ∙ ap (λ (p : ℕ). refusal 4 p (τ .edition)) (sym (add-zero k)), record { inside = omega arith; out = t; lower = λ i p. absurd (omega arith) })

@@ -12,15 +12,15 @@ use Rattle.records.specs.Transaction.{transactionsIn, fitsIn}
 use Rattle.lists.specs.declared.check.Checked.{Checked}
 use Rattle.lists.specs.declared.check.Checked.the-variants.{Fine, Refused}
 
--- number 4: "a transaction out of range"; position: "its number, the lowest". For so many banks and the edition e, where the list's first has
+-- number 4: "a transaction out of range"; position: "its number, the lowest". For so many banks, this RFC and the edition e, where the list's first has
 -- the number k
-unfoldable pub rangeFrom : ℕ → ℕ → List Transaction → ℕ → Checked
-rangeFrom banks e [] k = Fine
-rangeFrom banks e (x ∷ l) k = pick (fitsIn banks x) (rangeFrom banks e l (k + 1)) (Refused (refusal 4 k e))
+unfoldable pub rangeFrom : ℕ → ℕ → ℕ → List Transaction → ℕ → Checked
+rangeFrom banks rfc e [] k = Fine
+rangeFrom banks rfc e (x ∷ l) k = pick (fitsIn banks rfc x) (rangeFrom banks rfc e l (k + 1)) (Refused (refusal 4 k e))
 
 -- number 3, position 0, where the size is refused; then number 4
 abbrev pub checkSized : Table → Bool → List Transaction → Checked
-checkSized τ good l = pick good (rangeFrom (τ .banks) (τ .edition) l 0) (Refused (refusal 3 0 (τ .edition)))
+checkSized τ good l = pick good (rangeFrom (τ .banks) (τ .rfc) (τ .edition) l 0) (Refused (refusal 3 0 (τ .edition)))
 
 -- number 3: "over 256 records, .. decoded"
 unfoldable pub checkList : Table → List Transaction → Checked

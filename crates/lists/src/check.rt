@@ -18,15 +18,15 @@ pub enum Checked {
 }
 
 // Number 4 in a run of records, few enough for their numbers to fit a position.
-fn check_range(banks: u16, edition: u16, s: &[u8]) -> Checked
+fn check_range(banks: u16, rfc: u16, edition: u16, s: &[u8]) -> Checked
     requires { ⌜ length (now s) ≤ 1024 ⌝ }
-    ensures { λ r. ⌜ r ≡ rangeFrom banks edition (transactionsIn (now (s .entry))) 0 ⌝ }
+    ensures { λ r. ⌜ r ≡ rangeFrom banks rfc edition (transactionsIn (now (s .entry))) 0 ⌝ }
 {
     let n = s.len() / 4;
     let mut k: usize = 0;
     while k < n {
         let x = transaction_at(s, 4 * k);
-        if fits_in(banks, x.kind, x.start, x.bi, x.bc) {
+        if fits_in(banks, rfc, x.kind, x.start, x.bi, x.bc) {
             k += 1;
         } else {
             return Checked::Refused(refuse(4, k as u32, edition));
@@ -42,7 +42,7 @@ pub fn check_into(t: Table, s: &[u8], places: usize) -> Checked
     let n = s.len() / 4;
     let few = both_of(n <= 256, n <= places);
     if both_of(s.len() % 4 == 0, few) {
-        return check_range(t.banks, t.edition, s);
+        return check_range(t.banks, t.rfc, t.edition, s);
     }
     Checked::Refused(refuse(3, 0, t.edition))
 }

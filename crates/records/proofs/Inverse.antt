@@ -12,7 +12,7 @@ use mathlib.Core.Bool.{Bool, true, false}
 use lib.Dec.{eqb}
 use borrow.Author.Tests.{eqb-true}
 use Rattle.records.specs.declared.command.Kind.{Kind}
-use Rattle.records.specs.declared.command.Kind.the-variants.{Act, Rd, Rda, Wr, Wra, Other}
+use Rattle.records.specs.declared.command.Kind.the-variants.{Act, Rd, Rda, Wr, Wra, Ref, Other}
 use Rattle.records.specs.Tests.{pick}
 use Rattle.records.specs.Table.{tableOf, tableAt}
 use Rattle.records.specs.Command.{kindOf, kindNumber}
@@ -93,7 +93,7 @@ elements-from (suc n) at s h = rw (elements-from n (at + 1) s (omega arith), add
 
 -- a kind's number tells the kind
 pub kind-number : (n : ℕ) → kindNumber (kindOf n) ≡ n
-kind-number n = one 0 Act _ refl (one 1 Rd _ refl (one 2 Rda _ refl (one 3 Wr _ refl (one 4 Wra (Other n) refl refl))))
+kind-number n = one 0 Act _ refl (one 1 Rd _ refl (one 2 Rda _ refl (one 3 Wr _ refl (one 4 Wra _ refl (one 5 Ref (Other n) refl refl)))))
   where
     one : (m : ℕ) (k rest : Kind) → kindNumber k ≡ m → kindNumber rest ≡ n → kindNumber (pick (eqb n m) k rest) ≡ n
     one m k rest p q = on (eqb n m) refl

@@ -59,11 +59,11 @@ and-right false b e = let z : _≡_ {A = ℕ} 0 1 = cc in absurd (omega arith)
 -- the size of a record that is not refused
 pub table-size : (size : ℕ) (τ : Table) → tableRefusal size τ ≡ 0 → size ≡ 32
 table-size size τ e =
-    eqb-true size 32 (and-left _ _ (not-false _ (passes 1 (not (eqb size 32 && eqb (τ .last) 0)) ((2, not (inRange τ)) ∷ []) (λ k. omega arith) e .0)))
+    eqb-true size 32 (not-false _ (passes 1 (not (eqb size 32)) ((2, not (inRange τ)) ∷ []) (λ k. omega arith) e .0))
 
 pub transaction-size : (size : ℕ) (x : Transaction) → transactionRefusal size x ≡ 0 → size ≡ 4
 transaction-size size x e =
-    eqb-true size 4 (not-false _ (passes 3 (not (eqb size 4)) ((4, not (fitsIn 16 x)) ∷ []) (λ k. omega arith) e .0))
+    eqb-true size 4 (not-false _ (passes 3 (not (eqb size 4)) ((4, not (fitsIn 16 1 x)) ∷ []) (λ k. omega arith) e .0))
 
 -- what a call answers tells whether it refused
 pub answered : {A B : Type 0} (f : A → B) (z : ℕ) (a b : A) (c : B) → f (pick (eqb z 0) a b) ≡ c → (f b ≡ c → ⊥) → (z ≡ 0) × (f a ≡ c)

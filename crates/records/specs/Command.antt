@@ -1,11 +1,12 @@
 -- "Command, 8 bytes: cycle (32 bits), kind (0 ACT, 1 RD, 2 RDA, 3 WR, 4 WRA), bank, transaction number (16 bits)."
+-- Document 02, request 5: "kind 5 (REF, bank 0)".
 use Prim.Native.Nat.{ℕ, zero, suc, _+_, _/_}
 use mathlib.Core.Bool.{Bool, true, false, not}
 use mathlib.Core.List.{List, [], _∷_, _++_}
 use lib.Dec.{leb, ltb, eqb}
 use lib.ListN.{length, getD}
 use Rattle.records.specs.declared.command.Kind.{Kind}
-use Rattle.records.specs.declared.command.Kind.the-variants.{Act, Rd, Rda, Wr, Wra, Other}
+use Rattle.records.specs.declared.command.Kind.the-variants.{Act, Rd, Rda, Wr, Wra, Ref, Other}
 use Rattle.records.specs.declared.command.Command.{Command}
 use Rattle.records.specs.declared.command.CommandRead.{CommandRead}
 use Rattle.records.specs.declared.command.CommandRead.the-variants.{Read, Refused}
@@ -15,7 +16,7 @@ use Rattle.records.specs.Told.{refusal, firstFailed, over, Wrote}
 use Rattle.records.specs.Little.{num, num32, bytes16, bytes32}
 
 abbrev pub kindOf : ℕ → Kind
-kindOf n = pick (eqb n 0) Act (pick (eqb n 1) Rd (pick (eqb n 2) Rda (pick (eqb n 3) Wr (pick (eqb n 4) Wra (Other n)))))
+kindOf n = pick (eqb n 0) Act (pick (eqb n 1) Rd (pick (eqb n 2) Rda (pick (eqb n 3) Wr (pick (eqb n 4) Wra (pick (eqb n 5) Ref (Other n))))))
 
 abbrev pub kindNumber : Kind → ℕ
 kindNumber Act = 0
@@ -23,6 +24,7 @@ kindNumber Rd = 1
 kindNumber Rda = 2
 kindNumber Wr = 3
 kindNumber Wra = 4
+kindNumber Ref = 5
 kindNumber (Other n) = n
 
 abbrev pub command : ℕ → Kind → ℕ → ℕ → Command

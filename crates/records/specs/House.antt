@@ -4,20 +4,20 @@ use mathlib.Core.List.{List, [], _∷_}
 use Rattle.records.specs.declared.table.Table.{Table}
 use Rattle.records.specs.Table.{tableOf}
 
--- A, with its FAW and its RTP left open
-abbrev pub house : ℕ → ℕ → List ℕ
-house faw rtp = 7 ∷ 8 ∷ 4 ∷ 4 ∷ 10 ∷ 10 ∷ 28 ∷ 38 ∷ 6 ∷ faw ∷ 10 ∷ 8 ∷ rtp ∷ 12 ∷ 6 ∷ 0 ∷ []
+-- A, with its FAW, its RTP and its RFC left open
+abbrev pub house : ℕ → ℕ → ℕ → List ℕ
+house faw rtp rfc = 7 ∷ 8 ∷ 4 ∷ 4 ∷ 10 ∷ 10 ∷ 28 ∷ 38 ∷ 6 ∷ faw ∷ 10 ∷ 8 ∷ rtp ∷ 12 ∷ 6 ∷ rfc ∷ []
 
 abbrev pub numbersA : List ℕ
-numbersA = house 32 6
+numbersA = house 32 6 0
 
 -- "Table B: A with FAW 155."
 abbrev pub numbersB : List ℕ
-numbersB = house 155 6
+numbersB = house 155 6 0
 
 -- "Table C: A with RTP 2."
 abbrev pub numbersC : List ℕ
-numbersC = house 32 2
+numbersC = house 32 2 0
 
 -- Table T is the team's own: no two numbers alike, B below CCD, FAW no multiple of 4, so that no number of a table can stand in for another unseen.
 abbrev pub numbersT : List ℕ

@@ -1,4 +1,5 @@
--- "Table, 32 bytes, sixteen 16-bit numbers": edition, banks, B, CCD, RCD, RP, RAS, RC, RRD, FAW, RL, WL, RTP, WR, WTR, and a last that is 0.
+-- "Table, 32 bytes, sixteen 16-bit numbers": edition, banks, B, CCD, RCD, RP, RAS, RC, RRD, FAW, RL, WL, RTP, WR, WTR, and a last.
+-- Document 02, request 5: "The table's last number becomes RFC, 0 to 1,023, 0 meaning that the table has no refresh".
 use Prim.Native.Nat.{ℕ}
 use mathlib.Core.Bool.{Bool, true, false, not, _&&_, _||_}
 use mathlib.Core.Path.{_≡_}
@@ -32,7 +33,7 @@ tableOf l =
       rtp = getD l 12 0;
       wr = getD l 13 0;
       wtr = getD l 14 0;
-      last = getD l 15 0;
+      rfc = getD l 15 0;
     }
 
 -- the table of 32 bytes
@@ -54,35 +55,36 @@ tableAt s =
       rtp = num s 24;
       wr = num s 26;
       wtr = num s 28;
-      last = num s 30;
+      rfc = num s 30;
     }
 
--- the timing numbers: all but the edition, the banks and the last
+-- the timing numbers: all but the edition, the banks and RFC
 abbrev pub timings : Table → List ℕ
 timings τ =
     τ .b ∷ τ .ccd ∷ τ .rcd ∷ τ .rp ∷ τ .ras ∷ τ .rc ∷ τ .rrd ∷ τ .faw ∷ τ .rl ∷ τ .wl ∷ τ .rtp ∷ τ .wr ∷ τ .wtr ∷ []
 
 -- the sixteen numbers of a table
 abbrev pub numbersOf : Table → List ℕ
-numbersOf τ = τ .edition ∷ τ .banks ∷ (timings τ ++ (τ .last ∷ []))
+numbersOf τ = τ .edition ∷ τ .banks ∷ (timings τ ++ (τ .rfc ∷ []))
 
--- "Edition is 1 to 65,535, banks 1 to 16, the others 1 to 255; CCD is at least 2 and at least B."
+-- "Edition is 1 to 65,535, banks 1 to 16"; "CCD is at least 2 and at least B." "The ceiling of 255 for the timing numbers goes to 1,023", and RFC
+-- is "0 to 1,023" (document 02, request 5).
 abbrev pub inRange : Table → Bool
 inRange τ =
     within 1 65535 (τ .edition) && (within 1 16 (τ .banks)
     && (leb 2 (τ .ccd) && (leb (τ .b) (τ .ccd)
-    && every (within 1 255) (timings τ))))
+    && (leb (τ .rfc) 1023 && every (within 1 1023) (timings τ)))))
 
--- an accepted table: its last number is 0, the others are in range
+-- an accepted table: its numbers are in range
 abbrev pub accepted : Table → Bool
-accepted τ = eqb (τ .last) 0 && inRange τ
+accepted τ = inRange τ
 
 abbrev pub Accepted : Table → Type 0
 Accepted τ = accepted τ ≡ true
 
--- number 1: "table not 32 bytes, or its last number not 0"; number 2: "a table number out of range, CCD below 2 or below B"
+-- number 1: "table not 32 bytes", which "no longer looks at" the last number; number 2: "a table number out of range, CCD below 2 or below B"
 abbrev pub tableRefusal : ℕ → Table → ℕ
-tableRefusal size τ = firstFailed ((1, not (eqb size 32 && eqb (τ .last) 0)) ∷ (2, not (inRange τ)) ∷ [])
+tableRefusal size τ = firstFailed ((1, not (eqb size 32)) ∷ (2, not (inRange τ)) ∷ [])
 
 -- "Refusals 1 and 2 name edition 0."
 unfoldable pub readTable : List ℕ → TableRead

@@ -1,13 +1,14 @@
 // The command, 8 bytes. Crate `commands` reads and writes it.
 use crate::refusal::Refusal;
 
-// 0 ACT, 1 RD, 2 RDA, 3 WR, 4 WRA. Any 8 bytes are a readable command, so every other number is a kind too.
+// 0 ACT, 1 RD, 2 RDA, 3 WR, 4 WRA, 5 REF. Any 8 bytes are a readable command, so every other number is a kind too.
 pub enum Kind {
     Act,
     Rd,
     Rda,
     Wr,
     Wra,
+    Ref,
     Other(u8),
 }
 

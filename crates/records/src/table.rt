@@ -33,8 +33,8 @@ pub struct Table {
     pub rtp: u16,
     pub wr: u16,
     pub wtr: u16,
-    // The last number: 0 in every table that is accepted.
-    pub last: u16,
+    // 0: the table has no refresh.
+    pub rfc: u16,
 }
 
 pub enum TableRead {
@@ -62,7 +62,7 @@ pub fn table_of(n: [u16; 16]) -> Table
         rtp: n[12],
         wr: n[13],
         wtr: n[14],
-        last: n[15],
+        rfc: n[15],
     }
 }
 
@@ -87,30 +87,31 @@ pub fn table_at(s: &[u8]) -> Table
         rtp: num_at(s, 24),
         wr: num_at(s, 26),
         wtr: num_at(s, 28),
-        last: num_at(s, 30),
+        rfc: num_at(s, 30),
     }
 }
 
-// Four timing numbers are 1 to 255, and the rest is as it should be.
+// Four timing numbers are 1 to 1,023, and the rest is as it should be.
 pub fn four_and(a: u16, b: u16, c: u16, d: u16, rest: bool) -> bool
-    ensures { λ r. ⌜ r ≡ (within 1 255 a && (within 1 255 b && (within 1 255 c && (within 1 255 d && rest)))) ⌝ }
+    ensures { λ r. ⌜ r ≡ (within 1 1023 a && (within 1 1023 b && (within 1 1023 c && (within 1 1023 d && rest)))) ⌝ }
 {
     let bc = both_of(
-        is_within(1, 255, b),
-        both_of(is_within(1, 255, c), both_of(is_within(1, 255, d), rest)),
+        is_within(1, 1023, b),
+        both_of(is_within(1, 1023, c), both_of(is_within(1, 1023, d), rest)),
     );
-    both_of(is_within(1, 255, a), bc)
+    both_of(is_within(1, 1023, a), bc)
 }
 
-// "Edition is 1 to 65,535, banks 1 to 16, the others 1 to 255; CCD is at least 2 and at least B."
+// "Edition is 1 to 65,535, banks 1 to 16", the timing numbers 1 to 1,023, RFC "0 to 1,023"; "CCD is at least 2 and at least B."
 pub fn in_range(t: Table) -> bool
     ensures { λ r. ⌜ r ≡ inRange t ⌝ }
 {
-    let wtr = is_within(1, 255, t.wtr);
+    let wtr = is_within(1, 1023, t.wtr);
     let to_wr = four_and(t.rl, t.wl, t.rtp, t.wr, wtr);
     let to_faw = four_and(t.ras, t.rc, t.rrd, t.faw, to_wr);
     let timings = four_and(t.b, t.ccd, t.rcd, t.rp, to_faw);
-    let ccd = both_of(2 <= t.ccd, both_of(t.b <= t.ccd, timings));
+    let with_rfc = both_of(t.rfc <= 1023, timings);
+    let ccd = both_of(2 <= t.ccd, both_of(t.b <= t.ccd, with_rfc));
     both_of(
         is_within(1, 65535, t.edition),
         both_of(is_within(1, 16, t.banks), ccd),
@@ -121,8 +122,7 @@ pub fn in_range(t: Table) -> bool
 pub fn table_refusal(size: usize, t: Table) -> u8
     ensures { λ r. ⌜ r ≡ tableRefusal size t ⌝ }
 {
-    let whole = both_of(size == 32, t.last == 0);
-    first_failed(1, not_of(whole), 2, not_of(in_range(t)))
+    first_failed(1, size != 32, 2, not_of(in_range(t)))
 }
 
 pub fn read_table(s: &[u8]) -> TableRead

@@ -4,15 +4,16 @@ use crate::refusal::Written;
 use crate::refusal::first_failed;
 use crate::refusal::refuse;
 use crate::tests::both_of;
+use crate::tests::either_of;
 use crate::tests::is_within;
 use crate::tests::not_of;
 ghost use mathlib.Core.Path.{_≡_};
 ghost use Prim.Native.Nat.{_+_, _≤_};
 ghost use lib.ListN.{length};
 ghost use Rattle.records.specs.Told.{over, Leaves};
-ghost use Rattle.records.specs.Transaction.{transaction, transactionAt, bytesOf, fitsIn, transactionRefusal, readTransaction, writeTransaction};
+ghost use Rattle.records.specs.Transaction.{transaction, transactionAt, bytesOf, movesData, refreshes, fitsIn, transactionRefusal, readTransaction, writeTransaction};
 
-// `kind` is the paper's type: 0 read, 1 write. (`type` is a word of the language.)
+// `kind` is the paper's type: 0 read, 1 write, 2 refresh. (`type` is a word of the language.)
 #[repr(C)]
 pub struct Transaction {
     pub kind: u8,
@@ -39,9 +40,9 @@ pub fn transaction_at(s: &[u8], at: usize) -> Transaction
     }
 }
 
-// "BI and BC are 1 to 16"; "Start must be below banks and BI at most banks" (document 02, request 2).
-pub fn fits_in(banks: u16, kind: u8, start: u8, bi: u8, bc: u8) -> bool
-    ensures { λ r. ⌜ r ≡ fitsIn banks (transaction kind start bi bc) ⌝ }
+// A read or a write: "BI and BC are 1 to 16"; "Start must be below banks and BI at most banks" (document 02, request 2).
+pub fn moves_data(banks: u16, kind: u8, start: u8, bi: u8, bc: u8) -> bool
+    ensures { λ r. ⌜ r ≡ movesData banks (transaction kind start bi bc) ⌝ }
 {
     let first = (start as u16) < banks;
     let within = bi as u16 <= banks;
@@ -52,11 +53,29 @@ pub fn fits_in(banks: u16, kind: u8, start: u8, bi: u8, bc: u8) -> bool
     both_of(kind <= 1, counts)
 }
 
+// "A transaction of type 2, with the other three bytes 0, is a refresh; it's refused by number 4 when RFC is 0" (document 02, request 5).
+pub fn refreshes(rfc: u16, kind: u8, start: u8, bi: u8, bc: u8) -> bool
+    ensures { λ r. ⌜ r ≡ refreshes rfc (transaction kind start bi bc) ⌝ }
+{
+    let zeros = both_of(start == 0, both_of(bi == 0, bc == 0));
+    both_of(kind == 2, both_of(rfc != 0, zeros))
+}
+
+// A transaction of a table with so many banks and this RFC.
+pub fn fits_in(banks: u16, rfc: u16, kind: u8, start: u8, bi: u8, bc: u8) -> bool
+    ensures { λ r. ⌜ r ≡ fitsIn banks rfc (transaction kind start bi bc) ⌝ }
+{
+    either_of(
+        refreshes(rfc, kind, start, bi, bc),
+        moves_data(banks, kind, start, bi, bc),
+    )
+}
+
 // 0, or the number by which a transaction of so many bytes is refused.
 pub fn transaction_refusal(size: usize, x: Transaction) -> u8
     ensures { λ r. ⌜ r ≡ transactionRefusal size x ⌝ }
 {
-    let good = fits_in(16, x.kind, x.start, x.bi, x.bc);
+    let good = fits_in(16, 1, x.kind, x.start, x.bi, x.bc);
     first_failed(3, size != 4, 4, not_of(good))
 }
 

@@ -4,6 +4,7 @@ use Prim.Native.Nat.{ℕ, zero, suc, _+_, _-_, _≤_, _<_}
 use native.Mathlib.Omega.{arith}
 use mathlib.Core.Bool.{Bool, true, false, _&&_, and-true}
 use mathlib.Core.Path.{_≡_, refl, sym, ap, _∙_, subst}
+use mathlib.Core.Logic.{inl, inr}
 use mathlib.Core.Option.{none, some}
 use mathlib.Core.List.{List, [], _∷_, _++_}
 use lib.Dec.{leb, ltb, eqb}
@@ -13,7 +14,8 @@ use Rattle.records.specs.Tests.{pick, every}
 use Rattle.records.specs.Transaction.{isWrite}
 use Rattle.records.specs.declared.table.Table.{Table}
 use Rattle.records.specs.declared.transaction.Transaction.{Transaction}
-use Rattle.rules.specs.Queues.{Due, bankAt, dataKind, numbered, joined, burstsOf, datasOf, queueFrom, dataQueue, headAfter}
+use Rattle.rules.specs.Queues.{Due, bankAt, dataKind, numbered, joined, actCount, burstsOf, datasOf, queueFrom, dataQueue, headAfter}
+use Rattle.rules.proofs.Fit.{Fits, AllFit, plain-count}
 use Rattle.rules.proofs.Queue.{actSum}
 use Rattle.heads.specs.declared.head.Head.{Head}
 use Rattle.heads.specs.Head.{dueOf}
@@ -27,6 +29,10 @@ Ascends lo hi (d ∷ q) = (lo ≤ d .act) × Ascends (d .act) hi q
 from-lower : (lo m hi : ℕ) (q : List Due) → lo ≤ m → Ascends m hi q → Ascends lo hi q
 from-lower lo m hi [] h u = omega arith
 from-lower lo m hi (d ∷ q) h u = (omega (arith, u .0), u .1)
+
+to-higher : (lo m hi : ℕ) (q : List Due) → m ≤ hi → Ascends lo m q → Ascends lo hi q
+to-higher lo m hi [] h u = omega arith
+to-higher lo m hi (d ∷ q) h u = (u .0, to-higher (d .act) m hi q h (u .1))
 
 one-after : (lo m hi : ℕ) (p q : List Due) → Ascends lo m p → Ascends m hi q → Ascends lo hi (p ++ q)
 one-after lo m hi [] q u v = from-lower lo m hi q u v
@@ -48,17 +54,23 @@ module _ (τ : Table) where
       hi : a + suc k + n ≡ a + k + suc n
       hi = omega arith
 
-  queue-ascends : (l : List Transaction) (i a : ℕ) → Ascends a (a + actSum l) (queueFrom (datasOf τ) l i a)
-  queue-ascends [] i a = omega arith
-  queue-ascends (x ∷ l) i a =
-      one-after a (a + x .bi) (a + (x .bi + actSum l)) (datasOf τ x i a) (queueFrom (datasOf τ) l (suc i) (a + x .bi))
-      (subst (λ (lo : ℕ). Ascends lo (lo + x .bi) (datasOf τ x i a)) zero-more (datas-ascend x i a (x .bi) 0))
-      (subst (λ (hi : ℕ). Ascends (a + x .bi) hi (queueFrom (datasOf τ) l (suc i) (a + x .bi))) hi (queue-ascends l (suc i) (a + x .bi)))
+  queue-ascends : (l : List Transaction) → AllFit τ l → (i a : ℕ) → Ascends a (a + actSum l) (queueFrom (datasOf τ) l i a)
+  queue-ascends [] v i a = omega arith
+  queue-ascends (x ∷ l) v i a =
+      one-after a (a + actCount x) (a + (actCount x + actSum l)) (datasOf τ x i a) (queueFrom (datasOf τ) l (suc i) (a + actCount x))
+      (to-higher a (a + x .bi) (a + actCount x) (datasOf τ x i a) (omega (arith, banks (v .0)))
+      (subst (λ (lo : ℕ). Ascends lo (lo + x .bi) (datasOf τ x i a)) zero-more (datas-ascend x i a (x .bi) 0)))
+      (subst (λ (hi : ℕ). Ascends (a + actCount x) hi (queueFrom (datasOf τ) l (suc i) (a + actCount x))) hi (queue-ascends l (v .1) (suc i) (a + actCount x)))
     where
       zero-more : a + 0 ≡ a
       zero-more = omega arith
 
-      hi : a + x .bi + actSum l ≡ a + (x .bi + actSum l)
+      -- a refresh has none
+      banks : Fits τ x → x .bi ≤ actCount x
+      banks (inl w) = omega (arith, w .noI)
+      banks (inr w) = omega (arith, plain-count τ x w)
+
+      hi : a + actCount x + actSum l ≡ a + (actCount x + actSum l)
       hi = omega arith
 
 module _ (a : ℕ) where
@@ -94,7 +106,7 @@ past-list (x ∷ q) zero e = let z : _≡_ {A = ℕ} 0 1 = cc in absurd (omega a
 past-list (x ∷ q) (suc k) e = omega (arith, past-list q k e)
 
 -- "more commands gone from a queue than the list puts there, or a data command gone whose ACT hasn't", by what the code finds
-module _ (τ : Table) (l : List Transaction) (a datas : ℕ) where
+module _ (τ : Table) (l : List Transaction) (v : AllFit τ l) (a datas : ℕ) where
   pub gone-none : datas ≡ 0 → true ≡ goneBacked τ l a datas
   gone-none z = rw (z, le-leb 0 (length (dataQueue τ l)) (omega arith))
 
@@ -116,6 +128,6 @@ module _ (τ : Table) (l : List Transaction) (a datas : ℕ) where
           → (b && ltb (h .act) a) ≡ (leb (suc (datas - 1)) (length q) && every (had a) (take (suc (datas - 1)) q))
       on true e = sym
           (ap (λ (t : Bool). t && every (had a) (take (suc (datas - 1)) q)) (le-leb (suc (datas - 1)) (length q) (omega (arith, in-list q (datas - 1) d e)))
-          ∙ decides a 0 (0 + actSum l) q (datas - 1) d (queue-ascends τ l 0 0) e)
+          ∙ decides a 0 (0 + actSum l) q (datas - 1) d (queue-ascends τ l v 0 0) e)
       on false e = sym
           (ap (λ (t : Bool). t && every (had a) (take (suc (datas - 1)) q)) (lt-leb (suc (datas - 1)) (length q) (omega (arith, past-list q (datas - 1) e))))

@@ -16,14 +16,14 @@ use Rattle.records.specs.declared.table.Table.{Table}
 use Rattle.records.specs.declared.transaction.Transaction.{Transaction}
 use Rattle.records.specs.declared.command.Command.{Command}
 use Rattle.rules.specs.declared.state.State.{State}
-use Rattle.rules.specs.Kinds.{isAct, isData}
+use Rattle.rules.specs.Kinds.{inActQueue, isData}
 use Rattle.rules.specs.State.{breaksNone, shut, fresh, after}
 use Rattle.rules.specs.Queues.{Due, dueAt, actQueue, dataQueue, headAfter}
 use Rattle.rules.specs.CycleRule.{goes}
 use Rattle.rules.specs.Run.{run}
 use Rattle.rules.proofs.TestLaws.{and-both, and-fst, and-snd, OnSome, on-map}
 use Rattle.rules.proofs.Queue.{Place, actDue, dataDue, actPlace, dataPlace, act-head, data-head}
-use Rattle.rules.proofs.DataKinds.{no-act, is-data}
+use Rattle.rules.proofs.DataKinds.{not-in-acts, is-data, act-queued, act-no-data}
 use Rattle.rules.proofs.Heads.{test-at}
 use Rattle.rules.proofs.Legal.{goes-all}
 use Rattle.refusals.specs.Refused.{banksBefore, lastBefore, backed, sound}
@@ -86,18 +86,18 @@ module _ (τ : Table) (l : List Transaction) where
       h' : (ltb (x .act) a && (every (λ x. ltb (x .act) a) (take k q) && true)) ≡ true
       h' = ap (λ (t : Bool). ltb (x .act) a && t) (and-true (every (λ x. ltb (x .act) a) (take k q))) ∙ h
 
-  data-kind : (d : ℕ) (x : Due) → headAfter (dataQueue τ l) d ≡ some x → (isAct (x .kind) ≡ false) × (isData (x .kind) ≡ true)
+  data-kind : (d : ℕ) (x : Due) → headAfter (dataQueue τ l) d ≡ some x → (inActQueue (x .kind) ≡ false) × (isData (x .kind) ≡ true)
   data-kind d x e =
       let m = map-eq-some-iff (dataDue τ) (dataPlace l d) .0 (sym (data-head τ l d) ∙ e) in
-      subst (λ (y : Due). (isAct (y .kind) ≡ false) × (isData (y .kind) ≡ true)) (m .2) (kinds (m .0))
+      subst (λ (y : Due). (inActQueue (y .kind) ≡ false) × (isData (y .kind) ≡ true)) (m .2) (kinds (m .0))
     where
-      kinds : (p : Place) → (isAct (dataDue τ p .kind) ≡ false) × (isData (dataDue τ p .kind) ≡ true)
-      kinds p = let w = isWrite (p .transaction) in let z = eqb (p .offset % p .transaction .bc + 1) (p .transaction .bc) in (no-act w z, is-data w z)
+      kinds : (p : Place) → (inActQueue (dataDue τ p .kind) ≡ false) × (isData (dataDue τ p .kind) ≡ true)
+      kinds p = let w = isWrite (p .transaction) in let z = eqb (p .offset % p .transaction .bc + 1) (p .transaction .bc) in (not-in-acts w z, is-data w z)
 
-  act-kind : (a : ℕ) (x : Due) → headAfter (actQueue τ l) a ≡ some x → (isAct (x .kind) ≡ true) × (isData (x .kind) ≡ false)
+  act-kind : (a : ℕ) (x : Due) → headAfter (actQueue τ l) a ≡ some x → (inActQueue (x .kind) ≡ true) × (isData (x .kind) ≡ false)
   act-kind a x e =
       let m = map-eq-some-iff (actDue τ) (actPlace l a) .0 (sym (act-head τ l a) ∙ e) in
-      subst (λ (y : Due). (isAct (y .kind) ≡ true) × (isData (y .kind) ≡ false)) (m .2) (refl, refl)
+      subst (λ (y : Due). (inActQueue (y .kind) ≡ true) × (isData (y .kind) ≡ false)) (m .2) (act-queued (m .0 .transaction), act-no-data (m .0 .transaction))
 
   -- the counts that a command leaves
   abbrev CountsFit : State → Type 0

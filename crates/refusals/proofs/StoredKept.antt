@@ -12,13 +12,13 @@ use Rattle.records.specs.Tests.{pick, every}
 use Rattle.records.specs.declared.table.Table.{Table}
 use Rattle.records.specs.declared.transaction.Transaction.{Transaction}
 use Rattle.records.specs.declared.command.Kind.{Kind}
-use Rattle.records.specs.declared.command.Kind.the-variants.{Act, Rd, Rda, Wr, Wra, Other}
+use Rattle.records.specs.declared.command.Kind.the-variants.{Act, Rd, Rda, Wr, Wra, Ref, Other}
 use Rattle.records.specs.declared.command.Command.{Command}
 use Rattle.rules.specs.declared.state.Stamp.{Stamp}
 use Rattle.rules.specs.declared.state.Stamp.the-variants.{Never, At}
 use Rattle.rules.specs.declared.state.Bank.{Bank}
 use Rattle.rules.specs.declared.state.State.{State}
-use Rattle.rules.specs.Kinds.{isAct, isRd, isWr}
+use Rattle.rules.specs.Kinds.{isAct, isRd, isWr, isRef}
 use Rattle.rules.specs.State.{shut, bankOf, breaksNone, bankAfter, note, after}
 use Rattle.rules.specs.CycleRule.{goes, push}
 use Rattle.rules.specs.Run.{stops, run}
@@ -27,7 +27,7 @@ use Rattle.rules.proofs.Legal.{goes-all}
 use Rattle.rules.proofs.RunTo.{stopped, going}
 use Rattle.refusals.specs.Refused.{before, bankStamps, lastStamps, bankBefore, banksBefore, lastBefore}
 
--- a command cycle of a state's first n banks, of its four ACTs and of its last RD and WR is before cycle t
+-- a command cycle of a state's first n banks, of its four ACTs, of its last RD and WR and of its last REF is before cycle t
 pub record Stored (t n : ℕ) (s : State) : Type 0 where
   pub banks : banksBefore t n (s .banks) ≡ true
   pub last : lastBefore t s ≡ true
@@ -87,6 +87,7 @@ module _ (t c : ℕ) (h : c < t) where
       on Rda = three (b .act) (At c) (b .wr) (at 0) now (at 2)
       on Wr = three (b .act) (b .rd) (At c) (at 0) (at 1) now
       on Wra = three (b .act) (b .rd) (At c) (at 0) (at 1) now
+      on Ref = e
       on (Other n) = e
 
   last-noted : (s : State) (k : Kind) (b : ℕ) → lastBefore t s ≡ true → lastBefore t (note s c k b) ≡ true
@@ -98,6 +99,7 @@ module _ (t c : ℕ) (h : c < t) where
         either (isAct k) (s .a3) (s .a4) (at 2) (at 3),
         either (isRd k) (At c) (s .rd) now (at 4),
         either (isWr k) (At c) (s .wr) now (at 5),
+        either (isRef k) (At c) (s .refresh) now (at 6),
       )
     where
       at : (i : ℕ) → OnSome (λ x. before t x ≡ true) (getElem? (lastStamps s) i)

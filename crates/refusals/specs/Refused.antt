@@ -27,9 +27,9 @@ before t s = past s 1 t
 abbrev pub bankStamps : Bank → List Stamp
 bankStamps k = k .act ∷ k .rd ∷ k .wr ∷ []
 
--- the last four ACTs, the last RD and the last WR of all
+-- the last four ACTs, the last RD and the last WR of all, and the last REF
 abbrev pub lastStamps : State → List Stamp
-lastStamps s = s .a1 ∷ s .a2 ∷ s .a3 ∷ s .a4 ∷ s .rd ∷ s .wr ∷ []
+lastStamps s = s .a1 ∷ s .a2 ∷ s .a3 ∷ s .a4 ∷ s .rd ∷ s .wr ∷ s .refresh ∷ []
 
 abbrev pub bankBefore : ℕ → Bank → Bool
 bankBefore t k = every (before t) (bankStamps k)

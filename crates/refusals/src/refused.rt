@@ -72,7 +72,7 @@ pub fn is_sound(t: Table, s: Kept, due: u32, gone: bool) -> bool
     let edition = wide(t.edition);
     let ks = s.banks;
     let banks = banks_before(ks, t.banks, now);
-    let last = last_before(s.a1, s.a2, s.a3, s.a4, s.rd, s.wr, now);
+    let last = last_before(s.a1, s.a2, s.a3, s.a4, s.rd, s.wr, s.refresh, now);
     let counts = both_of(s.acts <= due, gone);
     let stored = both_of(banks, both_of(last, counts));
     both_of(now < 100000000, both_of(started == edition, stored))

@@ -33,11 +33,21 @@ pub fn banks_before(ks: [KeptBank; 16], n: u16, t: u64) -> bool
     before
 }
 
-// Of the four ACTs, the last RD and the last WR of all.
-pub fn last_before(a1: u64, a2: u64, a3: u64, a4: u64, rd: u64, wr: u64, t: u64) -> bool
-    ensures { λ r. ⌜ r ≡ every (before t) (stampOf a1 ∷ stampOf a2 ∷ stampOf a3 ∷ stampOf a4 ∷ stampOf rd ∷ stampOf wr ∷ []) ⌝ }
+// Of the four ACTs, the last RD and the last WR of all, and the last REF.
+pub fn last_before(
+    a1: u64,
+    a2: u64,
+    a3: u64,
+    a4: u64,
+    rd: u64,
+    wr: u64,
+    refresh: u64,
+    t: u64,
+) -> bool
+    ensures { λ r. ⌜ r ≡ every (before t) (stampOf a1 ∷ stampOf a2 ∷ stampOf a3 ∷ stampOf a4 ∷ stampOf rd ∷ stampOf wr ∷ stampOf refresh ∷ []) ⌝ }
 {
-    let datas = both_of(since(rd, 1, t), since(wr, 1, t));
+    let writes = both_of(since(wr, 1, t), since(refresh, 1, t));
+    let datas = both_of(since(rd, 1, t), writes);
     let older = both_of(since(a3, 1, t), both_of(since(a4, 1, t), datas));
     both_of(since(a1, 1, t), both_of(since(a2, 1, t), older))
 }

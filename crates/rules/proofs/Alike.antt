@@ -11,7 +11,7 @@ use borrow.Author.Tests.{le-leb, leb-true}
 use Rattle.records.specs.Tests.{pick, every}
 use Rattle.records.specs.declared.table.Table.{Table}
 use Rattle.records.specs.declared.command.Kind.{Kind}
-use Rattle.records.specs.declared.command.Kind.the-variants.{Act, Rd, Rda, Wr, Wra, Other}
+use Rattle.records.specs.declared.command.Kind.the-variants.{Act, Rd, Rda, Wr, Wra, Ref, Other}
 use Rattle.records.specs.declared.command.Command.{Command}
 use Rattle.records.specs.Command.{command}
 use Rattle.rules.specs.declared.state.Stamp.{Stamp}
@@ -21,14 +21,15 @@ use Rattle.rules.specs.declared.verdict.Found.{Found}
 use Rattle.rules.specs.declared.verdict.Found.the-variants.{Fine, Broken}
 use Rattle.rules.specs.declared.verdict.Verdict.{Verdict}
 use Rattle.rules.specs.declared.verdict.Verdict.the-variants.{Refused}
-use Rattle.rules.specs.Kinds.{isAct, isRd, isWr, firstBroken, rulesInOrder}
+use Rattle.rules.specs.Kinds.{isAct, isRd, isWr, isRef, firstBroken, rulesInOrder}
 use Rattle.rules.specs.Square.{fromRd, fromWr, writeTail}
-use Rattle.rules.specs.State.{past, bankAfter}
-use Rattle.rules.specs.History.{later, farAct, farData, actRules, dataRules, rulesBy, rules, broken}
+use Rattle.rules.specs.State.{past, atRest, bankAfter}
+use Rattle.rules.specs.History.{later, farAct, farData, farRefresh, allAtRest, actRules, refreshRules, dataRules, rulesBy, rules, broken}
 use Rattle.rules.specs.Verdict.{allShut, judgeFrom}
 use Rattle.rules.specs.Pattern.{moved}
 use Rattle.rules.proofs.TestLaws.{to-T, bool-eq}
-use Rattle.rules.proofs.Newest.{backIn, lastIn, any, bankIn, Rising, newest-act, newest-data, fourth-same, open-same, act-same, precharge-same}
+use Rattle.rules.proofs.Below.{below-same}
+use Rattle.rules.proofs.Newest.{backIn, lastIn, any, bankIn, Rising, newest-act, newest-refresh, newest-data, fourth-same, open-same, act-same, precharge-same, rest-same}
 use Rattle.rules.proofs.Judged.{holds}
 
 -- a stamp, a bank, a record, d later
@@ -83,6 +84,21 @@ module _ (d : ℕ) (h h' : List Command) (q : Alike d h h') where
         newest-data τ b (t + d) h' (q .rising') w
         ∙ rw (past-last (any isRd) (fromRd τ w) t, past-last (any isWr) (fromWr τ w) t) (sym (newest-data τ b t h (q .rising) w))
 
+    rfc-alike : (t : ℕ) → every (farRefresh τ (t + d)) h' ≡ every (farRefresh τ t) h
+    rfc-alike t = newest-refresh τ 0 (t + d) h' (q .rising') ∙ (past-last (any isRef) (τ .rfc) t ∙ sym (newest-refresh τ 0 t h (q .rising)))
+
+    rest-alike : (t : ℕ) → allAtRest τ (t + d) h' ≡ allAtRest τ t h
+    rest-alike t =
+        rest-same τ (t + d) h' (q .rising')
+        ∙ (below-same (τ .banks) (λ b. atRest τ (bankIn b h') (t + d)) (λ b. atRest τ (bankIn b h) t)
+        (λ b l. rw (
+          q .bank b,
+          past-later (bankIn b h .act) d (τ .ras + τ .rp) t,
+          past-later (bankIn b h .rd) d (τ .rtp + τ .rp) t,
+          past-later (bankIn b h .wr) d (writeTail τ + τ .rp) t,
+        ))
+        ∙ sym (rest-same τ t h (q .rising)))
+
     act-alike : (t b : ℕ) → actRules τ (t + d) b h' ≡ actRules τ t b h
     act-alike t b =
         rw (
@@ -101,6 +117,7 @@ module _ (d : ℕ) (h h' : List Command) (q : Alike d h h') where
           past-later (bankIn b h .rd) d (τ .rtp + τ .rp) t,
           past-later (bankIn b h .wr) d (writeTail τ + τ .rp) t,
           past-later (bankIn b h .act) d (τ .rc) t,
+          rfc-alike t,
         )
 
     data-alike : (w : Bool) (t b : ℕ) → dataRules τ w (t + d) b h' ≡ dataRules τ w t b h
@@ -113,6 +130,7 @@ module _ (d : ℕ) (h h' : List Command) (q : Alike d h h') where
     rules-alike Rda t b = data-alike false t b
     rules-alike Wr t b = data-alike true t b
     rules-alike Wra t b = data-alike true t b
+    rules-alike Ref t b = rw (rest-alike t, rfc-alike t)
     rules-alike (Other n) t b = refl
 
     broken-alike : (r : Command) → broken τ (recordLater d r) h' ≡ broken τ r h
@@ -140,6 +158,7 @@ module _ (d : ℕ) (h h' : List Command) (q : Alike d h h') where
       onBank true Rda b = rw (q .bank b)
       onBank true Wr b = rw (q .bank b)
       onBank true Wra b = rw (q .bank b)
+      onBank true Ref b = q .bank b
       onBank true (Other n) b = q .bank b
 
       onPick : (e : Bool) (x x' y y' : Stamp) → x' ≡ stampLater d x → y' ≡ stampLater d y → pick e x' y' ≡ stampLater d (pick e x y)

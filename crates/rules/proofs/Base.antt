@@ -1,5 +1,5 @@
--- What the state says of the ACTs that have gone, by their numbers in the queue. `ta i` is the cycle of the i-th ACT, v the number of
--- ACTs whose data commands have all gone, and c a cycle that no stamp is past.
+-- What the state says of the commands of the ACT queue that have gone, by their numbers in it. `ta i` is the cycle of the i-th, v the number of
+-- those that are done with, an ACT once its data commands have all gone, and c a cycle that no stamp is past.
 -- Assumes nothing.
 use Prim.Native.Nat.{ℕ, zero, suc, _+_, _≤_, _<_}
 use native.Mathlib.Omega.{arith}
@@ -8,10 +8,10 @@ use mathlib.Core.Logic.{_≢_, _⊎_, inl, inr, ⊎-elim}
 use mathlib.Core.Bool.{Bool, true, false, not}
 use mathlib.Core.List.{List}
 use lib.ListN.{length, getD, set, length-set, replicate}
-use lib.Seq.{getD-set-same, getD-set-other}
+use lib.Seq.{getD-set-same, getD-set-other, set-getD}
 use Rattle.records.specs.declared.table.Table.{Table}
 use Rattle.records.specs.declared.transaction.Transaction.{Transaction}
-use Rattle.records.specs.declared.command.Kind.the-variants.{Act}
+use Rattle.records.specs.declared.command.Kind.the-variants.{Act, Ref}
 use Rattle.rules.specs.declared.state.Stamp.the-variants.{At}
 use Rattle.rules.specs.declared.state.Bank.{Bank}
 use Rattle.rules.specs.declared.state.State.{State}
@@ -21,16 +21,16 @@ use Rattle.rules.specs.CycleRule.{gone}
 use Rattle.rules.proofs.TestLaws.{true-false}
 use Rattle.rules.proofs.Ranges.{Ranges}
 use Rattle.rules.proofs.Numbers.{same?}
-use Rattle.rules.proofs.Queue.{actBank}
-use Rattle.rules.proofs.DataKinds.{no-act, is-data, open-after, act-after}
-use Rattle.rules.proofs.Recent.{Upto, upto-up, ext, ext-same, ext-eq, ext-other, Recent, recent-up, recent-idle, recent-fresh, recent-act, recent-data}
+use Rattle.rules.proofs.Queue.{actBank, isActAt}
+use Rattle.rules.proofs.DataKinds.{no-ref, not-in-acts, is-data, open-after, act-after}
+use Rattle.rules.proofs.Recent.{Upto, upto-up, ext, ext-same, ext-eq, ext-other, Recent, recent-up, recent-idle, recent-fresh, recent-act, recent-ref, recent-data}
 
--- number i went at cycle x
-abbrev pub Went : (ℕ → ℕ) → ℕ → ℕ → Type 0
-Went ta i x = x ≡ ta i
+-- number i went as an ACT at cycle x
+abbrev pub Went : List Transaction → (ℕ → ℕ) → ℕ → ℕ → Type 0
+Went l ta i x = (x ≡ ta i) × (isActAt l i ≡ true)
 
-went-on : (ta : ℕ → ℕ) (a t i x : ℕ) → i < a → Went ta i x → Went (ext ta a t) i x
-went-on ta a t i x h k = k ∙ sym (ext-other ta a t i (λ e. omega arith))
+went-on : (l : List Transaction) (ta : ℕ → ℕ) (a t i x : ℕ) → i < a → Went l ta i x → Went l (ext ta a t) i x
+went-on l ta a t i x h k = (k .0 ∙ sym (ext-other ta a t i (λ e. omega arith)), k .1)
 
 fresh-bank : (n b : ℕ) → getD (replicate n shut) b shut ≡ shut
 fresh-bank zero b = refl
@@ -41,8 +41,9 @@ pub record Base (τ : Table) (l : List Transaction) (v : ℕ) (ta : ℕ → ℕ)
   pub size : τ .banks ≤ length (s .banks)
   pub le : v ≤ s .acts
   pub now : (i : ℕ) → i < s .acts → ta i ≤ c
-  pub recent : Recent τ (Went ta) (s .acts) c s
-  -- the ACTs from number v on have data commands due: their banks are open, and differ
+  pub recent : Recent τ (Went l ta) (s .acts) c s
+  -- those from number v on are ACTs that have data commands due: their banks are open, and differ
+  pub allActs : (i : ℕ) → v ≤ i → i < s .acts → isActAt l i ≡ true
   pub opened : (i : ℕ) → v ≤ i → i < s .acts → isOpen (bankOf s (actBank τ l i)) ≡ true
   pub actedAt : (i : ℕ) → v ≤ i → i < s .acts → bankOf s (actBank τ l i) .act ≡ At (ta i)
   pub apart : (i i' : ℕ) → v ≤ i → i < i' → i' < s .acts → actBank τ l i ≢ actBank τ l i'
@@ -59,7 +60,8 @@ module _ (τ : Table) (l : List Transaction) where
         size = q .size;
         le = q .le;
         now = λ i k. omega (arith, q .now i k);
-        recent = recent-up τ (Went ta) (s .acts) c c' s h (q .recent);
+        recent = recent-up τ (Went l ta) (s .acts) c c' s h (q .recent);
+        allActs = q .allActs;
         opened = q .opened;
         actedAt = q .actedAt;
         apart = q .apart;
@@ -76,7 +78,8 @@ module _ (τ : Table) (l : List Transaction) where
         size = q .size;
         le = q .le;
         now = q .now;
-        recent = recent-idle τ (Went ta) (s .acts) c s (q .recent);
+        recent = recent-idle τ (Went l ta) (s .acts) c s (q .recent);
+        allActs = q .allActs;
         opened = q .opened;
         actedAt = q .actedAt;
         apart = q .apart;
@@ -91,7 +94,8 @@ module _ (τ : Table) (l : List Transaction) where
         size = rng .banks .most;
         le = omega arith;
         now = λ i k. omega arith;
-        recent = recent-fresh τ (Went (λ i. 0));
+        recent = recent-fresh τ (Went l (λ i. 0));
+        allActs = λ i k k'. absurd (omega arith);
         opened = λ i k k'. absurd (omega arith);
         actedAt = λ i k k'. absurd (omega arith);
         apart = λ i i' k k' k'' e. omega arith;
@@ -102,7 +106,7 @@ module _ (τ : Table) (l : List Transaction) where
 
 -- an ACT goes
 module _ (τ : Table) (l : List Transaction) (v : ℕ) (ta : ℕ → ℕ) (c : ℕ) (s : State) (q : Base τ l v ta c s) (t : ℕ) (ct : c ≤ t)
-    (lt : actBank τ l (s .acts) < τ .banks) (closed : isOpen (bankOf s (actBank τ l (s .acts))) ≡ false) where
+    (lt : actBank τ l (s .acts) < τ .banks) (closed : isOpen (bankOf s (actBank τ l (s .acts))) ≡ false) (act : isActAt l (s .acts) ≡ true) where
   abbrev newB : Bank
   newB = bankAfter Act t (bankOf s (actBank τ l (s .acts)))
 
@@ -125,8 +129,9 @@ module _ (τ : Table) (l : List Transaction) (v : ℕ) (ta : ℕ → ℕ) (c : �
         le = omega (arith, q .le);
         now = λ i k. ⊎-elim (λ e. rw (ext-eq ta (s .acts) t i e) (omega arith))
             (λ h. rw (ext-other ta (s .acts) t i h) (omega (arith, q .now i (omega (arith, h))))) (same? i (s .acts));
-        recent = recent-act τ (Went ta) (s .acts) c s (q .recent) t ct (Went (ext ta (s .acts) t)) (went-on ta (s .acts) t) (actBank τ l (s .acts))
-            (sym (ext-same ta (s .acts) t));
+        recent = recent-act τ (Went l ta) (s .acts) c s (q .recent) t ct (Went l (ext ta (s .acts) t)) (went-on l ta (s .acts) t) (actBank τ l (s .acts))
+            (sym (ext-same ta (s .acts) t), act);
+        allActs = λ i k k'. ⊎-elim (λ e. rw e act) (λ h. q .allActs i k (omega (arith, h))) (same? i (s .acts));
         opened = λ i k k'. ⊎-elim (λ e. rw (at-eq (actBank τ l i) (ap (actBank τ l) e)) refl)
             (λ h. let k'' : i < s .acts = omega (arith, h) in rw (at-old (actBank τ l i) (apart-new i k k'')) (q .opened i k k'')) (same? i (s .acts));
         actedAt = λ i k k'. ⊎-elim (λ e. rw (at-eq (actBank τ l i) (ap (actBank τ l) e), ext-eq ta (s .acts) t i e) refl)
@@ -142,6 +147,30 @@ module _ (τ : Table) (l : List Transaction) (v : ℕ) (ta : ℕ → ℕ) (c : �
             (λ h. rw (at-old b h) (upto-up 0 c t (bankOf s b .rd) ct (q .rdBank b k))) (same? b (actBank τ l (s .acts)));
         wrBank = λ b k. ⊎-elim (λ e. rw (at-eq b e) tt)
             (λ h. rw (at-old b h) (upto-up 0 c t (bankOf s b .wr) ct (q .wrBank b k))) (same? b (actBank τ l (s .acts)));
+      }
+
+-- a REF goes, with every command before it done with
+module _ (τ : Table) (l : List Transaction) (v : ℕ) (ta : ℕ → ℕ) (c : ℕ) (s : State) (q : Base τ l v ta c s) (t : ℕ) (ct : c ≤ t) (all : s .acts ≡ v) where
+  same-bank : (b : ℕ) → getD (set (s .banks) 0 (bankOf s 0)) b shut ≡ bankOf s b
+  same-bank b = rw (set-getD (s .banks) 0 shut)
+
+  pub base-ref : Base τ l (v + 1) (ext ta (s .acts) t) t (note s t Ref 0)
+  base-ref =
+      record {
+        size = rw length-set (q .size);
+        le = omega (arith, all);
+        now = λ i k. ⊎-elim (λ e. rw (ext-eq ta (s .acts) t i e) (omega arith))
+            (λ h. rw (ext-other ta (s .acts) t i h) (omega (arith, q .now i (omega (arith, h))))) (same? i (s .acts));
+        recent = recent-ref τ (Went l ta) (s .acts) c s (q .recent) t ct (Went l (ext ta (s .acts) t)) (went-on l ta (s .acts) t) 0;
+        allActs = λ i k k'. absurd (omega (arith, all));
+        opened = λ i k k'. absurd (omega (arith, all));
+        actedAt = λ i k k'. absurd (omega (arith, all));
+        apart = λ i i' k k' k'' e. omega (arith, all);
+        cold = λ b k. rw (same-bank b) (⊎-elim
+            (λ z. inl (z .0, upto-up (τ .rcd) c t (bankOf s b .act) ct (z .1)))
+            (λ z. absurd (omega (arith, all, z .1, z .2))) (q .cold b k));
+        rdBank = λ b k. rw (same-bank b) (upto-up 0 c t (bankOf s b .rd) ct (q .rdBank b k));
+        wrBank = λ b k. rw (same-bank b) (upto-up 0 c t (bankOf s b .wr) ct (q .wrBank b k));
       }
 
 rd-after : (w z : Bool) (t : ℕ) (k : Bank) (d c : ℕ) → Upto d c (k .rd) → t + d ≤ c → Upto d c (bankAfter (dataKind w z) t k .rd)
@@ -161,6 +190,7 @@ pub record DataNote (τ : Table) (s s' : State) (t b : ℕ) (z : Bool) : Type 1 
   pub nextCycle : s' .cycle ≡ t + 1
   pub sameActs : s' .acts ≡ s .acts
   pub nextDatas : s' .datas ≡ s .datas + 1
+  pub sameRefresh : s' .refresh ≡ s .refresh
   pub nowRecent : (A : ℕ → ℕ → Type 0) (a c : ℕ) → Recent τ A a c s → c ≤ t → Recent τ A a t s'
   pub nowBank : Bank
   pub nowBanks : s' .banks ≡ set (s .banks) b nowBank
@@ -173,8 +203,9 @@ pub data-note : (τ : Table) (s : State) (t b : ℕ) (w z : Bool) → DataNote �
 data-note τ s t b w z =
     record {
       nextCycle = refl;
-      sameActs = rw (no-act w z);
+      sameActs = rw (not-in-acts w z);
       nextDatas = rw (is-data w z);
+      sameRefresh = rw (no-ref w z);
       nowRecent = λ A a c q h. recent-data τ A a c s q t h b w z;
       nowBank = bankAfter (dataKind w z) t (bankOf s b);
       nowBanks = refl;
@@ -219,7 +250,8 @@ module _ (τ : Table) (l : List Transaction) (v : ℕ) (ta : ℕ → ℕ) (c : �
         size = rw (n .nowBanks, length-set) (q .size);
         le = omega (arith, done-le z v, n .sameActs);
         now = λ i k. omega (arith, q .now i (omega (arith, n .sameActs)));
-        recent = subst (λ (y : ℕ). Recent τ (Went ta) y t s') (sym (n .sameActs)) (n .nowRecent (Went ta) (s .acts) c (q .recent) ct);
+        recent = subst (λ (y : ℕ). Recent τ (Went l ta) y t s') (sym (n .sameActs)) (n .nowRecent (Went l ta) (s .acts) c (q .recent) ct);
+        allActs = λ i k k'. q .allActs i (omega (arith, done-ge z v)) (omega (arith, n .sameActs));
         opened = λ i k k'. ⊎-elim (λ e. rw (hit (actBank τ l i) (ap (actBank τ l) e)) (n .nowOpen ∙ still z i k e))
             (λ h. let g : i < s .acts = omega (arith, n .sameActs) in let g' : v ≤ i = omega (arith, done-ge z v) in
             rw (miss (actBank τ l i) (other i g' g h)) (q .opened i g' g)) (same? i v);

@@ -59,7 +59,7 @@ module _ (τ : Table) (acc : Accepted τ) (l : List Transaction) (fit : listFits
   rng = ranges τ acc
 
   pub each-fits : AllFit τ l
-  each-fits = all-fit τ l (and-snd (leb (length l) 256) (every (fits τ) l) fit)
+  each-fits = all-fit τ (rng .banks .least) l (and-snd (leb (length l) 256) (every (fits τ) l) fit)
 
   pub short : total τ l (length l) < 100000000
   short = never-long τ rng l each-fits (leb-true (length l) 256 (and-fst (leb (length l) 256) (every (fits τ) l) fit))

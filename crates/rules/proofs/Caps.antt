@@ -12,13 +12,14 @@ use Rattle.records.specs.declared.transaction.Transaction.{Transaction}
 use Rattle.records.specs.declared.command.Command.{Command}
 use Rattle.rules.specs.declared.state.State.{State}
 use Rattle.records.specs.Transaction.{isWrite}
-use Rattle.rules.specs.Kinds.{isAct, isData}
+use Rattle.rules.specs.Kinds.{isData, inActQueue}
 use Rattle.rules.specs.State.{breaksNone, addIf, after}
 use Rattle.rules.specs.CycleRule.{goes, push}
 use Rattle.rules.specs.Run.{steps}
+use Rattle.rules.specs.Queues.{actCount}
 use Rattle.rules.proofs.TestLaws.{true-false, OnSome}
-use Rattle.rules.proofs.Queue.{actCount, dataCount, dataDue, actSum, dataSum, find-lt, find-end}
-use Rattle.rules.proofs.DataKinds.{no-act}
+use Rattle.rules.proofs.Queue.{dataCount, actDue, dataDue, actSum, dataSum, find-lt, find-end}
+use Rattle.rules.proofs.DataKinds.{not-in-acts, act-no-data}
 use Rattle.rules.proofs.Heads.{goes-place, goes-try}
 
 pub after-size : (s : State) (o : Option Command) → length (after s o .banks) ≡ length (s .banks)
@@ -31,7 +32,7 @@ addIf-up false n = omega arith
 
 pub acts-up : (s : State) (o : Option Command) → s .acts ≤ after s o .acts
 acts-up s none = omega arith
-acts-up s (some c) = addIf-up (isAct (c .kind)) (s .acts)
+acts-up s (some c) = addIf-up (inActQueue (c .kind)) (s .acts)
 
 pub datas-up : (s : State) (o : Option Command) → s .datas ≤ after s o .datas
 datas-up s none = omega arith
@@ -42,7 +43,7 @@ Capped l s = (s .acts ≤ actSum l) × (s .datas ≤ dataSum l)
 
 -- a command that goes stood in its queue
 abbrev Stood : List Transaction → State → Command → Type 0
-Stood l s c = (isAct (c .kind) ≡ true → s .acts < actSum l) × (isData (c .kind) ≡ true → s .datas < dataSum l)
+Stood l s c = (inActQueue (c .kind) ≡ true → s .acts < actSum l) × (isData (c .kind) ≡ true → s .datas < dataSum l)
 
 add-cap : (b : Bool) (n m : ℕ) → (b ≡ true → n < m) → n ≤ m → addIf b n ≤ m
 add-cap true n m f h = omega (arith, f refl)
@@ -50,17 +51,17 @@ add-cap false n m f h = h
 
 after-caps : (l : List Transaction) (s : State) (o : Option Command) → OnSome (Stood l s) o → Capped l s → Capped l (after s o)
 after-caps l s none u h = h
-after-caps l s (some c) u h = (add-cap (isAct (c .kind)) (s .acts) (actSum l) (u .0) (h .0), add-cap (isData (c .kind)) (s .datas) (dataSum l) (u .1) (h .1))
+after-caps l s (some c) u h = (add-cap (inActQueue (c .kind)) (s .acts) (actSum l) (u .0) (h .0), add-cap (isData (c .kind)) (s .datas) (dataSum l) (u .1) (h .1))
 
 module _ (τ : Table) (l : List Transaction) where
   goes-stood : (s : State) → OnSome (Stood l s) (goes τ l s)
   goes-stood s =
       goes-place (breaksNone τ s) τ l (s .cycle) (s .acts) (s .datas) (Stood l s)
       (λ p e. (
-        λ k. true-false (isAct (dataDue τ p .kind)) k (no-act (isWrite (p .transaction)) _),
+        λ k. true-false (inActQueue (dataDue τ p .kind)) k (not-in-acts (isWrite (p .transaction)) _),
         λ k. subst (OnSome (λ p. s .datas < dataSum l)) e (find-lt dataCount l 0 0 (s .datas)),
       ))
-      (λ p e. (λ k. subst (OnSome (λ p. s .acts < actSum l)) e (find-lt actCount l 0 0 (s .acts)), λ k. true-false false k refl))
+      (λ p e. (λ k. subst (OnSome (λ p. s .acts < actSum l)) e (find-lt actCount l 0 0 (s .acts)), λ k. true-false (isData (actDue τ p .kind)) k (act-no-data (p .transaction))))
 
   pub caps-step : (s : State) → Capped l s → Capped l (after s (goes τ l s))
   caps-step s h = after-caps l s (goes τ l s) (goes-stood s) h

@@ -7,23 +7,23 @@ use mathlib.Core.Path.{_≡_, refl, sym, ap, _∙_}
 use mathlib.Core.Logic.{_⊎_, inl, inr}
 use mathlib.Core.Bool.{Bool, true, false}
 use mathlib.Core.List.{List, [], _∷_, _++_}
-use lib.Dec.{ltb, eqb}
+use lib.Dec.{eqb}
 use borrow.Author.Tests.{eqb-true}
 use Rattle.records.specs.Tests.{pick, allOf}
 use Rattle.records.specs.declared.table.Table.{Table}
 use Rattle.records.specs.declared.command.Kind.{Kind}
-use Rattle.records.specs.declared.command.Kind.the-variants.{Act, Rd, Rda, Wr, Wra, Other}
+use Rattle.records.specs.declared.command.Kind.the-variants.{Act, Rd, Rda, Wr, Wra, Ref, Other}
 use Rattle.records.specs.declared.command.Command.{Command}
 use Rattle.rules.specs.declared.state.Stamp.{Stamp}
 use Rattle.rules.specs.declared.state.Stamp.the-variants.{Never, At}
 use Rattle.rules.specs.declared.state.Bank.{Bank}
-use Rattle.rules.specs.Kinds.{isAct, isKnown}
+use Rattle.rules.specs.Kinds.{isAct, isRef, isKnown}
 use Rattle.rules.specs.State.{isOpen, shut, bankAfter, addIf}
 use Rattle.rules.specs.History.{openIn, rulesBy}
 use Rattle.rules.specs.Pattern.{moved, copy, onto}
 use Rattle.rules.proofs.TestLaws.{true-false, and-fst}
 use Rattle.rules.proofs.Newest.{backIn, bankOn, bankIn, Rising, open-same}
-use Rattle.rules.proofs.Judged.{holds, LegalHistory, legal-rising}
+use Rattle.rules.proofs.Judged.{holds, in-known, LegalHistory, legal-rising}
 use Rattle.rules.proofs.Alike.{stampLater, bankLater, Alike, alike-moved}
 
 -- the history after k copies
@@ -108,13 +108,14 @@ bank-append : (b : ℕ) (a c : List Command) (k : Bank) → bankOn b (a ++ c) k 
 bank-append b [] c k = refl
 bank-append b (r ∷ a) c k = ap (λ (y : Bank). pick (eqb (r .bank) b) (bankAfter (r .kind) (r .cycle) y) y) (bank-append b a c k)
 
-data-open : (τ : Table) (k : Kind) (t b : ℕ) (h : List Command) → isAct k ≡ false → isKnown k ≡ true → allOf (rulesBy τ k t b h) ≡ true → openIn b h ≡ true
-data-open τ Act t b h a n e = true-false true refl a
-data-open τ Rd t b h a n e = and-fst (openIn b h) _ e
-data-open τ Rda t b h a n e = and-fst (openIn b h) _ e
-data-open τ Wr t b h a n e = and-fst (openIn b h) _ e
-data-open τ Wra t b h a n e = and-fst (openIn b h) _ e
-data-open τ (Other m) t b h a n e = true-false false n refl
+data-open : (τ : Table) (k : Kind) (t b : ℕ) (h : List Command) → isAct k ≡ false → isRef k ≡ false → isKnown k ≡ true → allOf (rulesBy τ k t b h) ≡ true → openIn b h ≡ true
+data-open τ Act t b h a f n e = true-false true refl a
+data-open τ Rd t b h a f n e = and-fst (openIn b h) _ e
+data-open τ Rda t b h a f n e = and-fst (openIn b h) _ e
+data-open τ Wr t b h a f n e = and-fst (openIn b h) _ e
+data-open τ Wra t b h a f n e = and-fst (openIn b h) _ e
+data-open τ Ref t b h a f n e = true-false true refl f
+data-open τ (Other m) t b h a f n e = true-false false n refl
 
 after-act : (k : Kind) (c : ℕ) (x y : Bank) → isAct k ≡ true → bankAfter k c x ≡ bankAfter k c y
 after-act Act c x y e = refl
@@ -122,23 +123,35 @@ after-act Rd c x y e = true-false false e refl
 after-act Rda c x y e = true-false false e refl
 after-act Wr c x y e = true-false false e refl
 after-act Wra c x y e = true-false false e refl
+after-act Ref c x y e = true-false false e refl
 after-act (Other m) c x y e = true-false false e refl
+
+-- a REF leaves every bank as it is
+after-ref : (k : Kind) (c : ℕ) (x : Bank) → isRef k ≡ true → bankAfter k c x ≡ x
+after-ref Act c x e = true-false false e refl
+after-ref Rd c x e = true-false false e refl
+after-ref Rda c x e = true-false false e refl
+after-ref Wr c x e = true-false false e refl
+after-ref Wra c x e = true-false false e refl
+after-ref Ref c x e = refl
+after-ref (Other m) c x e = refl
 
 -- a bank is not reached, or its first record is an ACT, so that nothing before tells
 first-act : (τ : Table) (c : List Command) → LegalHistory τ c → (b d : ℕ)
     → (bankIn b c ≡ shut) ⊎ ((y : Bank) → bankOn b (moved d c) y ≡ bankIn b (moved d c))
 first-act τ [] l b d = inl refl
-first-act τ (r ∷ c) l b d = on (eqb (r .bank) b) refl (isAct (r .kind)) refl (first-act τ c (l .1) b d)
+first-act τ (r ∷ c) l b d = on (eqb (r .bank) b) refl (isAct (r .kind)) refl (isRef (r .kind)) refl (first-act τ c (l .1) b d)
   where
-    on : (e : Bool) → eqb (r .bank) b ≡ e → (a : Bool) → isAct (r .kind) ≡ a → (bankIn b c ≡ shut) ⊎ ((y : Bank) → bankOn b (moved d c) y ≡ bankIn b (moved d c))
+    on : (e : Bool) → eqb (r .bank) b ≡ e → (a : Bool) → isAct (r .kind) ≡ a → (f : Bool) → isRef (r .kind) ≡ f → (bankIn b c ≡ shut) ⊎ ((y : Bank) → bankOn b (moved d c) y ≡ bankIn b (moved d c))
         → (pick e (bankAfter (r .kind) (r .cycle) (bankIn b c)) (bankIn b c) ≡ shut)
         ⊎ ((y : Bank) → pick e (bankAfter (r .kind) (r .cycle + d) (bankOn b (moved d c) y)) (bankOn b (moved d c) y)
         ≡ pick e (bankAfter (r .kind) (r .cycle + d) (bankIn b (moved d c))) (bankIn b (moved d c)))
-    on false ee a ea ih = ih
-    on true ee a ea (inr f) = inr (λ y. ap (bankAfter (r .kind) (r .cycle + d)) (f y))
-    on true ee true ea (inl s) = inr (λ y. after-act (r .kind) (r .cycle + d) (bankOn b (moved d c) y) (bankIn b (moved d c)) ea)
-    on true ee false ea (inl s) =
-        let o : openIn (r .bank) c ≡ true = data-open τ (r .kind) (r .cycle) (r .bank) c ea (and-fst (isKnown (r .kind)) (ltb (r .bank) (τ .banks)) (holds τ r c (l .0) 0)) (holds τ r c (l .0) 2) in
+    on false ee a ea f ef ih = ih
+    on true ee a ea f ef (inr g) = inr (λ y. ap (bankAfter (r .kind) (r .cycle + d)) (g y))
+    on true ee true ea f ef (inl s) = inr (λ y. after-act (r .kind) (r .cycle + d) (bankOn b (moved d c) y) (bankIn b (moved d c)) ea)
+    on true ee false ea true ef (inl s) = inl (after-ref (r .kind) (r .cycle) (bankIn b c) ef ∙ s)
+    on true ee false ea false ef (inl s) =
+        let o : openIn (r .bank) c ≡ true = data-open τ (r .kind) (r .cycle) (r .bank) c ea ef (in-known τ (r .kind) (r .bank) (holds τ r c (l .0) 0)) (holds τ r c (l .0) 2) in
         let o' : openIn b c ≡ true = rw (eqb-true (r .bank) b ee) at o in
         true-false (openIn b c) o' (open-same b c ∙ ap isOpen s)
 

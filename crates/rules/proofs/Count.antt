@@ -6,42 +6,42 @@ use mathlib.Core.Path.{_≡_, refl, ap, _∙_}
 use mathlib.Core.Bool.{Bool, true, false}
 use mathlib.Core.Option.{Option, none, some}
 use mathlib.Core.List.{List, [], _∷_}
-use lib.Dec.{ltb}
 use lib.ListN.{length}
 use Rattle.records.specs.declared.table.Table.{Table}
 use Rattle.records.specs.declared.transaction.Transaction.{Transaction}
 use Rattle.records.specs.declared.command.Kind.{Kind}
-use Rattle.records.specs.declared.command.Kind.the-variants.{Act, Rd, Rda, Wr, Wra, Other}
+use Rattle.records.specs.declared.command.Kind.the-variants.{Act, Rd, Rda, Wr, Wra, Ref, Other}
 use Rattle.records.specs.declared.command.Command.{Command}
 use Rattle.rules.specs.declared.state.State.{State}
 use Rattle.records.specs.Transaction.{isWrite}
-use Rattle.rules.specs.Kinds.{isAct, isData, isKnown}
+use Rattle.rules.specs.Kinds.{isData, inActQueue, isKnown}
 use Rattle.rules.specs.Pattern.{onto}
 use Rattle.rules.specs.State.{breaksNone, addIf, after}
 use Rattle.rules.specs.Queues.{actQueue, dataQueue}
 use Rattle.rules.specs.CycleRule.{actsIn, datasIn, goes, push}
 use Rattle.rules.specs.Run.{steps, run}
-use Rattle.rules.proofs.TestLaws.{true-false, and-fst, OnSome}
-use Rattle.rules.proofs.Judged.{holds, LegalHistory}
+use Rattle.rules.proofs.TestLaws.{true-false, OnSome}
+use Rattle.rules.proofs.Judged.{holds, in-known, LegalHistory}
 use Rattle.rules.proofs.Queue.{act-length, data-length}
-use Rattle.rules.proofs.DataKinds.{is-known}
+use Rattle.rules.proofs.DataKinds.{is-known, act-known}
 use Rattle.rules.proofs.Heads.{goes-place}
 use Rattle.rules.proofs.Caps.{steps-caps}
 use Rattle.rules.proofs.RunTo.{run-steps, run-cycles}
 
-one-of : (k : Kind) → isKnown k ≡ true → (a d : ℕ) → addIf (isAct k) a + addIf (isData k) d ≡ a + d + 1
+one-of : (k : Kind) → isKnown k ≡ true → (a d : ℕ) → addIf (inActQueue k) a + addIf (isData k) d ≡ a + d + 1
 one-of Act e a d = omega arith
 one-of Rd e a d = omega arith
 one-of Rda e a d = omega arith
 one-of Wr e a d = omega arith
 one-of Wra e a d = omega arith
+one-of Ref e a d = omega arith
 one-of (Other n) e a d = true-false false e refl
 
--- in a legal history each record is an ACT or a data command
+-- in a legal history each record is a command of the ACT queue or a data command
 pub legal-count : (τ : Table) (h : List Command) → LegalHistory τ h → length h ≡ actsIn h + datasIn h
 legal-count τ [] k = refl
 legal-count τ (r ∷ h) k =
-    omega (arith, legal-count τ h (k .1), one-of (r .kind) (and-fst (isKnown (r .kind)) (ltb (r .bank) (τ .banks)) (holds τ r h (k .0) 0)) (actsIn h) (datasIn h))
+    omega (arith, legal-count τ h (k .1), one-of (r .kind) (in-known τ (r .kind) (r .bank) (holds τ r h (k .0) 0)) (actsIn h) (datasIn h))
 
 -- counts of records turned round
 swap : (e : Bool) (m n : ℕ) → m + addIf e n ≡ addIf e m + n
@@ -50,7 +50,7 @@ swap false m n = refl
 
 acts-onto : (a b : List Command) → actsIn (onto a b) ≡ actsIn a + actsIn b
 acts-onto [] b = omega arith
-acts-onto (r ∷ a) b = acts-onto a (r ∷ b) ∙ swap (isAct (r .kind)) (actsIn a) (actsIn b)
+acts-onto (r ∷ a) b = acts-onto a (r ∷ b) ∙ swap (inActQueue (r .kind)) (actsIn a) (actsIn b)
 
 datas-onto : (a b : List Command) → datasIn (onto a b) ≡ datasIn a + datasIn b
 datas-onto [] b = omega arith
@@ -74,7 +74,7 @@ module _ (τ : Table) (l : List Transaction) where
   goes-known : (s : State) → OnSome (λ c. isKnown (c .kind) ≡ true) (goes τ l s)
   goes-known s =
       goes-place (breaksNone τ s) τ l (s .cycle) (s .acts) (s .datas) (λ c. isKnown (c .kind) ≡ true)
-      (λ p e. is-known (isWrite (p .transaction)) _) (λ p e. refl)
+      (λ p e. is-known (isWrite (p .transaction)) _) (λ p e. act-known (p .transaction))
 
   step-count : (s : State) (h : List Command) (o : Option Command) → OnSome (λ c. isKnown (c .kind) ≡ true) o
       → (length (push o h) + (s .acts + s .datas) ≡ length h + (after s o .acts + after s o .datas)) × (length (push o h) ≤ length h + 1)

@@ -1,14 +1,18 @@
--- What the four kinds of data commands have in common.
+-- What the four kinds of data commands have in common, and the two kinds of the ACT queue.
 -- Assumes nothing.
 use Prim.Native.Nat.{ℕ}
 use mathlib.Core.Path.{_≡_, refl}
 use mathlib.Core.Bool.{Bool, true, false, not}
 use Rattle.records.specs.declared.table.Table.{Table}
+use Rattle.records.specs.declared.transaction.Transaction.{Transaction}
+use Rattle.records.specs.declared.command.Kind.the-variants.{Act, Ref}
+use Rattle.records.specs.Tests.{pick}
+use Rattle.records.specs.Transaction.{isRefresh}
 use Rattle.rules.specs.declared.state.Bank.{Bank}
 use Rattle.rules.specs.declared.state.State.{State}
-use Rattle.rules.specs.Kinds.{isAct, isData, isKnown}
+use Rattle.rules.specs.Kinds.{isAct, isRef, isData, inActQueue, canEnd, isKnown}
 use Rattle.rules.specs.State.{isOpen, dataTests, testsBy, bankAfter}
-use Rattle.rules.specs.Queues.{dataKind}
+use Rattle.rules.specs.Queues.{dataKind, actKind}
 
 -- a data command is no ACT
 pub no-act : (w z : Bool) → isAct (dataKind w z) ≡ false
@@ -17,11 +21,24 @@ no-act true false = refl
 no-act false true = refl
 no-act false false = refl
 
+-- and no REF, so it is no command of the ACT queue
+pub no-ref : (w z : Bool) → isRef (dataKind w z) ≡ false
+no-ref true true = refl
+no-ref true false = refl
+no-ref false true = refl
+no-ref false false = refl
+
+pub not-in-acts : (w z : Bool) → inActQueue (dataKind w z) ≡ false
+not-in-acts w z = rw (no-act w z, no-ref w z)
+
 pub is-data : (w z : Bool) → isData (dataKind w z) ≡ true
 is-data true true = refl
 is-data true false = refl
 is-data false true = refl
 is-data false false = refl
+
+pub can-end : (w z : Bool) → canEnd (dataKind w z) ≡ true
+can-end w z = rw (is-data w z)
 
 pub is-known : (w z : Bool) → isKnown (dataKind w z) ≡ true
 is-known true true = refl
@@ -48,3 +65,25 @@ rules-kind τ s true true t b = refl
 rules-kind τ s true false t b = refl
 rules-kind τ s false true t b = refl
 rules-kind τ s false false t b = refl
+
+-- what a transaction puts into the ACT queue is a command of that queue, and no data command
+pub act-queued : (x : Transaction) → inActQueue (actKind x) ≡ true
+act-queued x = on (isRefresh x)
+  where
+    on : (b : Bool) → inActQueue (pick b Ref Act) ≡ true
+    on true = refl
+    on false = refl
+
+pub act-no-data : (x : Transaction) → isData (actKind x) ≡ false
+act-no-data x = on (isRefresh x)
+  where
+    on : (b : Bool) → isData (pick b Ref Act) ≡ false
+    on true = refl
+    on false = refl
+
+pub act-known : (x : Transaction) → isKnown (actKind x) ≡ true
+act-known x = on (isRefresh x)
+  where
+    on : (b : Bool) → isKnown (pick b Ref Act) ≡ true
+    on true = refl
+    on false = refl

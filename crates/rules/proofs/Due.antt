@@ -11,6 +11,8 @@ use lib.Dec.{lit<}
 use lib.ListN.{length, getD}
 use Rattle.records.specs.declared.table.Table.{Table}
 use Rattle.records.specs.declared.transaction.Transaction.{Transaction}
+use Rattle.records.specs.Tests.{pick}
+use Rattle.records.specs.Transaction.{isRefresh}
 use Rattle.rules.specs.Square.{writeTail}
 use Rattle.rules.specs.Bound.{greatest, mostCcd, mostRrd, mostFromRd, mostFromWr, partsS, boundS, boundD, partsX, boundX, bound, span, startAt}
 use Rattle.rules.specs.Finish.{countFrom}
@@ -112,10 +114,10 @@ module _ (τ : Table) (C : ℕ) where
       on (yes h) = omega (arith, e', mul-le-mul-left j h)
       on (no h) = omega (arith, e', h)
 
--- every data command of a transaction is due within its span
-pub due-span : (τ : Table) (x : Transaction) (j r : ℕ) → j < x .bi → r < x .bc → dueBy τ (x .bc) j r ≤ span τ x
+-- every data command of a transaction is due within its bound, which is the span of a read or a write
+due-bound : (τ : Table) (x : Transaction) (j r : ℕ) → j < x .bi → r < x .bc → dueBy τ (x .bc) j r ≤ bound τ (x .bi) (x .bc)
 unfolding dueBy bound
-due-span τ x j r hj hr =
+due-bound τ x j r hj hr =
     let n = x .bi * x .bc - 1 in
     let a : (j + 1) * x .bc ≤ x .bi * x .bc = mul-le-mul-right (x .bc) (omega arith) in
     let b : (j * x .bc + r) * mostCcd τ ≤ n * mostCcd τ = mul-le-mul-right (mostCcd τ) (omega arith) in
@@ -126,6 +128,9 @@ due-span τ x j r hj hr =
     go : (x x' y y' z z' : ℕ) → x ≤ x' → y ≤ y' → z ≤ z' → max (boundX τ + x) (boundS τ + τ .rcd + max x (y + z)) ≤ max (boundX τ + x') (boundS τ + τ .rcd + max x' (y' + z'))
     go x x' y y' z z' p q u = omega arith
 
+pub due-span : (τ : Table) (x : Transaction) (j r : ℕ) → isRefresh x ≡ false → j < x .bi → r < x .bc → dueBy τ (x .bc) j r ≤ span τ x
+due-span τ x j r e hj hr = rw e (due-bound τ x j r hj hr)
+
 -- the laws of where a count starts
 pub start-ge : (x : Transaction) (F : ℕ) → F ≤ startAt x F
 unfolding startAt
@@ -135,9 +140,17 @@ pub start-mono : (x : Transaction) (F F' : ℕ) → F ≤ F' → startAt x F ≤
 unfolding startAt
 start-mono x F F' h = h
 
--- the next count starts no earlier than at the last data command, and no later than the span allows
+-- the next count starts no earlier than at the last command, and no later than the span allows
 pub count-ge : (τ : Table) (x : Transaction) (c : ℕ) → c ≤ countFrom τ x c
-count-ge τ x c = omega arith
+count-ge τ x c = on (isRefresh x)
+  where
+    on : (b : Bool) → c ≤ pick b (c + τ .rfc) c
+    on true = omega arith
+    on false = omega arith
 
 pub count-le : (τ : Table) (x : Transaction) (c F : ℕ) → c ≤ F + span τ x → countFrom τ x c ≤ F + countFrom τ x (span τ x)
-count-le τ x c F h = h
+count-le τ x c F h = on (isRefresh x) (span τ x) h
+  where
+    on : (b : Bool) (n : ℕ) → c ≤ F + n → pick b (c + τ .rfc) c ≤ F + pick b (n + τ .rfc) n
+    on true n h = omega arith
+    on false n h = h

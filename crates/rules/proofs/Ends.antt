@@ -14,20 +14,21 @@ use Rattle.records.specs.Table.{Accepted}
 use Rattle.records.specs.Transaction.{listFits}
 use Rattle.rules.specs.Queues.{actQueue, dataQueue}
 use Rattle.rules.specs.Bound.{span, startAt}
+use Rattle.rules.specs.Finish.{countFrom}
 use Rattle.rules.specs.Promise.{allBounds, Ends}
 use Rattle.rules.proofs.TestLaws.{and-both}
 use Rattle.rules.proofs.Queue.{act-length, data-length}
 use Rattle.rules.proofs.Served.{total}
 use Rattle.rules.proofs.Built.{short, stateAt, enough}
 
-total-first : (τ : Table) (x : Transaction) (l : List Transaction) (k : ℕ) → total τ (x ∷ l) (suc k) ≡ span τ x + total τ l k
+total-first : (τ : Table) (x : Transaction) (l : List Transaction) (k : ℕ) → total τ (x ∷ l) (suc k) ≡ countFrom τ x (span τ x) + total τ l k
 unfolding startAt
 total-first τ x l zero = omega arith
 total-first τ x l (suc k) = omega (arith, total-first τ x l k)
 
 total-bounds : (τ : Table) (l : List Transaction) → total τ l (length l) ≡ allBounds τ l
 total-bounds τ [] = refl
-total-bounds τ (x ∷ l) = total-first τ x l (length l) ∙ ap (λ (n : ℕ). span τ x + n) (total-bounds τ l)
+total-bounds τ (x ∷ l) = total-first τ x l (length l) ∙ ap (λ (n : ℕ). countFrom τ x (span τ x) + n) (total-bounds τ l)
 
 pub ends : (τ : Table) → Accepted τ → (l : List Transaction) → listFits τ l ≡ true → Ends τ l
 ends τ acc l fit =

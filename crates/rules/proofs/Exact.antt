@@ -1,22 +1,25 @@
 -- From a fresh state the cycle rule by state gives what the cycle rule by history gives.
 -- Assumes nothing.
-use Prim.Native.Nat.{ℕ, zero, suc, _+_}
+use Prim.Native.Nat.{ℕ, zero, suc, _+_, _%_, _<_}
 use native.Mathlib.Omega.{arith}
 use native.Mathlib.Nat.{zero-add}
 use mathlib.Core.Path.{_≡_, refl, sym, ap, _∙_}
-use mathlib.Core.Bool.{Bool, true}
+use mathlib.Core.Bool.{Bool, true, false}
 use mathlib.Core.Option.{Option, none, some, Option·map}
 use mathlib.Core.List.{List, [], _∷_}
+use lib.Dec.{eqb}
 use lib.ListN.{getElem?}
 use borrow.Author.Tests.{lt-ltb}
 use Rattle.records.specs.declared.table.Table.{Table}
 use Rattle.records.specs.declared.transaction.Transaction.{Transaction}
+use Rattle.records.specs.declared.command.Kind.the-variants.{Act, Ref}
 use Rattle.records.specs.declared.command.Command.{Command}
 use Rattle.rules.specs.declared.state.State.{State}
-use Rattle.records.specs.Tests.{every}
-use Rattle.records.specs.Transaction.{isWrite}
+use Rattle.records.specs.Tests.{pick, every}
+use Rattle.records.specs.Transaction.{isWrite, isRefresh}
 use Rattle.rules.specs.State.{fresh, after}
-use Rattle.rules.specs.Queues.{Due, actQueue, dataQueue}
+use Rattle.rules.specs.Queues.{Due, bankAt, actQueue, dataQueue, actCount}
+use Rattle.rules.specs.History.{inTable}
 use Rattle.rules.specs.CycleRule.{goesAt, goes, push, gone}
 use Rattle.rules.specs.Run.{steps}
 use Rattle.rules.proofs.TestLaws.{and-both, OnSome}
@@ -24,9 +27,9 @@ use Rattle.rules.proofs.Ranges.{Ranges}
 use Rattle.rules.proofs.Link.{Sums, sums-fresh}
 use Rattle.rules.proofs.Judged.{LegalHistory}
 use Rattle.rules.proofs.Legal.{dueIn, QueuesFit, goes-same, steps-legal}
-use Rattle.rules.proofs.Queue.{Place, actCount, dataCount, actPlace, dataPlace, actDue, dataDue, act-head, data-head}
+use Rattle.rules.proofs.Queue.{Place, dataCount, actPlace, dataPlace, actDue, dataDue, act-head, data-head}
 use Rattle.rules.proofs.Fit.{AllFit, Inside, place-at, act-bank, data-bank}
-use Rattle.rules.proofs.DataKinds.{is-known}
+use Rattle.rules.proofs.DataKinds.{no-ref, is-known}
 use Rattle.rules.proofs.Served.{steps-add, steps-cycle}
 
 each : {A : Type 0} (f : A → Bool) (l : List A) → ((i : ℕ) → OnSome (λ x. f x ≡ true) (getElem? l i)) → every f l ≡ true
@@ -47,10 +50,20 @@ queues-fit τ l v =
     on-place d f g (some p) k = g p k
 
     act-in : (p : Place) → Inside τ actCount p → dueIn τ (actDue τ p) ≡ true
-    act-in p k = lt-ltb _ _ (act-bank τ p k)
+    act-in p k = on (isRefresh (p .transaction)) (act-bank τ p k)
+      where
+        b : ℕ
+        b = bankAt τ (p .transaction) (p .offset)
+
+        on : (z : Bool) → pick z 0 b < τ .banks → inTable τ (pick z Ref Act) (pick z 0 b) ≡ true
+        on true h = rw (lt-ltb 0 (τ .banks) h)
+        on false h = rw (lt-ltb b (τ .banks) h)
 
     data-in : (p : Place) → Inside τ dataCount p → dueIn τ (dataDue τ p) ≡ true
-    data-in p k = and-both _ _ (is-known (isWrite (p .transaction)) _) (lt-ltb _ _ (data-bank τ p k))
+    data-in p k =
+        let z = eqb (p .offset % p .transaction .bc + 1) (p .transaction .bc) in
+        let w = isWrite (p .transaction) in
+        rw (is-known w z, no-ref w z, lt-ltb (dataDue τ p .bank) (τ .banks) (data-bank τ p k))
 
 -- the last of n + 1 steps
 pub steps-last : (n : ℕ) (τ : Table) (l : List Transaction) (s : State) (h : List Command)

@@ -16,10 +16,10 @@ use Rattle.records.specs.declared.command.Command.{Command}
 use Rattle.rules.specs.declared.state.Stamp.the-variants.{At}
 use Rattle.records.specs.Tests.{pick}
 use Rattle.records.specs.Transaction.{transaction}
-use Rattle.rules.specs.Kinds.{isData}
+use Rattle.rules.specs.Kinds.{canEnd}
 use Rattle.rules.specs.CycleRule.{push}
 use Rattle.rules.specs.Bound.{span, startAt}
-use Rattle.rules.specs.Finish.{lastDataIn, countFrom}
+use Rattle.rules.specs.Finish.{lastCommandIn, countFrom}
 use Rattle.rules.proofs.TestLaws.{OnSome}
 use Rattle.rules.proofs.Numbers.{same?}
 use Rattle.rules.proofs.Recent.{ext, ext-eq, ext-other}
@@ -32,19 +32,19 @@ noTransaction = transaction 0 0 1 1
 abbrev pub nth : List Transaction → ℕ → Transaction
 nth l k = getD l k noTransaction
 
--- the first K transactions are done: the last data command of number k went at `last k`, and its count started at `start k`
+-- the first K transactions are done: the last command of number k went at `last k`, and its count started at `start k`
 pub record Finishes (τ : Table) (l : List Transaction) (K : ℕ) (last start : ℕ → ℕ) (h : List Command) : Type 0 where
   pub zeroth : start 0 ≡ 0
   pub next : (k : ℕ) → k < K → start (k + 1) ≡ countFrom τ (nth l k) (last k)
-  pub got : (k : ℕ) → k < K → lastDataIn k h ≡ At (last k)
+  pub got : (k : ℕ) → k < K → lastCommandIn k h ≡ At (last k)
   pub near : (k : ℕ) → k < K → last k ≤ startAt (nth l k) (start k) + span τ (nth l k)
 
 -- a command of transaction K leaves those before it
-last-kept : (k K : ℕ) → k ≢ K → (o : Option Command) (h : List Command) → OnSome (OfNumber K) o → lastDataIn k (push o h) ≡ lastDataIn k h
+last-kept : (k K : ℕ) → k ≢ K → (o : Option Command) (h : List Command) → OnSome (OfNumber K) o → lastCommandIn k (push o h) ≡ lastCommandIn k h
 last-kept k K n none h u = refl
-last-kept k K n (some c) h u = on (isData (c .kind)) refl
+last-kept k K n (some c) h u = on (canEnd (c .kind)) refl
   where
-    on : (b : Bool) → isData (c .kind) ≡ b → pick (eqb (c .number) k && isData (c .kind)) (At (c .cycle)) (lastDataIn k h) ≡ lastDataIn k h
+    on : (b : Bool) → canEnd (c .kind) ≡ b → pick (eqb (c .number) k && canEnd (c .kind)) (At (c .cycle)) (lastCommandIn k h) ≡ lastCommandIn k h
     on true e = rw (ne-eqb (c .number) k (λ z. n (sym z ∙ u e)))
     on false e = rw (e, and-false (eqb (c .number) k))
 
@@ -76,7 +76,7 @@ module _ (τ : Table) (l : List Transaction) (K : ℕ) (last start : ℕ → ℕ
         next' k z (inr n) =
             rw (ext-other start (K + 1) (countFrom τ (nth l K) t) (k + 1) (λ g. n (omega arith)), ext-other last K t k n) (q .next k (omega (arith, n)))
 
-        got' : (k : ℕ) → k < K + 1 → (k ≡ K) ⊎ (k ≢ K) → lastDataIn k (c ∷ h) ≡ At (ext last K t k)
+        got' : (k : ℕ) → k < K + 1 → (k ≡ K) ⊎ (k ≢ K) → lastCommandIn k (c ∷ h) ≡ At (ext last K t k)
         got' k z (inl e) = rw (eq-eqb (c .number) k (u .1 ∙ sym e), u .0, u .2, ext-eq last K t k e)
         got' k z (inr n) =
             last-kept k K n (some c) h (λ y. u .1) ∙ (q .got k (omega (arith, n)) ∙ ap At (sym (ext-other last K t k n)))

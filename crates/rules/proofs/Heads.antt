@@ -12,7 +12,7 @@ use Rattle.records.specs.declared.transaction.Transaction.{Transaction}
 use Rattle.records.specs.declared.command.Command.{Command}
 use Rattle.rules.specs.declared.state.State.{State}
 use Rattle.records.specs.Tests.{pick, allOf}
-use Rattle.rules.specs.State.{actTests, dataTests, breaksNone}
+use Rattle.rules.specs.State.{actTests, refreshTests, dataTests, breaksNone}
 use Rattle.rules.specs.Queues.{Due, dueAt}
 use Rattle.rules.specs.CycleRule.{hadAct, legalAt, otherwise, goesBy, goes}
 use Rattle.rules.proofs.TestLaws.{and-fst, and-snd, OnSome}
@@ -75,6 +75,9 @@ test-at (t ∷ l) (suc i) e = test-at l i (and-snd t (allOf l) e)
 
 abbrev pub actOk : Table → State → ℕ → Bool
 actOk τ s b = allOf (actTests τ s (s .cycle) b)
+
+abbrev pub refreshOk : Table → State → Bool
+refreshOk τ s = allOf (refreshTests τ s (s .cycle))
 
 abbrev pub dataOk : Table → State → ℕ → Bool → Bool
 dataOk τ s b w = allOf (dataTests τ s w (s .cycle) b)

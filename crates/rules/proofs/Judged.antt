@@ -1,26 +1,28 @@
 -- The judge accepts exactly the records of which none breaks a rule against those before it, and which leave no bank open.
 -- Assumes nothing.
-use Prim.Native.Nat.{ℕ, suc, _≤_}
+use Prim.Native.Nat.{ℕ, suc, _≤_, _<_}
 use native.Mathlib.Omega.{arith}
 use mathlib.Core.Path.{_≡_, refl, sym, ap, _∙_}
-use mathlib.Core.Bool.{Bool, true, false}
+use mathlib.Core.Bool.{Bool, true, false, not, _&&_, _||_}
 use mathlib.Core.List.{List, [], _∷_}
+use lib.Dec.{ltb, eqb}
 use lib.ListN.{length, getD}
+use borrow.Author.Tests.{ltb-true}
 use Rattle.records.specs.Tests.{pick, allOf}
 use Rattle.records.specs.declared.table.Table.{Table}
 use Rattle.records.specs.declared.command.Kind.{Kind}
-use Rattle.records.specs.declared.command.Kind.the-variants.{Act, Rd, Rda, Wr, Wra, Other}
+use Rattle.records.specs.declared.command.Kind.the-variants.{Act, Rd, Rda, Wr, Wra, Ref, Other}
 use Rattle.records.specs.declared.command.Command.{Command}
 use Rattle.rules.specs.declared.verdict.Rule.{Rule}
 use Rattle.rules.specs.declared.verdict.Rule.the-variants.{End}
 use Rattle.rules.specs.declared.verdict.Found.{Found}
 use Rattle.rules.specs.declared.verdict.Found.the-variants.{Fine, Broken}
 use Rattle.rules.specs.declared.verdict.Verdict.the-variants.{Accepted, Refused}
-use Rattle.rules.specs.Kinds.{firstBroken, rulesInOrder}
+use Rattle.rules.specs.Kinds.{isRef, isKnown, firstBroken, rulesInOrder}
 use Rattle.rules.specs.History.{inTable, later, rulesBy, rules, broken, isFine}
 use Rattle.rules.specs.Verdict.{allShut, judgeFrom}
 use Rattle.rules.specs.Pattern.{onto}
-use Rattle.rules.proofs.TestLaws.{true-false, to-T, and-at}
+use Rattle.rules.proofs.TestLaws.{true-false, to-T, and-fst, and-snd, and-at}
 use Rattle.rules.proofs.Newest.{Rising}
 
 -- with a rule for each test, none is broken exactly when all hold
@@ -35,12 +37,13 @@ is-fine Fine e = refl
 is-fine (Broken r) e = true-false false e refl
 
 module _ (τ : Table) (r : Command) (h : List Command) where
-  few : (k : Kind) (t b : ℕ) → length (rulesBy τ k t b h) ≤ 7
+  few : (k : Kind) (t b : ℕ) → length (rulesBy τ k t b h) ≤ 9
   few Act t b = omega arith
   few Rd t b = omega arith
   few Rda t b = omega arith
   few Wr t b = omega arith
   few Wra t b = omega arith
+  few Ref t b = omega arith
   few (Other n) t b = omega arith
 
   pub fine-rules : isFine (broken τ r h) ≡ allOf (rules τ r h)
@@ -51,6 +54,14 @@ module _ (τ : Table) (r : Command) (h : List Command) where
   holds e i =
       and-at (inTable τ (r .kind) (r .bank) ∷ later (r .cycle) h ∷ []) (allOf (rulesBy τ (r .kind) (r .cycle) (r .bank) h)) i
       (sym fine-rules ∙ ap isFine e)
+
+-- rule 1: a kind that is known, a bank of the table
+pub in-known : (τ : Table) (k : Kind) (b : ℕ) → inTable τ k b ≡ true → isKnown k ≡ true
+in-known τ k b e = and-fst (isKnown k) (ltb b (τ .banks) && (not (isRef k) || eqb b 0)) e
+
+pub in-bank : (τ : Table) (k : Kind) (b : ℕ) → inTable τ k b ≡ true → b < τ .banks
+in-bank τ k b e =
+    ltb-true b (τ .banks) (and-fst (ltb b (τ .banks)) (not (isRef k) || eqb b 0) (and-snd (isKnown k) (ltb b (τ .banks) && (not (isRef k) || eqb b 0)) e))
 
 -- each record breaks no rule against those before it
 abbrev pub LegalHistory : Table → List Command → Type 0

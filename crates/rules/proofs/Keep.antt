@@ -20,10 +20,10 @@ use Rattle.rules.specs.Bound.{mostCcd, mostFromRd, mostFromWr, boundS}
 use Rattle.rules.proofs.TestLaws.{true-false, and-fst, and-snd}
 use Rattle.rules.proofs.Ranges.{Ranges}
 use Rattle.rules.proofs.Numbers.{same?, from?}
-use Rattle.rules.proofs.Queue.{actBank}
+use Rattle.rules.proofs.Queue.{actBank, isActAt}
 use Rattle.rules.proofs.Fit.{bank-lt, bank-apart}
 use Rattle.rules.proofs.Heads.{test-at, actOk, dataOk}
-use Rattle.rules.proofs.Recent.{ext, ext-eq, ext-other, rd-data, wr-data, nine-blocked}
+use Rattle.rules.proofs.Recent.{Upto, upto-up, past-upto, ext, ext-eq, ext-other, rd-data, wr-data, nine-blocked}
 use Rattle.rules.proofs.Base.{Went, Base, base-up, base-idle, at-old, base-act, DataNote, data-note, doneAfter, miss, base-data}
 use Rattle.rules.proofs.Due.{rrd-one, ccd-two, D-rrd, dueBy}
 use Rattle.rules.proofs.Phase.{Spot, headTest, Blocked, byAct, byData, InTime, Serving, Between}
@@ -45,9 +45,11 @@ module _ (τ : Table) (rng : Ranges τ) (l : List Transaction) (A0 M0 : ℕ) (x 
         cnt = q .cnt;
         jIn = q .jIn;
         rIn = q .rIn;
-        old = λ i k. (q .old i k .0, omega (arith, q .old i k .1));
+        old = λ i k a. (q .old i k a .0, omega (arith, q .old i k a .1));
         own = q .own;
         begun = λ i k. omega (arith, q .begun i k);
+        refreshF = q .refreshF;
+        refreshNow = ⊎-elim (λ y. inl y) (λ y. inr (upto-up (τ .rfc) (s .cycle) (s .cycle + 1) (s .refresh) (omega arith) y)) (q .refreshNow);
         rdDue = q .rdDue;
         wrDue = q .wrDue;
         unop = q .unop;
@@ -68,23 +70,26 @@ module _ (τ : Table) (rng : Ranges τ) (l : List Transaction) (A0 M0 : ℕ) (x 
               (act-ready τ rng l A0 M0 x sp F ta j r s q k ek kl (omega (arith, a .1)) (omega (arith, b .1))) (f k ek kl (omega (arith, a .1)))
 
   -- an ACT goes, of this transaction or a later one
-  pub step-act : s .cycle + 1 ≤ byData τ F x j r → actBank τ l (s .acts) < τ .banks → actOk τ s (actBank τ l (s .acts)) ≡ true
+  pub step-act : s .cycle + 1 ≤ byData τ F x j r → isActAt l (s .acts) ≡ true → actBank τ l (s .acts) < τ .banks → actOk τ s (actBank τ l (s .acts)) ≡ true
       → Serving τ l A0 M0 x F (ext ta (s .acts) (s .cycle)) j r (note s (s .cycle) Act (actBank τ l (s .acts)))
-  step-act e lt ok =
+  step-act e act lt ok =
       record {
         base = base-up τ l (A0 + j) ta' (s .cycle) (s .cycle + 1) s' (omega arith)
-            (base-act τ l (A0 + j) ta (s .cycle) s (q .base) (s .cycle) (omega arith) lt closed);
+            (base-act τ l (A0 + j) ta (s .cycle) s (q .base) (s .cycle) (omega arith) lt closed act);
         cnt = q .cnt;
         jIn = q .jIn;
         rIn = q .rIn;
-        old = λ i k. rw (ext-other ta (s .acts) (s .cycle) i (λ h. omega (arith, q .base .le))) (q .old i k .0, omega (arith, q .old i k .1));
+        old = λ i k a. rw (ext-other ta (s .acts) (s .cycle) i (λ h. omega (arith, q .base .le))) (q .old i k a .0, omega (arith, q .old i k a .1));
         own = λ i k k'. ⊎-elim
             (λ h. rw (ext-eq ta (s .acts) (s .cycle) (A0 + i) h) (in-time i (q .actTime i (sym h) k)))
             (λ h. rw (ext-other ta (s .acts) (s .cycle) (A0 + i) h) (q .own i k (omega (arith, h)))) (same? (A0 + i) (s .acts));
         begun = λ i k. rw (ext-other ta (s .acts) (s .cycle) (A0 + i) (λ h. omega (arith, q .base .le))) (omega (arith, q .begun i k));
+        refreshF = q .refreshF;
+        refreshNow = inr (upto-up (τ .rfc) (s .cycle) (s .cycle + 1) (s .refresh) (omega arith)
+            (past-upto (τ .rfc) (s .cycle) (s .refresh) (test-at (actTests τ s (s .cycle) (actBank τ l (s .acts))) 8 ok)));
         rdDue = q .rdDue;
         wrDue = q .wrDue;
-        unop = λ i k k'. rw (at-old τ l (A0 + j) ta (s .cycle) s (q .base) (s .cycle) (omega arith) lt closed (bankAt τ x i) (not-this i k k'))
+        unop = λ i k k'. rw (at-old τ l (A0 + j) ta (s .cycle) s (q .base) (s .cycle) (omega arith) lt closed act (bankAt τ x i) (not-this i k k'))
             (q .unop i k (omega arith));
         actTime = time;
         dataTime = e;
@@ -147,9 +152,12 @@ module _ (τ : Table) (rng : Ranges τ) (l : List Transaction) (A0 M0 : ℕ) (x 
             cnt = n .nextDatas ∙ omega (arith, q .cnt);
             jIn = jl;
             rIn = rl;
-            old = λ i k. (q .old i k .0, omega (arith, q .old i k .1, n .nextCycle));
+            old = λ i k a. (q .old i k a .0, omega (arith, q .old i k a .1, n .nextCycle));
             own = λ i k k'. q .own i k (omega (arith, n .sameActs));
             begun = λ i k. begun' i k (from? i j);
+            refreshF = rw (n .sameRefresh) (q .refreshF);
+            refreshNow = rw (n .sameRefresh, n .sameActs, n .nextCycle)
+                (⊎-elim (λ y. inl y) (λ y. inr (upto-up (τ .rfc) (s .cycle) (s .cycle + 1) (s .refresh) (omega arith) y)) (q .refreshNow));
             rdDue = rd-data s (s .cycle) (bankAt τ x j) (isWrite x) z (mostFromRd τ (isWrite x)) (byData τ F x j r) (byData τ F x j' r') (omega arith) (q .rdDue)
                 (λ e. rw e (omega (arith, q .dataTime)));
             wrDue = wr-data s (s .cycle) (bankAt τ x j) (isWrite x) z (mostFromWr τ (isWrite x)) (byData τ F x j r) (byData τ F x j' r') (omega arith) (q .wrDue)
@@ -170,7 +178,7 @@ module _ (τ : Table) (rng : Ranges τ) (l : List Transaction) (A0 M0 : ℕ) (x 
           -- right after a data command no data command of the kind goes
           blocked : Blocked τ (isWrite x) s″
           blocked b = no-nine (isOpen (bankOf s″ b)) (past (bankOf s″ b .act) (τ .rcd) (s .cycle + 1)) (rule9 τ s″ (isWrite x) (s .cycle + 1) b)
-              (nine-blocked τ rng s (Went ta) (s .acts) (s .cycle) (q .base .recent) (s .cycle) (bankAt τ x j) b (isWrite x) z)
+              (nine-blocked τ rng s (Went l ta) (s .acts) (s .cycle) (q .base .recent) (s .cycle) (bankAt τ x j) b (isWrite x) z)
             where
               no-nine : (o p n : Bool) → n ≡ false → (o && (p && (n && true))) ≡ false
               no-nine true true n e = rw e
@@ -188,12 +196,17 @@ module _ (τ : Table) (rng : Ranges τ) (l : List Transaction) (A0 M0 : ℕ) (x 
         record {
           base = subst (λ (v : ℕ). Base τ l v ta (s .cycle) s″) (ap (λ (y : Bool). doneAfter y (A0 + j)) ez ∙ omega arith) base″;
           cnt = noted .nextDatas ∙ (ap (λ (y : ℕ). y + 1) (q .cnt) ∙ sum);
-          old = λ i k. ⊎-elim (λ y. q .old i y .1) (λ y. own-case i k y) (from? i A0);
+          old = λ i k a. ⊎-elim (λ y. q .old i y a .1) (λ y. own-case i k y) (from? i A0);
           cf = omega arith;
           lo = omega (arith, noted .nextCycle);
           hi = omega (arith, noted .nextCycle);
+          refreshF = refreshed;
+          refreshNow = inr refreshed;
         }
       where
+        refreshed : Upto (τ .rfc) (s .cycle) (s″ .refresh)
+        refreshed = rw (noted .sameRefresh) (⊎-elim (λ y. absurd (omega (arith, y, gone))) (λ y. y) (q .refreshNow))
+
         sum : M0 + (j * x .bc + r) + 1 ≡ M0 + x .bi * x .bc
         sum = omega (arith, ap (λ (y : ℕ). y * x .bc) ej)
 

@@ -7,22 +7,21 @@ use mathlib.Core.Bool.{Bool, true, false}
 use mathlib.Core.Option.{Option, none, some}
 use mathlib.Core.List.{List, _∷_}
 use lib.Dec.{ltb}
-use borrow.Author.Tests.{ltb-true}
 use Rattle.records.specs.Tests.{pick, every}
 use Rattle.records.specs.declared.table.Table.{Table}
 use Rattle.records.specs.declared.transaction.Transaction.{Transaction}
 use Rattle.records.specs.declared.command.Command.{Command}
 use Rattle.rules.specs.declared.state.State.{State}
 use Rattle.rules.specs.declared.verdict.Found.the-variants.{Fine}
-use Rattle.rules.specs.Kinds.{isKnown, firstBroken, rulesInOrder}
+use Rattle.rules.specs.Kinds.{firstBroken, rulesInOrder}
 use Rattle.rules.specs.State.{testsBy, breaksNone, after}
 use Rattle.rules.specs.History.{inTable, later, rulesBy, broken, isFine}
 use Rattle.rules.specs.Queues.{Due, dueAt, actQueue, dataQueue, headAfter}
 use Rattle.rules.specs.CycleRule.{hadAct, legalAt, otherwise, goesBy, actsIn, goesAt, goes, push}
 use Rattle.rules.specs.Run.{steps}
-use Rattle.rules.proofs.TestLaws.{is-true, and-snd, OnSome, on-pick, every-at}
+use Rattle.rules.proofs.TestLaws.{is-true, OnSome, on-pick, every-at}
 use Rattle.rules.proofs.Link.{Sums, later-of, sums-idle, sums-note, rules-same}
-use Rattle.rules.proofs.Judged.{fine-rules, is-fine, LegalHistory}
+use Rattle.rules.proofs.Judged.{fine-rules, is-fine, in-bank, LegalHistory}
 
 -- "If the head of the data queue has had its ACT and breaks no rule, it goes", whatever stands in the ACT queue
 data-first : (legal : Command → Bool) (τ : Table) (l : List Transaction) (t a d : ℕ) (c : Command)
@@ -67,7 +66,7 @@ pub record QueuesFit (τ : Table) (l : List Transaction) : Type 0 where
 
 -- a state has a place for each bank of the table
 pub below : (τ : Table) → τ .banks ≤ 16 → (c : Command) → inTable τ (c .kind) (c .bank) ≡ true → c .bank < 16
-below τ fit c i = omega (arith, ltb-true (c .bank) (τ .banks) (and-snd (isKnown (c .kind)) (ltb (c .bank) (τ .banks)) i))
+below τ fit c i = omega (arith, in-bank τ (c .kind) (c .bank) i)
 
 module _ (τ : Table) (fit : τ .banks ≤ 16) (h : List Command) (s : State) (q : Sums h s) where
   -- the rule that a record breaks, read off the state, where `now` says whether it keeps rule 2
@@ -80,13 +79,13 @@ module _ (τ : Table) (fit : τ .banks ≤ 16) (h : List Command) (s : State) (q
           ≡ firstBroken (b ∷ now ∷ testsBy τ s (c .kind) (c .cycle) (c .bank)) rulesInOrder
       on true i =
           ap (λ (t : Bool). firstBroken (true ∷ t ∷ rulesBy τ (c .kind) (c .cycle) (c .bank) h) rulesInOrder) e
-          ∙ ap (λ (ts : List Bool). firstBroken (true ∷ now ∷ ts) rulesInOrder) (rules-same τ h s q (c .kind) (c .cycle) (c .bank) (below τ fit c i))
+          ∙ ap (λ (ts : List Bool). firstBroken (true ∷ now ∷ ts) rulesInOrder) (rules-same τ fit h s q (c .kind) (c .cycle) (c .bank) (below τ fit c i))
       on false i = refl
 
   -- "breaks no rule" by history and by state
   pub legal-same : (c : Command) → c .cycle ≡ s .cycle → inTable τ (c .kind) (c .bank) ≡ true → isFine (broken τ c h) ≡ breaksNone τ s c
   legal-same c ec i =
-      fine-rules τ c h ∙ rw (i, now, rules-same τ h s q (c .kind) (c .cycle) (c .bank) (below τ fit c i))
+      fine-rules τ c h ∙ rw (i, now, rules-same τ fit h s q (c .kind) (c .cycle) (c .bank) (below τ fit c i))
     where
       now : later (c .cycle) h ≡ true
       now = rw ec (is-true (later (s .cycle) h) (later-of (s .cycle) h (q .low)))

@@ -1,6 +1,8 @@
 -- The theorems about document 01's definitions.
 pub mod Worked
 pub mod TestLaws
+pub mod Numbers
+pub mod Below
 pub mod Ranges
 pub mod Newest
 pub mod Link
@@ -10,7 +12,6 @@ pub mod JudgeState
 pub mod Alike
 pub mod Copies
 pub mod Pattern
-pub mod Numbers
 pub mod Queue
 pub mod Fit
 pub mod DataKinds
@@ -22,6 +23,7 @@ pub mod Phase
 pub mod Ready
 pub mod Keep
 pub mod Run
+pub mod RefNext
 pub mod Caps
 pub mod Finishes
 pub mod Progress
@@ -36,6 +38,7 @@ pub mod Count
 pub mod Front
 pub mod StillOpen
 pub mod OfFirst
+pub mod Side
 pub mod Prefix
 pub mod Built
 pub mod Promises

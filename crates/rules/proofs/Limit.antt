@@ -3,32 +3,36 @@
 use Prim.Native.Nat.{ℕ, zero, suc, _+_, _-_, _*_, _≤_, _<_, max}
 use native.Mathlib.Omega.{arith}
 use native.Mathlib.Nat.{mul-le-mul-right, max-le}
+use mathlib.Core.Logic.{inl, inr}
+use mathlib.Core.Bool.{Bool, true, false}
 use mathlib.Core.List.{List, [], _∷_}
 use lib.ListN.{length}
 use Rattle.records.specs.declared.table.Table.{Table}
 use Rattle.records.specs.declared.transaction.Transaction.{Transaction}
+use Rattle.records.specs.Tests.{pick}
+use Rattle.records.specs.Transaction.{isRefresh}
 use Rattle.rules.specs.Bound.{boundS, boundD, boundX, bound, startAt}
 use Rattle.rules.proofs.Ranges.{Ranges}
-use Rattle.rules.proofs.Fit.{AllFit}
+use Rattle.rules.proofs.Fit.{Fits, AllFit}
 use Rattle.rules.proofs.Finishes.{nth}
 use Rattle.rules.proofs.Served.{full, total}
 
 module _ (τ : Table) (rng : Ranges τ) where
-  S-max : boundS τ ≤ 1020
+  S-max : boundS τ ≤ 4092
   unfolding boundS
   S-max =
       max-le (omega arith) (max-le (omega arith) (max-le (omega arith) (max-le (omega arith)
       (max-le (omega arith) (max-le (omega arith) (max-le (omega arith) (omega arith)))))))
 
-  D-max : boundD τ ≤ 255
+  D-max : boundD τ ≤ 1023
   unfolding boundD
   D-max = omega arith
 
-  X-max : boundX τ ≤ 765
+  X-max : boundX τ ≤ 3069
   unfolding boundX
   X-max = max-le (omega arith) (max-le (omega arith) (max-le (omega arith) (omega arith)))
 
-  bound-max : (i c : ℕ) → i ≤ 16 → c ≤ 16 → bound τ i c ≤ 66300
+  bound-max : (i c : ℕ) → i ≤ 16 → c ≤ 16 → bound τ i c ≤ 265980
   unfolding bound
   bound-max i c hi hc =
       let n : i * c ≤ 16 * c = mul-le-mul-right c hi in
@@ -37,27 +41,35 @@ module _ (τ : Table) (rng : Ranges τ) where
       let d : (c - 1) * τ .ccd ≤ 15 * τ .ccd = mul-le-mul-right (τ .ccd) (omega arith) in
       go ((i * c - 1) * τ .ccd) ((i - 1) * (boundD τ + 1)) ((c - 1) * τ .ccd) (omega arith) (omega (arith, D-max)) (omega arith)
     where
-      go : (x y z : ℕ) → x ≤ 65025 → y ≤ 3840 → z ≤ 3825 → max (boundX τ + x) (boundS τ + τ .rcd + max x (y + z)) ≤ 66300
+      go : (x y z : ℕ) → x ≤ 260865 → y ≤ 15360 → z ≤ 15345 → max (boundX τ + x) (boundS τ + τ .rcd + max x (y + z)) ≤ 265980
       go x y z p q r = omega (arith, X-max, S-max, rng .rcd .most)
 
   small-at : (l : List Transaction) → AllFit τ l → (k : ℕ) → (nth l k .bi ≤ 16) × (nth l k .bc ≤ 16)
   small-at [] v k = (omega arith, omega arith)
-  small-at (x ∷ l) v zero = (v .0 .maxI, v .0 .maxC)
+  small-at (x ∷ l) v zero = by (v .0)
+    where
+      by : Fits τ x → (x .bi ≤ 16) × (x .bc ≤ 16)
+      by (inl w) = (omega (arith, w .noI), omega (arith, w .noC))
+      by (inr w) = (w .maxI, w .maxC)
   small-at (x ∷ l) v (suc k) = small-at l (v .1) k
 
-  full-max : (x : Transaction) → x .bi ≤ 16 → x .bc ≤ 16 → full τ x ≤ 66300
-  full-max x hi hc = bound-max (x .bi) (x .bc) hi hc
+  full-max : (x : Transaction) → x .bi ≤ 16 → x .bc ≤ 16 → full τ x ≤ 265980
+  full-max x hi hc = on (isRefresh x)
+    where
+      on : (z : Bool) → pick z (pick z (boundS τ) (bound τ (x .bi) (x .bc)) + τ .rfc) (pick z (boundS τ) (bound τ (x .bi) (x .bc))) ≤ 265980
+      on true = omega (arith, S-max, rng .rfc)
+      on false = bound-max (x .bi) (x .bc) hi hc
 
   start-max : (x : Transaction) (F m : ℕ) → F ≤ m → startAt x F ≤ m
   unfolding startAt
   start-max x F m h = h
 
-  total-max : (l : List Transaction) → AllFit τ l → (k : ℕ) → total τ l k ≤ k * 66300
+  total-max : (l : List Transaction) → AllFit τ l → (k : ℕ) → total τ l k ≤ k * 265980
   total-max l v zero = omega arith
   total-max l v (suc k) =
       let x = nth l k in
       let small = small-at l v k in
-      omega (arith, full-max x (small .0) (small .1), start-max x (total τ l k) (k * 66300) (total-max l v k))
+      omega (arith, full-max x (small .0) (small .1), start-max x (total τ l k) (k * 265980) (total-max l v k))
 
   pub never-long : (l : List Transaction) → AllFit τ l → length l ≤ 256 → total τ l (length l) < 100000000
   never-long l v h = omega (arith, total-max l v (length l))

@@ -1,4 +1,4 @@
--- The state sums up the history: read off it, each of rules 3 to 9 says what it says against all records before.
+-- The state sums up the history: read off it, each of rules 3 to 9, 11 and 12 says what it says against all records before.
 -- Assumes nothing.
 use Prim.Native.Nat.{ℕ, suc, _+_, _≤_, _<_}
 use native.Mathlib.Omega.{arith}
@@ -12,16 +12,17 @@ use borrow.Author.Tests.{eqb-true, eqb-false}
 use Rattle.records.specs.Tests.{pick, every}
 use Rattle.records.specs.declared.table.Table.{Table}
 use Rattle.records.specs.declared.command.Kind.{Kind}
-use Rattle.records.specs.declared.command.Kind.the-variants.{Act, Rd, Rda, Wr, Wra, Other}
+use Rattle.records.specs.declared.command.Kind.the-variants.{Act, Rd, Rda, Wr, Wra, Ref, Other}
 use Rattle.records.specs.declared.command.Command.{Command}
 use Rattle.rules.specs.declared.state.Stamp.{Stamp}
 use Rattle.rules.specs.declared.state.Stamp.the-variants.{At}
 use Rattle.rules.specs.declared.state.State.{State}
-use Rattle.rules.specs.Kinds.{isAct, isRd, isWr, isData}
-use Rattle.rules.specs.State.{bankOf, shut, rule6, rule9, actTests, dataTests, testsBy, fresh, bankAfter, addIf, note, idle}
-use Rattle.rules.specs.History.{later, actBack, farAct, farData, actRules, dataRules, rulesBy}
+use Rattle.rules.specs.Kinds.{isAct, isRd, isWr, isRef, isData, inActQueue}
+use Rattle.rules.specs.State.{bankOf, shut, atRest, rule6, rule9, rule11, rule12, actTests, refreshTests, dataTests, testsBy, fresh, bankAfter, addIf, note, idle}
+use Rattle.rules.specs.History.{later, actBack, farAct, farData, farRefresh, allAtRest, actRules, refreshRules, dataRules, rulesBy}
 use Rattle.rules.specs.CycleRule.{actsIn, datasIn}
-use Rattle.rules.proofs.Newest.{lastIn, any, bankIn, Rising, AllBelow, allBelow-up, newest-act, newest-data, back-same, open-same, act-same, precharge-same}
+use Rattle.rules.proofs.Below.{below-same}
+use Rattle.rules.proofs.Newest.{lastIn, any, bankIn, Rising, AllBelow, allBelow-up, newest-act, newest-refresh, newest-data, back-same, open-same, act-same, precharge-same, rest-same}
 
 -- the state sums up the history
 pub record Sums (h : List Command) (s : State) : Type 0 where
@@ -37,6 +38,7 @@ pub record Sums (h : List Command) (s : State) : Type 0 where
   pub a4 : s .a4 ≡ actBack 3 h
   pub rd : s .rd ≡ lastIn (any isRd) h
   pub wr : s .wr ≡ lastIn (any isWr) h
+  pub refresh : s .refresh ≡ lastIn (any isRef) h
 
 pub sums-fresh : (τ : Table) → Sums [] (fresh τ)
 sums-fresh τ =
@@ -53,6 +55,7 @@ sums-fresh τ =
       a4 = refl;
       rd = refl;
       wr = refl;
+      refresh = refl;
     }
 
 pub sums-idle : (h : List Command) (s : State) → Sums h s → Sums h (idle s)
@@ -70,6 +73,7 @@ sums-idle h s q =
       a4 = q .a4;
       rd = q .rd;
       wr = q .wr;
+      refresh = q .refresh;
     }
 
 pub later-of : (t : ℕ) (h : List Command) → AllBelow t h → T (later t h)
@@ -98,7 +102,7 @@ module _ (h : List Command) (s : State) (q : Sums h s) (r : Command) (ge : s .cy
         low = (omega arith, allBelow-up (s .cycle) (r .cycle + 1) (omega arith) h (q .low));
         size = length-set (s .banks) (r .bank) _ ∙ q .size;
         bank = bank-note;
-        acts = ap (addIf (isAct (r .kind))) (q .acts);
+        acts = ap (addIf (inActQueue (r .kind))) (q .acts);
         datas = ap (addIf (isData (r .kind))) (q .datas);
         a1 = ap (pick (isAct (r .kind)) (At (r .cycle))) (q .a1);
         a2 = back (isAct (r .kind)) 0 (s .a1) (s .a2) (q .a1) (q .a2);
@@ -106,6 +110,7 @@ module _ (h : List Command) (s : State) (q : Sums h s) (r : Command) (ge : s .cy
         a4 = back (isAct (r .kind)) 2 (s .a3) (s .a4) (q .a3) (q .a4);
         rd = ap (pick (isRd (r .kind)) (At (r .cycle))) (q .rd);
         wr = ap (pick (isWr (r .kind)) (At (r .cycle))) (q .wr);
+        refresh = ap (pick (isRef (r .kind)) (At (r .cycle))) (q .refresh);
       }
     where
       back : (e : Bool) (n : ℕ) (x y : Stamp) → x ≡ actBack n h → y ≡ actBack (suc n) h → pick e x y ≡ pick e (actBack n h) (actBack (suc n) h)
@@ -113,15 +118,26 @@ module _ (h : List Command) (s : State) (q : Sums h s) (r : Command) (ge : s .cy
       back false n x y p p' = p'
 
 -- the tests off the state are the rules against the history
-module _ (τ : Table) (h : List Command) (s : State) (q : Sums h s) where
+module _ (τ : Table) (fit : τ .banks ≤ 16) (h : List Command) (s : State) (q : Sums h s) where
   rrd-same : (t b : ℕ) → every (farAct τ b t) h ≡ rule6 τ s t b
   rrd-same t b = newest-act τ b t h (q .rising) ∙ rw (q .a1, back-same 0 h)
 
   distance-same : (w : Bool) (t b : ℕ) → every (farData τ w b t) h ≡ rule9 τ s w t b
   distance-same w t b = newest-data τ b t h (q .rising) w ∙ rw (q .rd, q .wr)
 
+  rfc-same : (t : ℕ) → every (farRefresh τ t) h ≡ rule12 τ s t
+  rfc-same t = newest-refresh τ 0 t h (q .rising) ∙ rw (q .refresh)
+
+  rest-told : (t : ℕ) → allAtRest τ t h ≡ rule11 τ s t
+  rest-told t =
+      rest-same τ t h (q .rising)
+      ∙ below-same (τ .banks) (λ b. atRest τ (bankIn b h) t) (λ b. atRest τ (bankOf s b) t) (λ b l. rw (q .bank b (omega arith)))
+
   act-rules : (t b : ℕ) → b < 16 → actRules τ t b h ≡ actTests τ s t b
-  act-rules t b l = rw (q .bank b l, q .a4, open-same b h, precharge-same τ t b h (q .rising), act-same b h, rrd-same t b)
+  act-rules t b l = rw (q .bank b l, q .a4, open-same b h, precharge-same τ t b h (q .rising), act-same b h, rrd-same t b, rfc-same t)
+
+  refresh-rules : (t : ℕ) → refreshRules τ t h ≡ refreshTests τ s t
+  refresh-rules t = rw (rest-told t, rfc-same t)
 
   data-rules : (w : Bool) (t b : ℕ) → b < 16 → dataRules τ w t b h ≡ dataTests τ s w t b
   data-rules w t b l = rw (q .bank b l, open-same b h, act-same b h, distance-same w t b)
@@ -132,4 +148,5 @@ module _ (τ : Table) (h : List Command) (s : State) (q : Sums h s) where
   rules-same Rda t b l = data-rules false t b l
   rules-same Wr t b l = data-rules true t b l
   rules-same Wra t b l = data-rules true t b l
+  rules-same Ref t b l = refresh-rules t
   rules-same (Other n) t b l = refl

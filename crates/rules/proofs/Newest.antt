@@ -1,4 +1,4 @@
--- Where cycles rise only the newest record of a class counts, so a few stamps and a summary of each bank decide rules 3 to 9.
+-- Where cycles rise only the newest record of a class counts, so a few stamps and a summary of each bank decide rules 3 to 12.
 -- Assumes nothing.
 use Prim.Native.Nat.{ℕ, zero, suc, _+_, _≤_, _<_, max}
 use native.Mathlib.Nat.{add-assoc}
@@ -8,19 +8,20 @@ use mathlib.Core.Bool.{Bool, true, false, not, _&&_, _||_, or-true, and-true}
 use mathlib.Core.List.{List, [], _∷_}
 use lib.Dec.{T, leb, eqb, ltb→lt}
 use borrow.Author.Tests.{le-leb, leb-true}
-use Rattle.records.specs.Tests.{pick, every}
+use Rattle.records.specs.Tests.{pick, every, everyBelow}
 use Rattle.records.specs.declared.table.Table.{Table}
 use Rattle.records.specs.declared.command.Kind.{Kind}
-use Rattle.records.specs.declared.command.Kind.the-variants.{Act, Rd, Rda, Wr, Wra, Other}
+use Rattle.records.specs.declared.command.Kind.the-variants.{Act, Rd, Rda, Wr, Wra, Ref, Other}
 use Rattle.records.specs.declared.command.Command.{Command}
 use Rattle.rules.specs.declared.state.Stamp.{Stamp}
 use Rattle.rules.specs.declared.state.Stamp.the-variants.{Never, At}
 use Rattle.rules.specs.declared.state.Bank.{Bank}
-use Rattle.rules.specs.Kinds.{isAct, isRd, isWr}
+use Rattle.rules.specs.Kinds.{isAct, isRd, isWr, isRef}
 use Rattle.rules.specs.Square.{fromRd, fromWr, writeTail}
-use Rattle.rules.specs.State.{past, isOpen, shut, charged, bankAfter}
-use Rattle.rules.specs.History.{later, openAfter, openIn, actIn, greater, prechargeAfter, prechargeIn, actBack, fourthAct, far, farAct, farData}
+use Rattle.rules.specs.State.{past, isOpen, shut, charged, atRest, bankAfter}
+use Rattle.rules.specs.History.{later, openAfter, openIn, actIn, greater, prechargeAfter, prechargeIn, actBack, fourthAct, far, farAct, farData, allAtRest, farRefresh}
 use Rattle.rules.proofs.TestLaws.{and-both, and-fst, and-snd, and-left, bool-eq}
+use Rattle.rules.proofs.Below.{below-same}
 
 -- the cycle of the n-th record back, from 0, of the kinds and banks p
 abbrev pub backIn : (Kind → ℕ → Bool) → ℕ → List Command → Stamp
@@ -109,6 +110,9 @@ module _ (τ : Table) (b t : ℕ) (h : List Command) (i : Rising h) where
   pub newest-act : every (farAct τ b t) h ≡ past (lastIn (any isAct) h) (τ .rrd) t
   newest-act = newest (any isAct) (τ .rrd) t h i
 
+  pub newest-refresh : every (farRefresh τ t) h ≡ past (lastIn (any isRef) h) (τ .rfc) t
+  newest-refresh = newest (any isRef) (τ .rfc) t h i
+
   pub newest-data : (w : Bool) → every (farData τ w b t) h ≡ (past (lastIn (any isRd) h) (fromRd τ w) t && past (lastIn (any isWr) h) (fromWr τ w) t)
   newest-data w =
       every-and (far isRd (fromRd τ w) t) (far isWr (fromWr τ w) t) h
@@ -137,6 +141,7 @@ open-same b (r ∷ h) = on (eqb (r .bank) b) (r .kind) (open-same b h)
     on true Rda ih = refl
     on true Wr ih = refl
     on true Wra ih = refl
+    on true Ref ih = ih
     on true (Other n) ih = ih
 
 pub act-same : (b : ℕ) (h : List Command) → actIn b h ≡ bankIn b h .act
@@ -151,6 +156,7 @@ act-same b (r ∷ h) = on (eqb (r .bank) b) (r .kind) (act-same b h)
     on true Rda ih = ih
     on true Wr ih = ih
     on true Wra ih = ih
+    on true Ref ih = ih
     on true (Other n) ih = ih
 
 -- the stamps of a bank are below c where its records are
@@ -169,6 +175,7 @@ bank-below c b (r ∷ h) q = on (eqb (r .bank) b) (r .kind) (bank-below c b h (q
     on true Rda ih = (ih .0, q .0, ih .2)
     on true Wr ih = (ih .0, ih .1, q .0)
     on true Wra ih = (ih .0, ih .1, q .0)
+    on true Ref ih = ih
     on true (Other n) ih = ih
 
 past-greater : (n d t : ℕ) (s : Stamp) → past (greater n s) d t ≡ (leb (n + d) t && past s d t)
@@ -229,4 +236,9 @@ precharge-same τ t b (r ∷ h) i = on (eqb (r .bank) b) (r .kind) (precharge-sa
     on true Rda ih = onRd ih
     on true Wr ih = onWr ih
     on true Wra ih = onWr ih
+    on true Ref ih = ih
     on true (Other n) ih = ih
+
+-- rule 11
+pub rest-same : (τ : Table) (t : ℕ) (h : List Command) → Rising h → allAtRest τ t h ≡ everyBelow (τ .banks) (λ b. atRest τ (bankIn b h) t)
+rest-same τ t h i = below-same (τ .banks) _ (λ b. atRest τ (bankIn b h) t) (λ b l. rw (open-same b h, precharge-same τ t b h i))

@@ -1,4 +1,4 @@
--- The commands of the first transactions: what a push, a turn and a last data command make of them.
+-- The commands of the first transactions: what a push, a turn and a last command make of them.
 -- Assumes nothing.
 use Prim.Native.Nat.{ℕ, _≤_, _<_}
 use native.Mathlib.Omega.{arith}
@@ -12,7 +12,7 @@ use Rattle.records.specs.declared.command.Command.{Command}
 use Rattle.records.specs.Tests.{pick}
 use Rattle.rules.specs.Pattern.{onto}
 use Rattle.rules.specs.CycleRule.{push}
-use Rattle.rules.specs.Finish.{lastDataIn}
+use Rattle.rules.specs.Finish.{lastCommandIn}
 use Rattle.rules.specs.Promise.{ofFirst}
 use Rattle.rules.proofs.TestLaws.{OnSome}
 
@@ -32,11 +32,11 @@ first-onto k (r ∷ a) b = first-onto k a (r ∷ b) ∙ on (ltb (r .number) k)
     on true = refl
     on false = refl
 
--- the last data command of one of the first transactions
-pub last-first : (k K : ℕ) → k < K → (h : List Command) → lastDataIn k (ofFirst K h) ≡ lastDataIn k h
+-- the last command of one of the first transactions
+pub last-first : (k K : ℕ) → k < K → (h : List Command) → lastCommandIn k (ofFirst K h) ≡ lastCommandIn k h
 last-first k K lt [] = refl
 last-first k K lt (r ∷ h) = on (ltb (r .number) K) refl (last-first k K lt h)
   where
-    on : (e : Bool) → ltb (r .number) K ≡ e → lastDataIn k (ofFirst K h) ≡ lastDataIn k h → lastDataIn k (pick e (r ∷ ofFirst K h) (ofFirst K h)) ≡ lastDataIn k (r ∷ h)
+    on : (e : Bool) → ltb (r .number) K ≡ e → lastCommandIn k (ofFirst K h) ≡ lastCommandIn k h → lastCommandIn k (pick e (r ∷ ofFirst K h) (ofFirst K h)) ≡ lastCommandIn k (r ∷ h)
     on true e ih = rw ih
     on false e ih = rw (ne-eqb (r .number) k (λ p. omega (arith, ltb-false (r .number) K e))) ih

@@ -4,7 +4,7 @@ use Prim.Native.Nat.{ℕ, zero, suc, _+_, _*_, _≤_, _<_}
 use native.Mathlib.Omega.{arith}
 use mathlib.Core.Path.{_≡_, refl, sym, ap, _∙_}
 use mathlib.Core.Logic.{_⊎_, inl, inr, ⊎-elim}
-use mathlib.Core.Bool.{Bool, false, _&&_}
+use mathlib.Core.Bool.{Bool, true, false, _&&_}
 use mathlib.Core.Option.{some}
 use mathlib.Core.List.{List}
 use lib.Dec.{ltb}
@@ -18,14 +18,14 @@ use Rattle.rules.specs.Queues.{bankAt}
 use Rattle.rules.specs.Bound.{mostFromRd, mostFromWr, boundS, boundD}
 use Rattle.rules.proofs.Ranges.{Ranges}
 use Rattle.rules.proofs.Numbers.{from?}
-use Rattle.rules.proofs.Queue.{placeOf, actPlace, dataPlace, actBank}
+use Rattle.rules.proofs.Queue.{placeOf, actPlace, dataPlace, actBank, isActAt}
 use Rattle.rules.proofs.Fit.{Fit, bank-lt, bank-apart}
 use Rattle.rules.proofs.Heads.{dataOk}
-use Rattle.rules.proofs.Recent.{Upto, RdUp, WrUp, rd-map, wr-map}
+use Rattle.rules.proofs.Recent.{Upto, upto-up, RdUp, WrUp, rd-map, wr-map}
 use Rattle.rules.proofs.Base.{Base, base-up}
 use Rattle.rules.proofs.Due.{S-one, X-rd, X-wr, dueBy, due-X, due-act}
 
--- where a transaction stands: A0 ACTs and M0 data commands before it
+-- where a read or a write stands: A0 commands of the ACT queue and M0 data commands before it
 pub record Spot (τ : Table) (l : List Transaction) (A0 M0 : ℕ) (x : Transaction) : Type 0 where
   pub K : ℕ
   pub ok : Fit τ x
@@ -62,16 +62,19 @@ InTime τ F w s k =
     (s .cycle < byAct τ F k)
     ⊎ ((s .cycle ≡ byAct τ F k) × ((k ≡ 0) ⊎ Blocked τ w s))
 
--- data command r of bank j is next; F is the predecessor's finish
+-- data command r of bank j is next; the count started at F
 pub record Serving (τ : Table) (l : List Transaction) (A0 M0 : ℕ) (x : Transaction) (F : ℕ) (ta : ℕ → ℕ) (j r : ℕ) (s : State) : Type 0 where
   pub base : Base τ l (A0 + j) ta (s .cycle) s
   pub cnt : s .datas ≡ M0 + (j * x .bc + r)
   pub jIn : j < x .bi
   pub rIn : r < x .bc
   -- the ACTs of earlier transactions, of this one, and of those of its banks whose data commands have begun
-  pub old : (i : ℕ) → i < A0 → (ta i + τ .rcd ≤ F) × (ta i + τ .rcd ≤ s .cycle)
+  pub old : (i : ℕ) → i < A0 → isActAt l i ≡ true → (ta i + τ .rcd ≤ F) × (ta i + τ .rcd ≤ s .cycle)
   pub own : (i : ℕ) → i < x .bi → A0 + i < s .acts → ta (A0 + i) ≤ byAct τ F i
   pub begun : (i : ℕ) → i < j → ta (A0 + i) + τ .rcd ≤ s .cycle
+  -- the last REF lets an ACT go from F on, and did when the first of this transaction went
+  pub refreshF : Upto (τ .rfc) F (s .refresh)
+  pub refreshNow : (s .acts ≡ A0) ⊎ Upto (τ .rfc) (s .cycle) (s .refresh)
   -- every RD and WR lets the data command go when it is due
   pub rdDue : RdUp (mostFromRd τ (isWrite x)) (byData τ F x j r) s
   pub wrDue : WrUp (mostFromWr τ (isWrite x)) (byData τ F x j r) s
@@ -80,14 +83,16 @@ pub record Serving (τ : Table) (l : List Transaction) (A0 M0 : ℕ) (x : Transa
   pub actTime : (k : ℕ) → s .acts ≡ A0 + k → k < x .bi → InTime τ F (isWrite x) s k
   pub dataTime : s .cycle ≤ byData τ F x j r
 
--- between transactions: A ACTs and M data commands belong to those that are done, the last command went at c, and the next count starts at F
+-- between transactions: A commands of the ACT queue and M data commands belong to those that are done, the last command went at c, and the next count starts at F
 pub record Between (τ : Table) (l : List Transaction) (A M c F : ℕ) (ta : ℕ → ℕ) (s : State) : Type 0 where
   pub base : Base τ l A ta c s
   pub cnt : s .datas ≡ M
-  pub old : (i : ℕ) → i < A → ta i + τ .rcd ≤ c
+  pub old : (i : ℕ) → i < A → isActAt l i ≡ true → ta i + τ .rcd ≤ c
   pub cf : c ≤ F
   pub lo : c ≤ s .cycle
   pub hi : s .cycle ≤ F + 1
+  pub refreshF : Upto (τ .rfc) F (s .refresh)
+  pub refreshNow : (s .acts ≡ A) ⊎ Upto (τ .rfc) c (s .refresh)
 
 -- a count may start later
 pub between-later : (τ : Table) (l : List Transaction) (A M c F F' : ℕ) (ta : ℕ → ℕ) (s : State) → F ≤ F' → Between τ l A M c F ta s → Between τ l A M c F' ta s
@@ -99,6 +104,8 @@ between-later τ l A M c F F' ta s h q =
       cf = omega (arith, q .cf);
       lo = q .lo;
       hi = omega (arith, q .hi);
+      refreshF = upto-up (τ .rfc) F F' (s .refresh) h (q .refreshF);
+      refreshNow = q .refreshNow;
     }
 
 -- the next transaction begins
@@ -110,9 +117,11 @@ enter τ rng l A M x sp c F ta s q =
       cnt = omega (arith, q .cnt);
       jIn = sp .ok .oneI;
       rIn = sp .ok .one;
-      old = λ i k. (omega (arith, q .old i k, q .cf), omega (arith, q .old i k, q .lo));
+      old = λ i k a. (omega (arith, q .old i k a, q .cf), omega (arith, q .old i k a, q .lo));
       own = λ i k k'. omega (arith, q .base .now (A + i) k', q .cf);
       begun = λ i k. absurd (omega arith);
+      refreshF = q .refreshF;
+      refreshNow = ⊎-elim (λ y. inl y) (λ y. inr (upto-up (τ .rfc) c (s .cycle) (s .refresh) (q .lo) y)) (q .refreshNow);
       rdDue = rd-map 0 F (mostFromRd τ (isWrite x)) (byData τ F x 0 0) s (λ y k. omega (arith, due-X τ (x .bc) 0 0, X-rd τ (isWrite x))) (bF .recent .rds);
       wrDue = wr-map 0 F (mostFromWr τ (isWrite x)) (byData τ F x 0 0) s (λ y k. omega (arith, due-X τ (x .bc) 0 0, X-wr τ (isWrite x))) (bF .recent .wrs);
       unop = λ i k k'. ⊎-elim

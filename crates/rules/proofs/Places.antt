@@ -10,16 +10,21 @@ use lib.ListN.{length, getD, drop}
 use lib.Seq.{drop-set-lt, take-set-lt, getD-take}
 use Rattle.records.specs.declared.table.Table.{Table}
 use Rattle.records.specs.declared.transaction.Transaction.{Transaction}
+use Rattle.records.specs.declared.command.Kind.the-variants.{Act, Ref}
 use Rattle.records.specs.declared.command.Command.{Command}
 use Rattle.rules.specs.declared.state.Bank.{Bank}
 use Rattle.rules.specs.declared.state.State.{State}
-use Rattle.records.specs.Transaction.{isWrite}
-use Rattle.rules.specs.State.{shut, bankOf, breaksNone, bankAfter, after}
+use Rattle.records.specs.Tests.{pick, allOf, everyBelow}
+use Rattle.records.specs.Transaction.{isWrite, isRefresh}
+use Rattle.records.specs.Command.{command}
+use Rattle.rules.specs.State.{shut, bankOf, atRest, testsBy, breaksNone, bankAfter, after}
 use Rattle.rules.specs.CycleRule.{goes, push}
 use Rattle.rules.specs.Run.{stops, steps, Ran, oneMore, run}
 use Rattle.rules.specs.Promise.{SameTold}
+use Rattle.rules.specs.Queues.{bankAt, actCount}
 use Rattle.rules.proofs.TestLaws.{OnSome}
-use Rattle.rules.proofs.Queue.{Place, actCount, dataCount, actPlace, dataPlace, actDue, dataDue}
+use Rattle.rules.proofs.Below.{below-same}
+use Rattle.rules.proofs.Queue.{Place, dataCount, actPlace, dataPlace, actDue, dataDue}
 use Rattle.rules.proofs.Fit.{AllFit, Inside, place-at, act-bank, data-bank}
 use Rattle.rules.proofs.DataKinds.{rules-kind}
 use Rattle.rules.proofs.Heads.{dataFrom, actFrom, goes-place, goes-try}
@@ -61,7 +66,21 @@ module _ (τ : Table) (l : List Transaction) (v : AllFit τ l) where
 
     act-same : (o : Option Place) → OnSome (Inside τ actCount) o → actFrom (breaksNone τ s) τ (s .cycle) o ≡ actFrom (breaksNone τ u) τ (u .cycle) o
     act-same none h = refl
-    act-same (some p) h = rw (bank-same (actDue τ p .bank) (act-bank τ p h), q .a1, q .a4, q .cycle)
+    act-same (some p) h = on (isRefresh (p .transaction)) (act-bank τ p h)
+      where
+        b : ℕ
+        b = bankAt τ (p .transaction) (p .offset)
+
+        rests : everyBelow (τ .banks) (λ b. atRest τ (bankOf s b) (u .cycle)) ≡ everyBelow (τ .banks) (λ b. atRest τ (bankOf u b) (u .cycle))
+        rests = below-same (τ .banks) (λ b. atRest τ (bankOf s b) (u .cycle)) (λ b. atRest τ (bankOf u b) (u .cycle)) (λ b l. rw (bank-same b l))
+
+        from : (z : Bool) → State → Option Command
+        from z w =
+            pick (allOf (testsBy τ w (pick z Ref Act) (w .cycle) (pick z 0 b))) (some (command (w .cycle) (pick z Ref Act) (pick z 0 b) (p .number))) none
+
+        on : (z : Bool) → pick z 0 b < τ .banks → from z s ≡ from z u
+        on true l = rw (q .refresh, q .cycle, rests)
+        on false l = rw (bank-same b l, q .a1, q .a4, q .refresh, q .cycle)
 
     data-same : (o : Option Place) → OnSome (Inside τ dataCount) o
         → dataFrom (breaksNone τ s) τ (s .cycle) (s .acts) o ≡ dataFrom (breaksNone τ u) τ (u .cycle) (u .acts) o
@@ -104,6 +123,7 @@ module _ (τ : Table) (l : List Transaction) (v : AllFit τ l) where
           a4 = q .a4;
           rd = q .rd;
           wr = q .wr;
+          refresh = q .refresh;
         }
     after-alike (some c) k =
         record {
@@ -122,6 +142,7 @@ module _ (τ : Table) (l : List Transaction) (v : AllFit τ l) where
           a4 = rw (q .a3, q .a4);
           rd = rw (q .rd);
           wr = rw (q .wr);
+          refresh = rw (q .refresh);
         }
 
   -- states that differ only there give the same commands and cycles, and again such states

@@ -16,13 +16,13 @@ use Rattle.records.specs.declared.command.Command.{Command}
 use Rattle.rules.specs.declared.state.Stamp.the-variants.{At}
 use Rattle.records.specs.Tests.{pick, every}
 use Rattle.records.specs.Table.{Accepted}
-use Rattle.records.specs.Transaction.{isWrite, fits, listFits}
-use Rattle.rules.specs.Kinds.{isData}
+use Rattle.records.specs.Transaction.{isWrite, isRefresh, fits, listFits}
+use Rattle.rules.specs.Kinds.{canEnd}
 use Rattle.rules.specs.Pattern.{onto}
 use Rattle.rules.specs.CycleRule.{gone, Built}
-use Rattle.rules.specs.Bound.{bound, span, startAt}
-use Rattle.rules.specs.Finish.{lastDataIn, lastData, finishOf, finish, mapStamp}
-use Rattle.rules.specs.Promise.{ofFirst, cycleOf, lastDataCycle, finishCycle, Kept, RunsKept}
+use Rattle.rules.specs.Bound.{span, startAt}
+use Rattle.rules.specs.Finish.{lastCommandIn, lastCommand, finishOf, countFrom, finish, mapStamp}
+use Rattle.rules.specs.Promise.{ofFirst, cycleOf, lastCommandCycle, finishCycle, Kept, RunsKept}
 use Rattle.rules.proofs.TestLaws.{and-both, and-fst, and-snd}
 use Rattle.rules.proofs.Ranges.{ranges}
 use Rattle.rules.proofs.Finishes.{nth, Finishes}
@@ -51,25 +51,26 @@ front-fits τ xs ys e =
     and-both (leb (length xs) 256) (every (fits τ) xs) (le-leb (length xs) 256 (omega (arith, h, length-append xs ys)))
     (every-front (fits τ) xs ys (and-snd (leb (length (xs ++ ys)) 256) (every (fits τ) (xs ++ ys)) e))
 
--- what a later last data command does to the finish
+-- what a later last command does to the finish
 later : (τ : Table) (x : Transaction) (c d : ℕ) → c ≤ d → finishOf τ x c ≤ finishOf τ x d
-later τ x c d h = on (isWrite x)
+later τ x c d h = on (isRefresh x) (isWrite x)
   where
-    on : (w : Bool) → pick w c (c + τ .rl + τ .b) ≤ pick w d (d + τ .rl + τ .b)
-    on true = h
-    on false = omega arith
+    on : (f w : Bool) → pick f (c + τ .rfc) (pick w c (c + τ .rl + τ .b)) ≤ pick f (d + τ .rfc) (pick w d (d + τ .rl + τ .b))
+    on true w = omega arith
+    on false true = h
+    on false false = omega arith
 
--- where all commands go early, the last data commands do
+-- where all commands go early, the last commands do
 every-onto : (f : Command → Bool) (rs h : List Command) → every f rs ≡ true → every f h ≡ true → every f (onto rs h) ≡ true
 every-onto f [] h e g = g
 every-onto f (r ∷ rs) h e g =
     every-onto f rs (r ∷ h) (and-snd (f r) (every f rs) e) (and-both (f r) (every f h) (and-fst (f r) (every f rs) e) g)
 
-early-last : (k : ℕ) (h : List Command) → every (λ r. ltb (r .cycle) 100000000) h ≡ true → cycleOf (lastDataIn k h) < 100000000
+early-last : (k : ℕ) (h : List Command) → every (λ r. ltb (r .cycle) 100000000) h ≡ true → cycleOf (lastCommandIn k h) < 100000000
 early-last k [] e = omega arith
-early-last k (r ∷ h) e = on (eqb (r .number) k && isData (r .kind)) (early-last k h (and-snd (ltb (r .cycle) 100000000) (every (λ r. ltb (r .cycle) 100000000) h) e))
+early-last k (r ∷ h) e = on (eqb (r .number) k && canEnd (r .kind)) (early-last k h (and-snd (ltb (r .cycle) 100000000) (every (λ r. ltb (r .cycle) 100000000) h) e))
   where
-    on : (b : Bool) → cycleOf (lastDataIn k h) < 100000000 → cycleOf (pick b (At (r .cycle)) (lastDataIn k h)) < 100000000
+    on : (b : Bool) → cycleOf (lastCommandIn k h) < 100000000 → cycleOf (pick b (At (r .cycle)) (lastCommandIn k h)) < 100000000
     on true i = ltb-true (r .cycle) 100000000 (and-fst (ltb (r .cycle) 100000000) (every (λ r. ltb (r .cycle) 100000000) h) e)
     on false i = i
 
@@ -78,44 +79,50 @@ module _ (τ : Table) (acc : Accepted τ) where
     abbrev fin : (last : ℕ → ℕ) × (start : ℕ → ℕ) × Finishes τ l (length l) last start (onto rs [])
     fin = built-bound τ acc l fit rs b
 
-    last-is : (k : ℕ) → k < length l → lastData k rs ≡ At (lastDataCycle k rs)
+    last-is : (k : ℕ) → k < length l → lastCommand k rs ≡ At (lastCommandCycle k rs)
     last-is k z = let e = fin .2 .got k z in e ∙ ap At (sym (ap cycleOf e))
 
-    -- a last data command is within its bound after where its count started
-    within-bound : (k : ℕ) (x : Transaction) → getElem? l k ≡ some x → lastDataCycle k rs ≤ fin .1 k + bound τ (x .bi) (x .bc)
+    -- a last command is within its span after where its count started
+    within-span : (k : ℕ) (x : Transaction) → getElem? l k ≡ some x → lastCommandCycle k rs ≤ fin .1 k + span τ x
     unfolding startAt
-    within-bound k x e =
+    within-span k x e =
         let a = at-number l k x e in
         let n : fin .0 k ≤ fin .1 k + span τ x = rw (a .0) at (fin .2 .near k (a .1)) in
         omega (arith, ap cycleOf (fin .2 .got k (a .1)), n)
 
-    first-in : (x : Transaction) → getElem? l 0 ≡ some x → lastDataCycle 0 rs ≤ bound τ (x .bi) (x .bc)
-    first-in x e = omega (arith, within-bound 0 x e, fin .2 .zeroth)
+    first-in : (x : Transaction) → getElem? l 0 ≡ some x → lastCommandCycle 0 rs ≤ span τ x
+    first-in x e = omega (arith, within-span 0 x e, fin .2 .zeroth)
 
-    next-in : (k : ℕ) (x : Transaction) → getElem? l (suc k) ≡ some x → lastDataCycle (suc k) rs ≤ lastDataCycle k rs + bound τ (x .bi) (x .bc)
-    next-in k x e =
-        let z : k < length l = omega (arith, at-number l (suc k) x e .1) in
-        omega (arith, within-bound (suc k) x e, ap cycleOf (fin .2 .got k z), fin .2 .next k z, ap (fin .1) (add-one k))
+    next-in : (k : ℕ) (w x : Transaction) → getElem? l k ≡ some w → getElem? l (suc k) ≡ some x
+        → lastCommandCycle (suc k) rs ≤ countFrom τ w (lastCommandCycle k rs) + span τ x
+    next-in k w x d e = omega (arith, within-span (suc k) x e, counted)
+      where
+        counted : fin .1 (suc k) ≡ countFrom τ w (lastCommandCycle k rs)
+        counted =
+            let a = at-number l k w d in
+            ap (fin .1) (sym (add-one k))
+            ∙ (fin .2 .next k (a .1) ∙ (ap (λ (y : Transaction). countFrom τ y (fin .0 k)) (a .0) ∙ ap (countFrom τ w) (sym (ap cycleOf (fin .2 .got k (a .1))))))
 
-    -- a transaction finishes no later than if its last data command went at the limit
-    finish-at : (k : ℕ) (x : Transaction) → getElem? l k ≡ some x → finish τ x k rs ≡ At (finishOf τ x (lastDataCycle k rs))
+    -- a transaction finishes no later than if its last command went at the limit
+    finish-at : (k : ℕ) (x : Transaction) → getElem? l k ≡ some x → finish τ x k rs ≡ At (finishOf τ x (lastCommandCycle k rs))
     finish-at k x e = ap (mapStamp (finishOf τ x)) (last-is k (at-number l k x e .1))
 
-    finish-by : (k m : ℕ) (x : Transaction) → getElem? l k ≡ some x → lastDataCycle k rs ≤ m → finishCycle τ x k rs ≤ finishOf τ x m
-    finish-by k m x e h = rw (finish-at k x e) (later τ x (lastDataCycle k rs) m h)
+    finish-by : (k m : ℕ) (x : Transaction) → getElem? l k ≡ some x → lastCommandCycle k rs ≤ m → finishCycle τ x k rs ≤ finishOf τ x m
+    finish-by k m x e h = rw (finish-at k x e) (later τ x (lastCommandCycle k rs) m h)
 
-    last-early : (k : ℕ) → lastDataCycle k rs < 100000000
+    last-early : (k : ℕ) → lastCommandCycle k rs < 100000000
     last-early k = early-last k (onto rs []) (every-onto (λ r. ltb (r .cycle) 100000000) rs [] (built-early τ acc l fit rs b) refl)
 
     finish-fits : (k : ℕ) (x : Transaction) → getElem? l k ≡ some x → finishCycle τ x k rs < 4294967296
     finish-fits k x e =
         let r = ranges τ acc in
-        let z : finishOf τ x 99999999 ≤ 99999999 + τ .rl + τ .b = by-type (isWrite x) in
-        omega (arith, finish-by k 99999999 x e (omega (arith, last-early k)), z, r .rl .most, r .b .most)
+        let z : finishOf τ x 99999999 ≤ 99999999 + τ .rl + τ .b + τ .rfc = by-type (isRefresh x) (isWrite x) in
+        omega (arith, finish-by k 99999999 x e (omega (arith, last-early k)), z, r .rl .most, r .b .most, r .rfc)
       where
-        by-type : (w : Bool) → pick w 99999999 (99999999 + τ .rl + τ .b) ≤ 99999999 + τ .rl + τ .b
-        by-type true = omega arith
-        by-type false = omega arith
+        by-type : (f w : Bool) → pick f (99999999 + τ .rfc) (pick w 99999999 (99999999 + τ .rl + τ .b)) ≤ 99999999 + τ .rl + τ .b + τ .rfc
+        by-type true w = omega arith
+        by-type false true = omega arith
+        by-type false false = omega arith
 
   -- transactions added at the end move no command of the earlier ones
   module _ (xs ys : List Transaction) (fit : listFits τ (xs ++ ys) ≡ true) where
@@ -147,11 +154,11 @@ module _ (τ : Table) (acc : Accepted τ) where
         firstIn = first-in l fit rs b;
         nextIn = next-in l fit rs b;
         finishAt = finish-at l fit rs b;
-        firstFinish = λ x e. finish-by l fit rs b 0 (bound τ (x .bi) (x .bc)) x e (first-in l fit rs b x e);
-        nextFinish = λ k x e. finish-by l fit rs b (suc k) (lastDataCycle k rs + bound τ (x .bi) (x .bc)) x e (next-in l fit rs b k x e);
+        firstFinish = λ x e. finish-by l fit rs b 0 (span τ x) x e (first-in l fit rs b x e);
+        nextFinish = λ k w x d e. finish-by l fit rs b (suc k) (countFrom τ w (lastCommandCycle k rs) + span τ x) x e (next-in l fit rs b k w x d e);
         finishFits = finish-fits l fit rs b;
         unmoved = λ xs ys e. unmoved xs ys (subst (λ (y : List Transaction). listFits τ y ≡ true) e fit) rs (subst (λ (y : List Transaction). Built τ y rs) e b);
-        sameFinish = λ xs ys e k z. ap (lastDataIn k) (sym (first-onto (length xs) rs [])) ∙ last-first k (length xs) z (onto rs []);
+        sameFinish = λ xs ys e k z. ap (lastCommandIn k) (sym (first-onto (length xs) rs [])) ∙ last-first k (length xs) z (onto rs []);
         early = built-early τ acc l fit rs b;
         lastEarly = last-early l fit rs b;
         running = λ n e. (run-built τ acc l fit rs b n e, run-reports τ acc l fit rs b n e);

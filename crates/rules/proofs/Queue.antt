@@ -5,7 +5,7 @@ use native.Mathlib.Omega.{arith}
 use native.Mathlib.Nat.{zero-add, div-eq-of-lt, mod-eq-of-lt, mod-eq-sub-mod, div-eq-sub-div, mod-lt}
 use mathlib.Core.Path.{_≡_, refl, ap, _∙_}
 use mathlib.Core.Logic.{⊎-elim}
-use mathlib.Core.Bool.{Bool, true, false}
+use mathlib.Core.Bool.{Bool, true, false, not}
 use mathlib.Core.Option.{Option, none, some, Option·map}
 use mathlib.Core.List.{List, [], _∷_, _++_}
 use lib.Dec.{ltb, eqb}
@@ -13,34 +13,30 @@ use lib.ListN.{length, getElem?, length-append}
 use borrow.Author.Tests.{ltb-true, ltb-false, lt-ltb, le-ltb}
 use Rattle.records.specs.declared.table.Table.{Table}
 use Rattle.records.specs.declared.transaction.Transaction.{Transaction}
-use Rattle.records.specs.declared.command.Kind.the-variants.{Act}
 use Rattle.records.specs.Tests.{pick}
-use Rattle.records.specs.Transaction.{isWrite}
-use Rattle.rules.specs.Queues.{Due, bankAt, dataKind, numbered, joined, actsOf, burstsOf, datasOf, queueFrom, actQueue, dataQueue, headAfter}
+use Rattle.records.specs.Transaction.{isWrite, isRefresh}
+use Rattle.rules.specs.Queues.{Due, bankAt, dataKind, numbered, joined, actCount, actKind, actBankAt, actsOf, burstsOf, datasOf, queueFrom, actQueue, dataQueue, headAfter}
 use Rattle.rules.proofs.TestLaws.{OnSome, on-pick, on-map}
 use Rattle.rules.proofs.Numbers.{from?}
 
--- a place in a queue: the transaction, its number, the place in it, and the number of ACTs before it
+-- a place in a queue: the transaction, its number, the place in it, and the number of commands before it in the ACT queue
 pub record Place : Type 0 where
   pub number : ℕ
   pub transaction : Transaction
   pub offset : ℕ
   pub before : ℕ
 
--- how many commands a transaction puts into the ACT queue and into the data queue
-abbrev pub actCount : Transaction → ℕ
-actCount x = x .bi
-
+-- how many commands a transaction puts into the data queue
 abbrev pub dataCount : Transaction → ℕ
 dataCount x = x .bi * x .bc
 
 abbrev pub placeOf : Transaction → ℕ → ℕ → ℕ → Place
 placeOf x i a n = record { number = i; transaction = x; offset = n; before = a }
 
--- the n-th place of a queue into which each transaction puts f commands, from transaction i on, before which a ACTs stand
+-- the n-th place of a queue into which each transaction puts f commands, from transaction i on, before which a commands stand in the ACT queue
 abbrev pub find : (Transaction → ℕ) → List Transaction → ℕ → ℕ → ℕ → Option Place
 find f [] i a n = none
-find f (x ∷ xs) i a n = pick (ltb n (f x)) (some (placeOf x i a n)) (find f xs (suc i) (a + x .bi) (n - f x))
+find f (x ∷ xs) i a n = pick (ltb n (f x)) (some (placeOf x i a n)) (find f xs (suc i) (a + actCount x) (n - f x))
 
 abbrev pub actPlace : List Transaction → ℕ → Option Place
 actPlace l n = find actCount l 0 0 n
@@ -50,7 +46,8 @@ dataPlace l n = find dataCount l 0 0 n
 
 -- what stands there
 abbrev pub actDue : Table → Place → Due
-actDue τ p = record { kind = Act; bank = bankAt τ (p .transaction) (p .offset); number = p .number; act = p .before + p .offset }
+actDue τ p =
+    record { kind = actKind (p .transaction); bank = actBankAt τ (p .transaction) (p .offset); number = p .number; act = p .before + p .offset }
 
 abbrev pub dataDue : Table → Place → Due
 dataDue τ p =
@@ -61,13 +58,20 @@ dataDue τ p =
       act = p .before + p .offset / p .transaction .bc;
     }
 
--- the bank of the n-th ACT of the queue
+-- the bank of the n-th command of the ACT queue, and that it is an ACT
 abbrev pub bankOfPlace : Table → Option Place → ℕ
 bankOfPlace τ none = 0
 bankOfPlace τ (some p) = actDue τ p .bank
 
 abbrev pub actBank : Table → List Transaction → ℕ → ℕ
 actBank τ l n = bankOfPlace τ (actPlace l n)
+
+abbrev pub actOfPlace : Option Place → Bool
+actOfPlace none = false
+actOfPlace (some p) = not (isRefresh (p .transaction))
+
+abbrev pub isActAt : List Transaction → ℕ → Bool
+isActAt l n = actOfPlace (actPlace l n)
 
 -- what the transactions put into a queue together
 abbrev pub sum : (Transaction → ℕ) → List Transaction → ℕ
@@ -134,32 +138,32 @@ module _ (f : Transaction → ℕ → ℕ → List Due) (cnt : Transaction → �
     (place : (x : Transaction) (i a n : ℕ) → n < cnt x → getElem? (f x i a) n ≡ some (d (placeOf x i a n))) where
   queue-at : (l : List Transaction) (i a n : ℕ) → getElem? (queueFrom f l i a) n ≡ Option·map d (find cnt l i a n)
   queue-at [] i a n = refl
-  queue-at (x ∷ l) i a n = on (ltb n (cnt x)) refl (queue-at l (suc i) (a + x .bi) (n - cnt x))
+  queue-at (x ∷ l) i a n = on (ltb n (cnt x)) refl (queue-at l (suc i) (a + actCount x) (n - cnt x))
     where
       on : (e : Bool) → ltb n (cnt x) ≡ e
-          → getElem? (queueFrom f l (suc i) (a + x .bi)) (n - cnt x) ≡ Option·map d (find cnt l (suc i) (a + x .bi) (n - cnt x))
-          → getElem? (f x i a ++ queueFrom f l (suc i) (a + x .bi)) n
-          ≡ Option·map d (pick e (some (placeOf x i a n)) (find cnt l (suc i) (a + x .bi) (n - cnt x)))
+          → getElem? (queueFrom f l (suc i) (a + actCount x)) (n - cnt x) ≡ Option·map d (find cnt l (suc i) (a + actCount x) (n - cnt x))
+          → getElem? (f x i a ++ queueFrom f l (suc i) (a + actCount x)) n
+          ≡ Option·map d (pick e (some (placeOf x i a n)) (find cnt l (suc i) (a + actCount x) (n - cnt x)))
       on true e ih =
           let h : n < cnt x = ltb-true n (cnt x) e in
-          get-left (f x i a) (queueFrom f l (suc i) (a + x .bi)) n (omega (arith, size x i a)) ∙ place x i a n h
+          get-left (f x i a) (queueFrom f l (suc i) (a + actCount x)) n (omega (arith, size x i a)) ∙ place x i a n h
       on false e ih =
-          get-right (f x i a) (queueFrom f l (suc i) (a + x .bi)) n (omega (arith, size x i a, ltb-false n (cnt x) e))
-          ∙ (ap (λ (y : ℕ). getElem? (queueFrom f l (suc i) (a + x .bi)) (n - y)) (size x i a) ∙ ih)
+          get-right (f x i a) (queueFrom f l (suc i) (a + actCount x)) n (omega (arith, size x i a, ltb-false n (cnt x) e))
+          ∙ (ap (λ (y : ℕ). getElem? (queueFrom f l (suc i) (a + actCount x)) (n - y)) (size x i a) ∙ ih)
 
   queue-length : (l : List Transaction) (i a : ℕ) → length (queueFrom f l i a) ≡ sum cnt l
   queue-length [] i a = refl
   queue-length (x ∷ l) i a =
-      length-append (f x i a) (queueFrom f l (suc i) (a + x .bi)) ∙ omega (arith, size x i a, queue-length l (suc i) (a + x .bi))
+      length-append (f x i a) (queueFrom f l (suc i) (a + actCount x)) ∙ omega (arith, size x i a, queue-length l (suc i) (a + actCount x))
 
 -- the two queues, by their places
 module _ (τ : Table) where
   act-size : (x : Transaction) (i a : ℕ) → length (actsOf τ x i a) ≡ actCount x
-  act-size x i a = numbered-length (λ k. record { kind = Act; bank = bankAt τ x k; number = i; act = a + k }) (x .bi) 0
+  act-size x i a = numbered-length (λ k. record { kind = actKind x; bank = actBankAt τ x k; number = i; act = a + k }) (actCount x) 0
 
   act-place : (x : Transaction) (i a n : ℕ) → n < actCount x → getElem? (actsOf τ x i a) n ≡ some (actDue τ (placeOf x i a n))
   act-place x i a n h =
-      numbered-at (λ k. record { kind = Act; bank = bankAt τ x k; number = i; act = a + k }) (x .bi) 0 n h
+      numbered-at (λ k. record { kind = actKind x; bank = actBankAt τ x k; number = i; act = a + k }) (actCount x) 0 n h
       ∙ ap (λ (k : ℕ). some (actDue τ (placeOf x i a k))) (zero-add n)
 
   burst-size : (x : Transaction) (i a k : ℕ) → length (burstsOf τ x i a k) ≡ x .bc
@@ -208,9 +212,9 @@ module _ (f : Transaction → ℕ) where
       let e : 0 + m ≡ m = omega arith in let e' : a + 0 ≡ a = omega arith in let e'' : i + 0 ≡ i = omega arith in rw (e, e', e'', lt-ltb m (f x) h)
   find-own x rest (y ∷ p) i a m h =
       let e : f y + sum f p + m - f y ≡ sum f p + m = omega arith in
-      let e' : a + (y .bi + actSum p) ≡ a + y .bi + actSum p = omega arith in
+      let e' : a + (actCount y + actSum p) ≡ a + actCount y + actSum p = omega arith in
       let e'' : i + suc (length p) ≡ suc i + length p = omega arith in
-      rw (le-ltb (f y + sum f p + m) (f y) (omega arith), e, e', e'') (find-own x rest p (suc i) (a + y .bi) m h)
+      rw (le-ltb (f y + sum f p + m) (f y) (omega arith), e, e', e'') (find-own x rest p (suc i) (a + actCount y) m h)
 
   pub at-own : (x : Transaction) (rest p : List Transaction) (m : ℕ) → m < f x
       → find f (p ++ x ∷ rest) 0 0 (sum f p + m) ≡ some (placeOf x (length p) (actSum p) m)
@@ -221,15 +225,15 @@ module _ (f : Transaction → ℕ) where
   pub find-lt : (l : List Transaction) (i a n : ℕ) → OnSome (λ p. n < sum f l) (find f l i a n)
   find-lt [] i a n = tt
   find-lt (x ∷ xs) i a n =
-      on-pick (λ p. n < f x + sum f xs) (ltb n (f x)) (placeOf x i a n) (find f xs (suc i) (a + x .bi) (n - f x))
+      on-pick (λ p. n < f x + sum f xs) (ltb n (f x)) (placeOf x i a n) (find f xs (suc i) (a + actCount x) (n - f x))
       (λ e. omega (arith, ltb-true n (f x) e))
       (λ e. let g : f x ≤ n = ltb-false n (f x) e in
-      on-map {P = λ p. n - f x < sum f xs} {Q = λ p. n < f x + sum f xs} (find f xs (suc i) (a + x .bi) (n - f x)) (λ p h. omega arith)
-      (find-lt xs (suc i) (a + x .bi) (n - f x)))
+      on-map {P = λ p. n - f x < sum f xs} {Q = λ p. n < f x + sum f xs} (find f xs (suc i) (a + actCount x) (n - f x)) (λ p h. omega arith)
+      (find-lt xs (suc i) (a + actCount x) (n - f x)))
 
   pub find-end : (l : List Transaction) (i a n : ℕ) → sum f l ≤ n → find f l i a n ≡ none
   find-end [] i a n h = refl
-  find-end (x ∷ xs) i a n h = rw (le-ltb n (f x) (omega arith)) (find-end xs (suc i) (a + x .bi) (n - f x) (omega arith))
+  find-end (x ∷ xs) i a n h = rw (le-ltb n (f x) (omega arith)) (find-end xs (suc i) (a + actCount x) (n - f x) (omega arith))
 
   pub sum-append : (p q : List Transaction) → sum f (p ++ q) ≡ sum f p + sum f q
   sum-append [] q = omega arith

@@ -4,7 +4,7 @@ use Prim.Native.Nat.{ℕ, _≤_}
 use mathlib.Core.Path.{_≡_}
 use mathlib.Core.Bool.{Bool, true}
 use mathlib.Core.List.{List, [], _∷_}
-use lib.Dec.{leb, eqb}
+use lib.Dec.{leb}
 use lib.ListN.{getD, getElem?}
 use borrow.Author.Tests.{leb-true}
 use Rattle.records.specs.Tests.{within, every}
@@ -20,19 +20,20 @@ pub record Ranges (τ : Table) : Type 0 where
   pub banks : Within 1 16 (τ .banks)
   pub two : 2 ≤ τ .ccd
   pub burst : τ .b ≤ τ .ccd
-  pub b : Within 1 255 (τ .b)
-  pub ccd : Within 1 255 (τ .ccd)
-  pub rcd : Within 1 255 (τ .rcd)
-  pub rp : Within 1 255 (τ .rp)
-  pub ras : Within 1 255 (τ .ras)
-  pub rc : Within 1 255 (τ .rc)
-  pub rrd : Within 1 255 (τ .rrd)
-  pub faw : Within 1 255 (τ .faw)
-  pub rl : Within 1 255 (τ .rl)
-  pub wl : Within 1 255 (τ .wl)
-  pub rtp : Within 1 255 (τ .rtp)
-  pub wr : Within 1 255 (τ .wr)
-  pub wtr : Within 1 255 (τ .wtr)
+  pub b : Within 1 1023 (τ .b)
+  pub ccd : Within 1 1023 (τ .ccd)
+  pub rcd : Within 1 1023 (τ .rcd)
+  pub rp : Within 1 1023 (τ .rp)
+  pub ras : Within 1 1023 (τ .ras)
+  pub rc : Within 1 1023 (τ .rc)
+  pub rrd : Within 1 1023 (τ .rrd)
+  pub faw : Within 1 1023 (τ .faw)
+  pub rl : Within 1 1023 (τ .rl)
+  pub wl : Within 1 1023 (τ .wl)
+  pub rtp : Within 1 1023 (τ .rtp)
+  pub wr : Within 1 1023 (τ .wr)
+  pub wtr : Within 1 1023 (τ .wtr)
+  pub rfc : τ .rfc ≤ 1023
 
 pub is-within : (lo hi x : ℕ) → within lo hi x ≡ true → Within lo hi x
 is-within lo hi x e =
@@ -40,21 +41,21 @@ is-within lo hi x e =
 
 -- the tests of a table before that of its timing numbers
 abbrev firstTests : Table → List Bool
-firstTests τ = eqb (τ .last) 0 ∷ within 1 65535 (τ .edition) ∷ within 1 16 (τ .banks) ∷ leb 2 (τ .ccd) ∷ leb (τ .b) (τ .ccd) ∷ []
+firstTests τ = within 1 65535 (τ .edition) ∷ within 1 16 (τ .banks) ∷ leb 2 (τ .ccd) ∷ leb (τ .b) (τ .ccd) ∷ leb (τ .rfc) 1023 ∷ []
 
 module _ (τ : Table) (e : Accepted τ) where
-  test : (i : ℕ) → getD (firstTests τ) i (every (within 1 255) (timings τ)) ≡ true
-  test i = and-at (firstTests τ) (every (within 1 255) (timings τ)) i e
+  test : (i : ℕ) → getD (firstTests τ) i (every (within 1 1023) (timings τ)) ≡ true
+  test i = and-at (firstTests τ) (every (within 1 1023) (timings τ)) i e
 
-  timing : (i : ℕ) → OnSome (Within 1 255) (getElem? (timings τ) i)
-  timing i = on-map (getElem? (timings τ) i) (is-within 1 255) (every-at (within 1 255) (timings τ) i (test 5))
+  timing : (i : ℕ) → OnSome (Within 1 1023) (getElem? (timings τ) i)
+  timing i = on-map (getElem? (timings τ) i) (is-within 1 1023) (every-at (within 1 1023) (timings τ) i (test 5))
 
   pub ranges : Ranges τ
   ranges =
       record {
-        banks = is-within 1 16 (τ .banks) (test 2);
-        two = leb-true 2 (τ .ccd) (test 3);
-        burst = leb-true (τ .b) (τ .ccd) (test 4);
+        banks = is-within 1 16 (τ .banks) (test 1);
+        two = leb-true 2 (τ .ccd) (test 2);
+        burst = leb-true (τ .b) (τ .ccd) (test 3);
         b = timing 0;
         ccd = timing 1;
         rcd = timing 2;
@@ -68,4 +69,5 @@ module _ (τ : Table) (e : Accepted τ) where
         rtp = timing 10;
         wr = timing 11;
         wtr = timing 12;
+        rfc = leb-true (τ .rfc) 1023 (test 4);
       }

@@ -6,9 +6,9 @@ use mathlib.Core.Path.{_≡_, refl}
 use mathlib.Core.Logic.{_≢_}
 use mathlib.Core.Bool.{Bool, true, false, and-false}
 use lib.Dec.{leb, eqb}
-use borrow.Author.Tests.{le-leb, lt-leb, eq-eqb, ne-eqb}
+use borrow.Author.Tests.{le-leb, lt-leb, leb-true, eq-eqb, ne-eqb}
 use Rattle.records.specs.declared.table.Table.{Table}
-use Rattle.records.specs.declared.command.Kind.the-variants.{Act}
+use Rattle.records.specs.declared.command.Kind.the-variants.{Act, Ref}
 use Rattle.rules.specs.declared.state.Stamp.{Stamp}
 use Rattle.rules.specs.declared.state.Stamp.the-variants.{Never, At}
 use Rattle.rules.specs.declared.state.State.{State}
@@ -32,6 +32,10 @@ upto-map d c d' c' (At x) f q = f x q
 
 pub upto-up : (d c c' : ℕ) (s : Stamp) → c ≤ c' → Upto d c s → Upto d c' s
 upto-up d c c' s h q = upto-map d c d c' s (λ x k. omega arith) q
+
+pub past-upto : (d t : ℕ) (s : Stamp) → past s d t ≡ true → Upto d t s
+past-upto d t Never e = tt
+past-upto d t (At x) e = leb-true (x + d) t e
 
 pub upto-past : (d t : ℕ) (s : Stamp) → Upto d t s → past s d t ≡ true
 upto-past d t Never q = refl
@@ -58,6 +62,10 @@ ext-other ta n t i h = rw (ne-eqb i n h)
 back-next : (A A' : ℕ → ℕ → Type 0) (a j : ℕ) (s : Stamp) → ((i x : ℕ) → i < a → A i x → A' i x) → Back A a j s → Back A' (a + 1) (j + 1) s
 back-next A A' a j Never f q = tt
 back-next A A' a j (At x) f q = (q .0, omega (arith, q .1), f (q .0) x (omega (arith, q .1)) (q .2))
+
+back-still : (A A' : ℕ → ℕ → Type 0) (a j : ℕ) (s : Stamp) → ((i x : ℕ) → i < a → A i x → A' i x) → Back A a j s → Back A' (a + 1) j s
+back-still A A' a j Never f q = tt
+back-still A A' a j (At x) f q = (q .0, omega (arith, q .1), f (q .0) x (omega (arith, q .1)) (q .2))
 
 -- every RD kept (every WR kept), with d added, is at most c
 abbrev pub RdUp : ℕ → ℕ → State → Type 0
@@ -129,6 +137,18 @@ module _ (τ : Table) where
             back2 = back-next A A' a 0 (s .a1) f (q .back1);
             back3 = back-next A A' a 1 (s .a2) f (q .back2);
             back4 = back-next A A' a 2 (s .a3) f (q .back3);
+            rds = rd-map 0 c 0 t s (λ x k. omega arith) (q .rds);
+            wrs = wr-map 0 c 0 t s (λ x k. omega arith) (q .wrs);
+          }
+
+      -- a REF takes a number and no stamp
+      pub recent-ref : (b : ℕ) → Recent τ A' (a + 1) t (note s t Ref b)
+      recent-ref b =
+          record {
+            back1 = back-still A A' a 0 (s .a1) f (q .back1);
+            back2 = back-still A A' a 1 (s .a2) f (q .back2);
+            back3 = back-still A A' a 2 (s .a3) f (q .back3);
+            back4 = back-still A A' a 3 (s .a4) f (q .back4);
             rds = rd-map 0 c 0 t s (λ x k. omega arith) (q .rds);
             wrs = wr-map 0 c 0 t s (λ x k. omega arith) (q .wrs);
           }

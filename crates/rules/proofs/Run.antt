@@ -5,43 +5,43 @@ use native.Mathlib.Omega.{arith}
 use native.Mathlib.Nat.{mul-add-div-right, mul-add-mod-self-right, div-eq-of-lt, mod-eq-of-lt, mul-le-mul-right}
 use mathlib.Core.Path.{_≡_, refl, sym, ap, _∙_, subst}
 use mathlib.Core.Logic.{_≢_, _⊎_, inl, inr}
-use mathlib.Core.Bool.{Bool, true, false}
+use mathlib.Core.Bool.{Bool, true, false, not}
 use mathlib.Core.Option.{Option, none, some}
 use mathlib.Core.List.{List}
 use lib.Dec.{eqb}
 use borrow.Author.Tests.{eqb-true, eqb-false}
 use Rattle.records.specs.declared.table.Table.{Table}
 use Rattle.records.specs.declared.transaction.Transaction.{Transaction}
-use Rattle.records.specs.declared.command.Kind.the-variants.{Act}
+use Rattle.records.specs.declared.command.Kind.the-variants.{Act, Ref}
 use Rattle.records.specs.declared.command.Command.{Command}
 use Rattle.rules.specs.declared.state.State.{State}
-use Rattle.records.specs.Tests.{pick}
-use Rattle.records.specs.Transaction.{isWrite}
+use Rattle.records.specs.Tests.{pick, allOf}
+use Rattle.records.specs.Transaction.{isWrite, isRefresh}
 use Rattle.records.specs.Command.{command}
-use Rattle.rules.specs.Kinds.{isData}
-use Rattle.rules.specs.State.{breaksNone, note, after}
-use Rattle.rules.specs.Queues.{dueAt, bankAt, dataKind}
+use Rattle.rules.specs.Kinds.{canEnd}
+use Rattle.rules.specs.State.{testsBy, breaksNone, note, after}
+use Rattle.rules.specs.Queues.{bankAt, dataKind, actCount}
 use Rattle.rules.specs.CycleRule.{otherwise, goes}
 use Rattle.rules.specs.Bound.{span}
 use Rattle.rules.proofs.TestLaws.{true-false, OnSome}
 use Rattle.rules.proofs.Ranges.{Ranges}
 use Rattle.rules.proofs.Numbers.{from?}
-use Rattle.rules.proofs.Queue.{Place, actCount, placeOf, actPlace, dataPlace, actDue, bankOfPlace, actBank}
+use Rattle.rules.proofs.Queue.{Place, placeOf, actPlace, dataPlace, bankOfPlace, actBank, actOfPlace, isActAt}
 use Rattle.rules.proofs.Fit.{AllFit, Inside, place-at, act-bank}
-use Rattle.rules.proofs.DataKinds.{is-data, rules-kind}
-use Rattle.rules.proofs.Heads.{dataFrom, actFrom, tryAct, goes-try, actOk}
+use Rattle.rules.proofs.DataKinds.{can-end, rules-kind}
+use Rattle.rules.proofs.Heads.{dataFrom, actFrom, tryAct, goes-try, actOk, refreshOk}
 use Rattle.rules.proofs.Recent.{ext}
 use Rattle.rules.proofs.Due.{due-next, due-turn, due-span}
 use Rattle.rules.proofs.Phase.{Spot, headTest, byData, Serving, Between}
-use Rattle.rules.proofs.Ready.{not-due}
+use Rattle.rules.proofs.Ready.{no-refresh, not-due}
 use Rattle.rules.proofs.Keep.{step-idle, step-act, step-data, step-last}
 
--- a command that is no data command of another transaction than K
+-- a command that is no data command or REF of another transaction than K
 abbrev pub OfNumber : ℕ → Command → Type 0
-OfNumber K c = isData (c .kind) ≡ true → c .number ≡ K
+OfNumber K c = canEnd (c .kind) ≡ true → c .number ≡ K
 
 abbrev pub LastOf : ℕ → ℕ → Command → Type 0
-LastOf K t c = (isData (c .kind) ≡ true) × (c .number ≡ K) × (c .cycle ≡ t)
+LastOf K t c = (canEnd (c .kind) ≡ true) × (c .number ≡ K) × (c .cycle ≡ t)
 
 -- the phase goes on, or it ends with the command o, in time
 unfoldable pub Next : (τ : Table) (l : List Transaction) (A0 M0 : ℕ) (x : Transaction) (F K : ℕ) (s : State) (o : Option Command) → Type 0
@@ -91,8 +91,8 @@ module _ (τ : Table) (rng : Ranges τ) (l : List Transaction) (v : AllFit τ l)
       on (inr h) =
           let ej : j + 1 ≡ x .bi = omega (arith, h .1, q .jIn) in
           inr (
-            omega (arith, q .dataTime, due-span τ x j r (q .jIn) (q .rIn)),
-            (head true, refl, (is-data (isWrite x) true, refl, refl)),
+            omega (arith, q .dataTime, due-span τ x j r (sp .ok .plain) (q .jIn) (q .rIn)),
+            (head true, refl, (can-end (isWrite x) true, refl, refl)),
             (
               ta,
               step-last τ rng l A0 M0 x sp F ta j r s q ok true refl ej er,
@@ -109,16 +109,18 @@ module _ (τ : Table) (rng : Ranges τ) (l : List Transaction) (v : AllFit τ l)
           let g = sp .actK k kl in
           let p : actPlace l (A0 + k) ≡ none = rw ek at eo in
           let z : _≡_ {A = ℕ} 0 1 = cc (p, g) in omega arith
-  act-goes e (some p) eo a = onA (act-bank τ p a) (actOk τ s pb) refl
+  act-goes e (some p) eo a = on (isRefresh (p .transaction)) refl (sym (ap (bankOfPlace τ) eo)) (act-bank τ p a)
     where
       pb : ℕ
-      pb = actDue τ p .bank
+      pb = bankAt τ (p .transaction) (p .offset)
 
-      b : pb ≡ actBank τ l (s .acts)
-      b = sym (ap (bankOfPlace τ) eo)
+      is-act : isActAt l (s .acts) ≡ not (isRefresh (p .transaction))
+      is-act = ap actOfPlace eo
 
-      onA : pb < τ .banks → (y : Bool) → actOk τ s pb ≡ y → Next τ l A0 M0 x F (sp .K) s (pick y (some (dueAt (s .cycle) (actDue τ p))) none)
-      onA lt true ok =
+      -- what stands there is an ACT
+      onA : isRefresh (p .transaction) ≡ false → pb ≡ actBank τ l (s .acts) → pb < τ .banks → (y : Bool) → actOk τ s pb ≡ y
+          → Next τ l A0 M0 x F (sp .K) s (pick y (some (command (s .cycle) Act pb (p .number))) none)
+      onA er b lt true ok =
           inl (
             λ u. absurd (true-false false u refl),
             (
@@ -126,13 +128,29 @@ module _ (τ : Table) (rng : Ranges τ) (l : List Transaction) (v : AllFit τ l)
               j,
               r,
               subst (λ (y : ℕ). Serving τ l A0 M0 x F (ext ta (s .acts) (s .cycle)) j r (note s (s .cycle) Act y)) (sym b)
-                  (step-act τ rng l A0 M0 x sp F ta j r s q e (subst (λ (y : ℕ). y < τ .banks) b lt) (subst (λ (y : ℕ). actOk τ s y ≡ true) b ok)),
+                  (step-act τ rng l A0 M0 x sp F ta j r s q e (is-act ∙ ap not er) (subst (λ (y : ℕ). y < τ .banks) b lt) (subst (λ (y : ℕ). actOk τ s y ≡ true) b ok)),
             ),
           )
-      onA lt false bad = inl (tt, (ta, j, r, step-idle τ rng l A0 M0 x sp F ta j r s q e (λ k ek kl fl. subst (λ (y : ℕ). actOk τ s y ≡ false) (same-bank k ek kl) bad)))
+      onA er b lt false bad = inl (tt, (ta, j, r, step-idle τ rng l A0 M0 x sp F ta j r s q e (λ k ek kl fl. subst (λ (y : ℕ). actOk τ s y ≡ false) (same-bank k ek kl) bad)))
         where
           same-bank : (k : ℕ) → s .acts ≡ A0 + k → k < x .bi → pb ≡ bankAt τ x k
           same-bank k ek kl = b ∙ (ap (actBank τ l) ek ∙ sp .bankK k kl)
+
+      -- a REF is no command of this transaction, and does not go while a bank is open
+      beyond : isRefresh (p .transaction) ≡ true → (k : ℕ) → s .acts ≡ A0 + k → k < x .bi → ⊥
+      beyond er k ek kl =
+          true-false (isActAt l (s .acts)) (ap (isActAt l) ek ∙ (ap actOfPlace (sp .actK k kl) ∙ ap not (sp .ok .plain))) (is-act ∙ ap not er)
+
+      onR : isRefresh (p .transaction) ≡ true → (y : Bool) → refreshOk τ s ≡ y
+          → Next τ l A0 M0 x F (sp .K) s (pick y (some (command (s .cycle) Ref 0 (p .number))) none)
+      onR er true ok = absurd (no-refresh τ rng l A0 M0 x sp F ta j r s q ok (beyond er))
+      onR er false bad = inl (tt, (ta, j, r, step-idle τ rng l A0 M0 x sp F ta j r s q e (λ k ek kl fl. absurd (beyond er k ek kl))))
+
+      on : (z : Bool) → isRefresh (p .transaction) ≡ z → pick z 0 pb ≡ actBank τ l (s .acts) → pick z 0 pb < τ .banks
+          → Next τ l A0 M0 x F (sp .K) s
+          (pick (allOf (testsBy τ s (pick z Ref Act) (s .cycle) (pick z 0 pb))) (some (command (s .cycle) (pick z Ref Act) (pick z 0 pb) (p .number))) none)
+      on true er b lt = onR er (refreshOk τ s) refl
+      on false er b lt = onA er b lt (actOk τ s pb) refl
 
   pub phase-step : Next τ l A0 M0 x F (sp .K) s (goes τ l s)
   unfolding Next

@@ -3,6 +3,7 @@
 use Prim.Native.Nat.{ℕ, zero, suc, _+_, _≤_, _<_}
 use native.Mathlib.Omega.{arith}
 use mathlib.Core.Path.{_≡_, refl, sym, ap, _∙_}
+use mathlib.Core.Bool.{Bool, true, false}
 use mathlib.Core.Option.{Option, none, some}
 use mathlib.Core.List.{List, [], _∷_, _++_, append-nil}
 use lib.ListN.{length, getD, length-append}
@@ -10,6 +11,7 @@ use lib.Seq.{getD-append-seam}
 use Rattle.records.specs.declared.table.Table.{Table}
 use Rattle.records.specs.declared.transaction.Transaction.{Transaction}
 use Rattle.records.specs.declared.command.Command.{Command}
+use Rattle.records.specs.Transaction.{isRefresh}
 use Rattle.rules.specs.declared.state.State.{State}
 use Rattle.rules.specs.State.{breaksNone, fresh, after}
 use Rattle.rules.specs.CycleRule.{goes, push}
@@ -21,9 +23,9 @@ use Rattle.rules.proofs.Ranges.{Ranges}
 use Rattle.rules.proofs.Queue.{actSum, dataSum}
 use Rattle.rules.proofs.Fit.{AllFit}
 use Rattle.rules.proofs.Heads.{goes-place}
-use Rattle.rules.proofs.Due.{due-span, start-ge, start-mono, count-le}
+use Rattle.rules.proofs.Due.{due-span, start-ge, start-mono, count-ge, count-le}
 use Rattle.rules.proofs.Finishes.{noTransaction, nth, Finishes}
-use Rattle.rules.proofs.Progress.{Stands, Progress, progress-fresh, steps-progress}
+use Rattle.rules.proofs.Progress.{InService, Stands, Progress, progress-fresh, steps-progress}
 
 pub steps-add : (n m : ℕ) (τ : Table) (l : List Transaction) (s : State) (h : List Command) → steps (n + m) τ l s h ≡ steps m τ l (steps n τ l s h .0) (steps n τ l s h .1)
 steps-add zero m τ l s h = let z : 0 + m ≡ m = omega arith in rw z
@@ -70,8 +72,14 @@ module _ (τ : Table) (rng : Ranges τ) (l : List Transaction) (v : AllFit τ l)
       on [] e w =
           let eA : actSum l ≡ actSum (q .done) = ap actSum e ∙ ap actSum (append-nil (q .done)) in
           (w .3 ∙ sym (ap dataSum e ∙ ap dataSum (append-nil (q .done))), omega (arith, w .2 .le, q .caps .0, eA))
-      on (x ∷ rest) e w = absurd (omega (arith, w .3 .dataTime, due-span τ x (w .1) (w .2) (w .3 .jIn) (w .3 .rIn), t, b, ap (total τ l) n))
+      on (x ∷ rest) e w = absurd (omega (arith, by (isRefresh x) refl w, count-ge τ x (span τ x), t, b, ap (total τ l) n))
         where
+          -- a transaction in service is within its span
+          by : (z : Bool) → isRefresh x ≡ z → InService z τ l (q .done) x (startAt x (q .start (length (q .done)))) s
+              → s .cycle ≤ startAt x (q .start (length (q .done))) + span τ x
+          by true er w = rw er (w .2 .refTime)
+          by false er w = omega (arith, w .3 .dataTime, due-span τ x (w .1) (w .2) er (w .3 .jIn) (w .3 .rIn))
+
           f : q .start (length (q .done)) ≤ total τ l (length (q .done))
           f = fin-total τ l (length (q .done)) (q .last) (q .start) h (q .finishes) (length (q .done)) (omega arith)
 

@@ -1,10 +1,13 @@
 -- The worked examples follow from the written rules themselves.
 -- Assumes nothing.
 use mathlib.Core.Path.{_≡_, refl}
+use mathlib.Core.List.{[], _∷_}
+use Rattle.records.specs.declared.command.Kind.the-variants.{Ref}
+use Rattle.records.specs.Command.{command}
 use Rattle.records.specs.House.{tableA, tableB, tableT}
 use Rattle.rules.specs.Queues.{actQueue, dataQueue}
 use Rattle.rules.specs.Bound.{bound, boundS, boundD, boundX}
-use Rattle.rules.specs.Worked.{one, five, patternT, examples, All}
+use Rattle.rules.specs.Worked.{one, five, patternT, tableR, thenRef, examples, All}
 use Rattle.rules.proofs.Pattern.{five-legal}
 
 infixr 4 _⨾_
@@ -74,5 +77,32 @@ worked =
     ⨾ refl
     ⨾ refl
     ⨾ five-legal tableT 54 patternT .0 refl
+    ⨾ (λ n. refl)
+    ⨾ refl
+    ⨾ refl
+    ⨾ refl
+    ⨾ refl
+    ⨾ record { cycles = 61; schedule = refl; acts = refl; datas = refl }
+    ⨾ refl
+    ⨾ refl
+    ⨾ record { cycles = 99; schedule = refl; acts = refl; datas = refl }
+    ⨾ refl
+    ⨾ refl
+    ⨾ refl
+    ⨾ refl
+    ⨾ record { cycles = 95; schedule = refl; acts = refl; datas = refl }
+    ⨾ refl
+    ⨾ refl
+    ⨾ refl
+    ⨾ refl
+    ⨾ refl
+    ⨾ refl
+    ⨾ refl
+    ⨾ refl
+    ⨾ refl
+    ⨾ refl
+    ⨾ five-legal tableR 50 (command 0 Ref 0 0 ∷ []) .0 refl
+    ⨾ (λ n. refl)
+    ⨾ five-legal tableR 88 (thenRef 38 0) .0 refl
     ⨾ (λ n. refl)
     ⨾ tt

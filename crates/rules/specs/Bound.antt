@@ -4,6 +4,8 @@ use mathlib.Core.Bool.{Bool, true, false}
 use mathlib.Core.List.{List, [], _∷_}
 use Rattle.records.specs.declared.table.Table.{Table}
 use Rattle.records.specs.declared.transaction.Transaction.{Transaction}
+use Rattle.records.specs.Tests.{pick}
+use Rattle.records.specs.Transaction.{isRefresh}
 use Rattle.rules.specs.Square.{fromRd, fromWr, writeTail}
 
 abbrev pub greatest : List ℕ → ℕ
@@ -49,9 +51,10 @@ bound τ bi bc =
     max (boundX τ + (bi * bc - 1) * mostCcd τ)
     (boundS τ + τ .rcd + max ((bi * bc - 1) * mostCcd τ) ((bi - 1) * (boundD τ + 1) + (bc - 1) * mostCcd τ))
 
--- what a transaction may take, from where its count starts to its last data command
+-- what a transaction may take, from where its count starts to its last command: the bound of its BI and BC, but "A REF itself comes within S of where
+-- its count starts" (document 02, request 5)
 abbrev pub span : Table → Transaction → ℕ
-span τ x = bound τ (x .bi) (x .bc)
+span τ x = pick (isRefresh x) (boundS τ) (bound τ (x .bi) (x .bc))
 
 -- where a transaction's count starts, if the one before it lets it start at F
 unfoldable pub startAt : Transaction → ℕ → ℕ

@@ -11,7 +11,7 @@ use Rattle.records.specs.declared.table.Table.{Table}
 use Rattle.records.specs.declared.transaction.Transaction.{Transaction}
 use Rattle.records.specs.declared.command.Command.{Command}
 use Rattle.rules.specs.declared.state.State.{State}
-use Rattle.rules.specs.Kinds.{isAct, isData}
+use Rattle.rules.specs.Kinds.{isData, inActQueue}
 use Rattle.rules.specs.History.{broken, isFine}
 use Rattle.rules.specs.State.{addIf, breaksNone, after}
 use Rattle.rules.specs.Queues.{Due, dueAt, actQueue, dataQueue, headAfter}
@@ -37,16 +37,17 @@ abbrev pub goesBy : (Command → Bool) → Table → List Transaction → ℕ �
 goesBy legal τ l t a d =
     otherwise (legalAt legal t (hadAct a (headAfter (dataQueue τ l) d))) (legalAt legal t (headAfter (actQueue τ l) a))
 
--- by history: how many ACTs, and how many data commands, are among the records
+-- by history: how many commands of the ACT queue, and how many data commands, are among the records
 abbrev pub actsIn : List Command → ℕ
 actsIn [] = 0
-actsIn (r ∷ h) = addIf (isAct (r .kind)) (actsIn h)
+actsIn (r ∷ h) = addIf (inActQueue (r .kind)) (actsIn h)
 
 abbrev pub datasIn : List Command → ℕ
 datasIn [] = 0
 datasIn (r ∷ h) = addIf (isData (r .kind)) (datasIn h)
 
--- what goes at cycle t by history: ""breaks no rule" means none of rules 1 to 9 as the next record at that cycle"
+-- what goes at cycle t by history: ""breaks no rule" means none of rules 1 to 9 as the next record at that cycle"; so
+-- are rules 11 and 12, "by the judge and by the cycle rule"
 abbrev pub goesAt : Table → List Transaction → ℕ → List Command → Option Command
 goesAt τ l t h = goesBy (λ c. isFine (broken τ c h)) τ l t (actsIn h) (datasIn h)
 

@@ -23,9 +23,9 @@ use Rattle.rules.specs.Pattern.{onto, copies, EveryNumberLegal}
 use Rattle.rules.specs.State.{fresh}
 use Rattle.rules.specs.CycleRule.{gone, Built}
 use Rattle.rules.specs.Run.{steps}
-use Rattle.rules.specs.Finish.{lastData, finishOf}
-use Rattle.rules.specs.Bound.{bound}
-use Rattle.rules.specs.Promise.{ofFirst, lastDataCycle, finishCycle}
+use Rattle.rules.specs.Finish.{lastCommand, finishOf, countFrom}
+use Rattle.rules.specs.Bound.{span}
+use Rattle.rules.specs.Promise.{ofFirst, lastCommandCycle, finishCycle}
 
 -- each of the first n records breaks no rule against all records before it, of which those of h are the oldest
 abbrev pub FineTo : Table → List Command → List Command → ℕ → Type 0
@@ -62,16 +62,18 @@ pub record Demand3 (τ : Table) (l : List Transaction) : Type 0 where
   pub only : (rs : List Command) → Built τ l rs → rs ≡ schedule
   -- "the built schedule passes the judge"
   pub passes : Legal τ schedule
-  -- each transaction has a last data command
-  pub served : (k : ℕ) → k < length l → lastData k schedule ≡ At (lastDataCycle k schedule)
+  -- each transaction has a last command: its last read or write command, or its REF
+  pub served : (k : ℕ) → k < length l → lastCommand k schedule ≡ At (lastCommandCycle k schedule)
   -- "each transaction's last read or write command comes no later than its predecessor's last plus the bound ..
-  -- (for the first, counted from cycle 0)"
-  pub first : (x : Transaction) → getElem? l 0 ≡ some x → lastDataCycle 0 schedule ≤ bound τ (x .bi) (x .bc)
-  pub next : (k : ℕ) (x : Transaction) → getElem? l (suc k) ≡ some x → lastDataCycle (suc k) schedule ≤ lastDataCycle k schedule + bound τ (x .bi) (x .bc)
-  -- "the promised finish of a read is that limit + RL + B", a write's is that limit; and 32 bits hold every finish
-  pub firstFinish : (x : Transaction) → getElem? l 0 ≡ some x → finishCycle τ x 0 schedule ≤ finishOf τ x (bound τ (x .bi) (x .bc))
-  pub nextFinish : (k : ℕ) (x : Transaction) → getElem? l (suc k) ≡ some x
-      → finishCycle τ x (suc k) schedule ≤ finishOf τ x (lastDataCycle k schedule + bound τ (x .bi) (x .bc))
+  -- (for the first, counted from cycle 0)"; "The promise counts from that finish where the predecessor", w, "is a refresh", and a REF comes
+  -- "within S of where its count starts"
+  pub first : (x : Transaction) → getElem? l 0 ≡ some x → lastCommandCycle 0 schedule ≤ span τ x
+  pub next : (k : ℕ) (w x : Transaction) → getElem? l k ≡ some w → getElem? l (suc k) ≡ some x
+      → lastCommandCycle (suc k) schedule ≤ countFrom τ w (lastCommandCycle k schedule) + span τ x
+  -- "the promised finish of a read is that limit + RL + B", a write's is that limit, a refresh's that limit + RFC; and 32 bits hold every finish
+  pub firstFinish : (x : Transaction) → getElem? l 0 ≡ some x → finishCycle τ x 0 schedule ≤ finishOf τ x (span τ x)
+  pub nextFinish : (k : ℕ) (w x : Transaction) → getElem? l k ≡ some w → getElem? l (suc k) ≡ some x
+      → finishCycle τ x (suc k) schedule ≤ finishOf τ x (countFrom τ w (lastCommandCycle k schedule) + span τ x)
   pub fits : (k : ℕ) (x : Transaction) → getElem? l k ≡ some x → finishCycle τ x k schedule < 4294967296
   -- "Transactions added at the end move no command of the earlier ones by a cycle."
   pub unmoved : (xs ys : List Transaction) → l ≡ xs ++ ys → Built τ xs (ofFirst (length xs) schedule)

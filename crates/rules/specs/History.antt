@@ -3,22 +3,22 @@ use Prim.Native.Nat.{ℕ, zero, suc, _+_, max}
 use mathlib.Core.Bool.{Bool, true, false, not, _&&_, _||_}
 use mathlib.Core.List.{List, [], _∷_}
 use lib.Dec.{leb, ltb, eqb}
-use Rattle.records.specs.Tests.{pick, every}
+use Rattle.records.specs.Tests.{pick, every, everyBelow}
 use Rattle.records.specs.declared.table.Table.{Table}
 use Rattle.records.specs.declared.command.Kind.{Kind}
-use Rattle.records.specs.declared.command.Kind.the-variants.{Act, Rd, Rda, Wr, Wra, Other}
+use Rattle.records.specs.declared.command.Kind.the-variants.{Act, Rd, Rda, Wr, Wra, Ref, Other}
 use Rattle.records.specs.declared.command.Command.{Command}
 use Rattle.rules.specs.declared.state.Stamp.{Stamp}
 use Rattle.rules.specs.declared.state.Stamp.the-variants.{Never, At}
 use Rattle.rules.specs.declared.verdict.Found.{Found}
 use Rattle.rules.specs.declared.verdict.Found.the-variants.{Fine, Broken}
-use Rattle.rules.specs.Kinds.{isAct, isRd, isWr, isKnown, firstBroken, rulesInOrder}
+use Rattle.rules.specs.Kinds.{isAct, isRd, isWr, isRef, isKnown, firstBroken, rulesInOrder}
 use Rattle.rules.specs.Square.{fromRd, fromWr, writeTail}
 use Rattle.rules.specs.State.{past}
 
--- rule 1: "kind above 4, or bank not below banks"
+-- rule 1: "kind above 4, or bank not below banks"; it "admits kind 5 with bank 0 only" (document 02, request 5)
 abbrev pub inTable : Table → Kind → ℕ → Bool
-inTable τ k b = isKnown k && ltb b (τ .banks)
+inTable τ k b = isKnown k && (ltb b (τ .banks) && (not (isRef k) || eqb b 0))
 
 -- rule 2: "cycle not greater than the record's before it"
 abbrev pub later : ℕ → List Command → Bool
@@ -32,6 +32,7 @@ openAfter Rd o = true
 openAfter Rda o = false
 openAfter Wr o = true
 openAfter Wra o = false
+openAfter Ref o = o
 openAfter (Other n) o = o
 
 abbrev pub openIn : ℕ → List Command → Bool
@@ -56,6 +57,7 @@ prechargeAfter τ c Rd s = greater (c + τ .rtp) s
 prechargeAfter τ c Rda s = greater (c + τ .rtp) s
 prechargeAfter τ c Wr s = greater (c + writeTail τ) s
 prechargeAfter τ c Wra s = greater (c + writeTail τ) s
+prechargeAfter τ c Ref s = s
 prechargeAfter τ c (Other n) s = s
 
 abbrev pub prechargeIn : Table → ℕ → List Command → Stamp
@@ -84,13 +86,28 @@ farAct τ b t r = far isAct (τ .rrd) t r
 abbrev pub farData : Table → Bool → ℕ → ℕ → Command → Bool
 farData τ w b t r = far isRd (fromRd τ w) t r && far isWr (fromWr τ w) t r
 
--- rules 3 to 9 for an ACT to bank b at cycle t: an open bank, precharge start + RP, RC, RRD, FAW; rules 8 and 9 do not apply
+-- rule 11: "a REF with a bank open or before a bank's precharge start + RP"
+abbrev pub atRestIn : Table → ℕ → List Command → ℕ → Bool
+atRestIn τ t h b = not (openIn b h) && past (prechargeIn τ b h) (τ .rp) t
+
+abbrev pub allAtRest : Table → ℕ → List Command → Bool
+allAtRest τ t h = everyBelow (τ .banks) (atRestIn τ t h)
+
+-- rule 12: "an ACT or REF less than RFC after a REF"
+abbrev pub farRefresh : Table → ℕ → Command → Bool
+farRefresh τ t r = far isRef (τ .rfc) t r
+
+-- rules 3 to 12 for an ACT to bank b at cycle t: an open bank, precharge start + RP, RC, RRD, FAW, RFC; rules 8, 9 and 11 do not apply
 abbrev pub actRules : Table → ℕ → ℕ → List Command → List Bool
 actRules τ t b h =
     not (openIn b h) ∷ past (prechargeIn τ b h) (τ .rp) t ∷ past (actIn b h) (τ .rc) t ∷ every (farAct τ b t) h
-    ∷ past (fourthAct h) (τ .faw) t ∷ []
+    ∷ past (fourthAct h) (τ .faw) t ∷ true ∷ true ∷ true ∷ every (farRefresh τ t) h ∷ []
 
--- rules 3 to 9 for a data command: a closed bank, RCD, the distances; rules 4 to 7 do not apply
+-- rules 3 to 12 for a REF: rules 11 and 12; the others do not apply
+abbrev pub refreshRules : Table → ℕ → List Command → List Bool
+refreshRules τ t h = true ∷ true ∷ true ∷ true ∷ true ∷ true ∷ true ∷ allAtRest τ t h ∷ every (farRefresh τ t) h ∷ []
+
+-- rules 3 to 9 for a data command: a closed bank, RCD, the distances; rules 4 to 7, 11 and 12 do not apply
 abbrev pub dataRules : Table → Bool → ℕ → ℕ → List Command → List Bool
 dataRules τ w t b h =
     openIn b h ∷ true ∷ true ∷ true ∷ true ∷ past (actIn b h) (τ .rcd) t ∷ every (farData τ w b t) h ∷ []
@@ -101,9 +118,10 @@ rulesBy τ Rd t b h = dataRules τ false t b h
 rulesBy τ Rda t b h = dataRules τ false t b h
 rulesBy τ Wr t b h = dataRules τ true t b h
 rulesBy τ Wra t b h = dataRules τ true t b h
+rulesBy τ Ref t b h = refreshRules τ t h
 rulesBy τ (Other n) t b h = []
 
--- rules 1 to 9, in the order of their numbers, for a record after the history h
+-- rules 1 to 9, 11 and 12, in the order of their numbers, for a record after the history h
 abbrev pub rules : Table → Command → List Command → List Bool
 rules τ r h = inTable τ (r .kind) (r .bank) ∷ later (r .cycle) h ∷ rulesBy τ (r .kind) (r .cycle) (r .bank) h
 

@@ -19,8 +19,8 @@ use Rattle.rules.specs.Verdict.{Legal}
 use Rattle.rules.specs.Queues.{actQueue, dataQueue}
 use Rattle.rules.specs.CycleRule.{Built}
 use Rattle.rules.specs.Run.{served, steps, run}
-use Rattle.rules.specs.Finish.{lastData, finishOf, finish}
-use Rattle.rules.specs.Bound.{bound, span}
+use Rattle.rules.specs.Finish.{lastCommand, finishOf, countFrom, finish}
+use Rattle.rules.specs.Bound.{span}
 
 -- the commands of the first k transactions
 abbrev pub ofFirst : ℕ → List Command → List Command
@@ -36,18 +36,18 @@ abbrev pub cycleOf : Stamp → ℕ
 cycleOf Never = 0
 cycleOf (At c) = c
 
--- the cycle of the last data command of transaction k
-abbrev pub lastDataCycle : ℕ → List Command → ℕ
-lastDataCycle k rs = cycleOf (lastData k rs)
+-- the cycle of the last command of transaction k
+abbrev pub lastCommandCycle : ℕ → List Command → ℕ
+lastCommandCycle k rs = cycleOf (lastCommand k rs)
 
 -- the cycle at which transaction x, number k of the list, finishes
 abbrev pub finishCycle : Table → Transaction → ℕ → List Command → ℕ
 finishCycle τ x k rs = cycleOf (finish τ x k rs)
 
--- the bounds of all transactions, added
+-- the bounds of all transactions, added, each up to where the next count starts
 abbrev pub allBounds : Table → List Transaction → ℕ
 allBounds τ [] = 0
-allBounds τ (x ∷ l) = span τ x + allBounds τ l
+allBounds τ (x ∷ l) = countFrom τ x (span τ x) + allBounds τ l
 
 -- one cycle more than the bounds together serves the list, and they stay below the limit of a run
 pub record Ends (τ : Table) (l : List Transaction) : Type 0 where
@@ -61,22 +61,23 @@ pub record Kept (τ : Table) (l : List Transaction) (rs : List Command) : Type 0
   pub count : length rs ≡ length (actQueue τ l) + length (dataQueue τ l)
   -- it passes the judge
   pub passes : Legal τ rs
-  -- each transaction has its last data command: the first within its bound, each other within its bound after the one before it
-  pub finishes : (k : ℕ) → k < length l → lastData k rs ≡ At (lastDataCycle k rs)
-  pub firstIn : (x : Transaction) → getElem? l 0 ≡ some x → lastDataCycle 0 rs ≤ bound τ (x .bi) (x .bc)
-  pub nextIn : (k : ℕ) (x : Transaction) → getElem? l (suc k) ≡ some x → lastDataCycle (suc k) rs ≤ lastDataCycle k rs + bound τ (x .bi) (x .bc)
-  -- it finishes there, a read RL + B later, so no later than if its last data command went at that limit; and 32 bits hold it
-  pub finishAt : (k : ℕ) (x : Transaction) → getElem? l k ≡ some x → finish τ x k rs ≡ At (finishOf τ x (lastDataCycle k rs))
-  pub firstFinish : (x : Transaction) → getElem? l 0 ≡ some x → finishCycle τ x 0 rs ≤ finishOf τ x (bound τ (x .bi) (x .bc))
-  pub nextFinish : (k : ℕ) (x : Transaction) → getElem? l (suc k) ≡ some x
-      → finishCycle τ x (suc k) rs ≤ finishOf τ x (lastDataCycle k rs + bound τ (x .bi) (x .bc))
+  -- each transaction has its last command: the first within its span, each other within its span after where its count starts, w being its predecessor
+  pub finishes : (k : ℕ) → k < length l → lastCommand k rs ≡ At (lastCommandCycle k rs)
+  pub firstIn : (x : Transaction) → getElem? l 0 ≡ some x → lastCommandCycle 0 rs ≤ span τ x
+  pub nextIn : (k : ℕ) (w x : Transaction) → getElem? l k ≡ some w → getElem? l (suc k) ≡ some x
+      → lastCommandCycle (suc k) rs ≤ countFrom τ w (lastCommandCycle k rs) + span τ x
+  -- it finishes there, a read RL + B and a refresh RFC later, so no later than if its last command went at that limit; and 32 bits hold it
+  pub finishAt : (k : ℕ) (x : Transaction) → getElem? l k ≡ some x → finish τ x k rs ≡ At (finishOf τ x (lastCommandCycle k rs))
+  pub firstFinish : (x : Transaction) → getElem? l 0 ≡ some x → finishCycle τ x 0 rs ≤ finishOf τ x (span τ x)
+  pub nextFinish : (k : ℕ) (w x : Transaction) → getElem? l k ≡ some w → getElem? l (suc k) ≡ some x
+      → finishCycle τ x (suc k) rs ≤ finishOf τ x (countFrom τ w (lastCommandCycle k rs) + span τ x)
   pub finishFits : (k : ℕ) (x : Transaction) → getElem? l k ≡ some x → finishCycle τ x k rs < 4294967296
   -- transactions added at the end move no command of the earlier ones
   pub unmoved : (xs ys : List Transaction) → l ≡ xs ++ ys → Built τ xs (ofFirst (length xs) rs)
-  pub sameFinish : (xs ys : List Transaction) → l ≡ xs ++ ys → (k : ℕ) → k < length xs → lastData k (ofFirst (length xs) rs) ≡ lastData k rs
+  pub sameFinish : (xs ys : List Transaction) → l ≡ xs ++ ys → (k : ℕ) → k < length xs → lastCommand k (ofFirst (length xs) rs) ≡ lastCommand k rs
   -- it ends before cycle 100,000,000
   pub early : every (λ r. ltb (r .cycle) 100000000) rs ≡ true
-  pub lastEarly : (k : ℕ) → lastDataCycle k rs < 100000000
+  pub lastEarly : (k : ℕ) → lastCommandCycle k rs < 100000000
   -- a fresh run that serves the list leaves it and reports one past its last command's cycle; one of 100,000,000 cycles or more serves it
   pub running : (n : ℕ) → served τ l (run n τ l (fresh τ) [] .state) ≡ true
       → (onto (run n τ l (fresh τ) [] .history) [] ≡ rs) × (run n τ l (fresh τ) [] .cycles ≡ nextCycle (onto rs []))
@@ -94,6 +95,7 @@ pub record SameTold (τ : Table) (s u : State) : Type 0 where
   pub a4 : s .a4 ≡ u .a4
   pub rd : s .rd ≡ u .rd
   pub wr : s .wr ≡ u .wr
+  pub refresh : s .refresh ≡ u .refresh
 
 -- from any state, reached or not
 pub record RunsKept (τ : Table) (l : List Transaction) : Type 0 where

@@ -5,16 +5,16 @@ use mathlib.Core.Option.{Option, none, some}
 use mathlib.Core.List.{List, [], _∷_, _++_}
 use lib.Dec.{leb, ltb, eqb}
 use lib.ListN.{getD, set, replicate}
-use Rattle.records.specs.Tests.{pick, allOf}
+use Rattle.records.specs.Tests.{pick, allOf, everyBelow}
 use Rattle.records.specs.declared.table.Table.{Table}
 use Rattle.records.specs.declared.command.Kind.{Kind}
-use Rattle.records.specs.declared.command.Kind.the-variants.{Act, Rd, Rda, Wr, Wra, Other}
+use Rattle.records.specs.declared.command.Kind.the-variants.{Act, Rd, Rda, Wr, Wra, Ref, Other}
 use Rattle.records.specs.declared.command.Command.{Command}
 use Rattle.rules.specs.declared.state.Stamp.{Stamp}
 use Rattle.rules.specs.declared.state.Stamp.the-variants.{Never, At}
 use Rattle.rules.specs.declared.state.Bank.{Bank}
 use Rattle.rules.specs.declared.state.State.{State}
-use Rattle.rules.specs.Kinds.{isAct, isRd, isWr, isData}
+use Rattle.rules.specs.Kinds.{isAct, isRd, isWr, isRef, isData, inActQueue}
 use Rattle.rules.specs.Square.{square, side, cell, writeTail}
 
 -- cycle t is at least d after the stamp; "never" breaks no rule
@@ -53,14 +53,34 @@ farBy q rd wr w t = past rd (cell q 0 (side w)) t && past wr (cell q 1 (side w))
 abbrev pub rule9 : Table → State → Bool → ℕ → ℕ → Bool
 rule9 τ s w t b = farBy (square τ) (s .rd) (s .wr) w t
 
--- rules 3 to 9 for an ACT to bank k at cycle t, which keeps rules 6 and 7 or not; rules 8 and 9 do not apply
-abbrev pub actTestsOf : Table → Bank → Bool → Bool → ℕ → List Bool
-actTestsOf τ k keeps6 keeps7 t = not (isOpen k) ∷ charged τ k t ∷ past (k .act) (τ .rc) t ∷ keeps6 ∷ keeps7 ∷ []
+-- a bank that is closed and charged
+abbrev pub atRest : Table → Bank → ℕ → Bool
+atRest τ k t = not (isOpen k) && charged τ k t
+
+-- rule 11, for a REF at cycle t: no bank of the table is open, and t is at least RP after the precharge start of each
+abbrev pub rule11 : Table → State → ℕ → Bool
+rule11 τ s t = everyBelow (τ .banks) (λ b. atRest τ (bankOf s b) t)
+
+-- rule 12, for an ACT or a REF at cycle t, reads "the last REF's cycle"
+abbrev pub rule12 : Table → State → ℕ → Bool
+rule12 τ s t = past (s .refresh) (τ .rfc) t
+
+-- rules 3 to 12 for an ACT to bank k at cycle t, which keeps rules 6, 7 and 12 or not; rules 8, 9 and 11 do not apply
+abbrev pub actTestsOf : Table → Bank → Bool → Bool → Bool → ℕ → List Bool
+actTestsOf τ k keeps6 keeps7 keeps12 t =
+    not (isOpen k) ∷ charged τ k t ∷ past (k .act) (τ .rc) t ∷ keeps6 ∷ keeps7 ∷ true ∷ true ∷ true ∷ keeps12 ∷ []
 
 abbrev pub actTests : Table → State → ℕ → ℕ → List Bool
-actTests τ s t b = actTestsOf τ (bankOf s b) (rule6 τ s t b) (rule7 τ s t) t
+actTests τ s t b = actTestsOf τ (bankOf s b) (rule6 τ s t b) (rule7 τ s t) (rule12 τ s t) t
 
--- rules 3 to 9 for a data command to bank k at cycle t, which keeps rule 9 or not; rules 4 to 7 do not apply
+-- rules 3 to 12 for a REF, which keeps rules 11 and 12 or not; the others do not apply
+abbrev pub refreshTestsOf : Bool → Bool → List Bool
+refreshTestsOf keeps11 keeps12 = true ∷ true ∷ true ∷ true ∷ true ∷ true ∷ true ∷ keeps11 ∷ keeps12 ∷ []
+
+abbrev pub refreshTests : Table → State → ℕ → List Bool
+refreshTests τ s t = refreshTestsOf (rule11 τ s t) (rule12 τ s t)
+
+-- rules 3 to 9 for a data command to bank k at cycle t, which keeps rule 9 or not; rules 4 to 7, 11 and 12 do not apply
 abbrev pub dataTestsOf : Table → Bank → Bool → ℕ → List Bool
 dataTestsOf τ k keeps9 t = isOpen k ∷ true ∷ true ∷ true ∷ true ∷ past (k .act) (τ .rcd) t ∷ keeps9 ∷ []
 
@@ -73,9 +93,10 @@ testsBy τ s Rd t b = dataTests τ s false t b
 testsBy τ s Rda t b = dataTests τ s false t b
 testsBy τ s Wr t b = dataTests τ s true t b
 testsBy τ s Wra t b = dataTests τ s true t b
+testsBy τ s Ref t b = refreshTests τ s t
 testsBy τ s (Other n) t b = []
 
--- by what the state tells, the command breaks none of rules 3 to 9
+-- by what the state tells, the command breaks none of rules 3 to 9, 11 and 12
 abbrev pub breaksNone : Table → State → Command → Bool
 breaksNone τ s c = allOf (testsBy τ s (c .kind) (c .cycle) (c .bank))
 
@@ -94,6 +115,7 @@ fresh τ =
       a4 = Never;
       rd = Never;
       wr = Never;
+      refresh = Never;
     }
 
 -- a bank after a command to it at cycle c: its last ACT, and the last RD and WR since
@@ -103,6 +125,7 @@ bankAfter Rd c k = record { opened = 1; act = k .act; rd = At c; wr = k .wr }
 bankAfter Rda c k = record { opened = 0; act = k .act; rd = At c; wr = k .wr }
 bankAfter Wr c k = record { opened = 1; act = k .act; rd = k .rd; wr = At c }
 bankAfter Wra c k = record { opened = 0; act = k .act; rd = k .rd; wr = At c }
+bankAfter Ref c k = k
 bankAfter (Other n) c k = k
 
 abbrev pub addIf : Bool → ℕ → ℕ
@@ -114,7 +137,7 @@ note s c k b =
     record {
       edition = s .edition;
       cycle = c + 1;
-      acts = addIf (isAct k) (s .acts);
+      acts = addIf (inActQueue k) (s .acts);
       datas = addIf (isData k) (s .datas);
       banks = set (s .banks) b (bankAfter k c (bankOf s b));
       a1 = pick (isAct k) (At c) (s .a1);
@@ -123,6 +146,7 @@ note s c k b =
       a4 = pick (isAct k) (s .a3) (s .a4);
       rd = pick (isRd k) (At c) (s .rd);
       wr = pick (isWr k) (At c) (s .wr);
+      refresh = pick (isRef k) (At c) (s .refresh);
     }
 
 -- the state after a cycle in which nothing goes
@@ -140,6 +164,7 @@ idle s =
       a4 = s .a4;
       rd = s .rd;
       wr = s .wr;
+      refresh = s .refresh;
     }
 
 abbrev pub after : State → Option Command → State

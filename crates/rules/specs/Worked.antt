@@ -1,24 +1,27 @@
--- Document 01, "Examples from the desk": those marked †, its figures for table A, and figures for table T, as a single list under a single claim.
+-- Document 01, "Examples from the desk": those marked †, its figures for table A, figures for table T and with refreshes,
+-- as a single list under a single claim.
 use Prim.Native.Nat.{ℕ, zero, suc, _+_}
 use mathlib.Core.Path.{_≡_}
-use mathlib.Core.Bool.{true}
+use mathlib.Core.Bool.{true, false}
 use mathlib.Core.List.{List, [], _∷_}
+use Rattle.records.specs.declared.table.Table.{Table}
 use Rattle.records.specs.declared.transaction.Transaction.{Transaction}
-use Rattle.records.specs.declared.command.Kind.the-variants.{Act, Rd, Rda, Wr, Wra}
+use Rattle.records.specs.declared.command.Kind.the-variants.{Act, Rd, Rda, Wr, Wra, Ref}
 use Rattle.records.specs.declared.command.Command.{Command}
 use Rattle.records.specs.Command.{command}
 use Rattle.records.specs.Transaction.{transaction, fits}
-use Rattle.records.specs.House.{tableA, tableB, tableC, tableT}
+use Rattle.records.specs.House.{house, tableA, tableB, tableC, tableT}
+use Rattle.records.specs.Table.{tableOf, accepted}
 use Rattle.rules.specs.declared.state.Stamp.the-variants.{At}
-use Rattle.rules.specs.declared.verdict.Rule.the-variants.{Order, Precharge, Rc, Faw}
+use Rattle.rules.specs.declared.verdict.Rule.the-variants.{Range, Order, Precharge, Rc, Faw, Refresh, Rfc}
 use Rattle.rules.specs.declared.verdict.Verdict.the-variants.{Accepted, Refused}
 use Rattle.rules.specs.declared.verdict.PatternVerdict.the-variants.{Refused as RefusedAt}
 use Rattle.rules.specs.Square.{square, writeTail}
 use Rattle.rules.specs.Verdict.{judge}
 use Rattle.rules.specs.Pattern.{copies, EveryNumberLegal}
 use Rattle.rules.specs.CycleRule.{Built}
-use Rattle.rules.specs.Finish.{lastData, finish}
-use Rattle.rules.specs.Bound.{boundS, boundD, boundX, bound}
+use Rattle.rules.specs.Finish.{lastCommand, finish, countFrom}
+use Rattle.rules.specs.Bound.{boundS, boundD, boundX, bound, span}
 
 -- a read, and a write, of (bank, BI, BC)
 abbrev pub read : ℕ → ℕ → ℕ → Transaction
@@ -92,6 +95,29 @@ byWrT t = command 0 Act 0 0 ∷ command 11 Wr 0 0 ∷ command 28 Rda 0 0 ∷ the
 abbrev pub patternT : List Command
 patternT = command 0 Act 0 0 ∷ command 7 Act 1 1 ∷ command 11 Rda 0 0 ∷ command 21 Wra 1 1 ∷ []
 
+-- document 02, request 5: table A with an RFC of 50, and a refresh
+abbrev pub tableR : Table
+tableR = tableOf (house 32 6 50)
+
+abbrev pub refresh : Transaction
+refresh = transaction 2 0 0 0
+
+-- a refresh and a write: the first REF goes at cycle 0, the ACT at its finish
+abbrev pub refreshFirst : List Command
+refreshFirst = command 0 Ref 0 0 ∷ command 50 Act 0 1 ∷ command 60 Wra 0 1 ∷ []
+
+-- a read, a refresh, a read: the REF waits for bank 0's precharge start + RP, the next ACT for the REF's finish
+abbrev pub refreshed : List Command
+refreshed = command 0 Act 0 0 ∷ command 10 Rda 0 0 ∷ command 38 Ref 0 1 ∷ command 88 Act 0 2 ∷ command 98 Rda 0 2 ∷ []
+
+-- a write and two refreshes: the first REF comes S after the write's last command, the second at the first one's finish
+abbrev pub twice : List Command
+twice = command 0 Act 3 0 ∷ command 10 Wra 3 0 ∷ command 44 Ref 0 1 ∷ command 94 Ref 0 2 ∷ []
+
+-- a read at bank 0, a REF at a cycle and to a bank
+abbrev pub thenRef : ℕ → ℕ → List Command
+thenRef t b = command 0 Act 0 0 ∷ command 10 Rda 0 0 ∷ command t Ref b 1 ∷ []
+
 -- the examples, in the order of their numbers
 abbrev pub examples : List (Type 0)
 examples =
@@ -108,7 +134,7 @@ examples =
     ∷ (finish tableA (write 0 1 1) 0 three ≡ At 10)
     ∷ (finish tableA (read 0 1 1) 1 three ≡ At 68)
     ∷ (bound tableA 1 1 ≡ 44)
-    ∷ (lastData 1 three ≡ At (10 + bound tableA 1 1))
+    ∷ (lastCommand 1 three ≡ At (10 + bound tableA 1 1))
     -- 4, and with its types swapped
     ∷ Built tableA (read 0 1 1 ∷ write 1 1 1 ∷ []) four
     ∷ Built tableA (write 0 1 1 ∷ read 1 1 1 ∷ []) fourSwapped
@@ -153,7 +179,7 @@ examples =
     ∷ (finish tableT (write 1 1 2) 1 pairsT ≡ At 31)
     ∷ (finish tableT (read 2 1 1) 2 pairsT ≡ At 65)
     ∷ Built tableT (write 0 1 1 ∷ read 0 1 1 ∷ []) againT
-    ∷ (lastData 1 againT ≡ At (11 + bound tableT 1 1))
+    ∷ (lastCommand 1 againT ≡ At (11 + bound tableT 1 1))
     ∷ Built tableT (read 0 5 1 ∷ []) fiveT
     -- the three causes of a precharge, and RC
     ∷ (judge tableT (byActT 37) ≡ Refused Precharge 2)
@@ -167,6 +193,38 @@ examples =
     -- a pattern: its least length, and one less
     ∷ EveryNumberLegal tableT 54 patternT
     ∷ ((n : ℕ) → copies tableT 53 patternT (suc (suc n)) ≡ RefusedAt Precharge 2 1)
+    -- refreshes: "it's refused by number 4 when RFC is 0"; the other three bytes are 0
+    ∷ (accepted tableR ≡ true)
+    ∷ (fits tableR refresh ≡ true)
+    ∷ (fits tableA refresh ≡ false)
+    ∷ (fits tableR (transaction 2 0 1 1) ≡ false)
+    -- the schedules, where they finish, and that they pass the judge
+    ∷ Built tableR (refresh ∷ write 0 1 1 ∷ []) refreshFirst
+    ∷ (finish tableR refresh 0 refreshFirst ≡ At 50)
+    ∷ (judge tableR refreshFirst ≡ Accepted)
+    ∷ Built tableR (read 0 1 1 ∷ refresh ∷ read 0 1 1 ∷ []) refreshed
+    ∷ (finish tableR (read 0 1 1) 0 refreshed ≡ At 24)
+    ∷ (finish tableR refresh 1 refreshed ≡ At 88)
+    ∷ (finish tableR (read 0 1 1) 2 refreshed ≡ At 112)
+    ∷ (judge tableR refreshed ≡ Accepted)
+    ∷ Built tableR (write 3 1 1 ∷ refresh ∷ refresh ∷ []) twice
+    ∷ (judge tableR twice ≡ Accepted)
+    -- the bounds: the first REF of `twice` meets S exactly; the second one's count starts at the first one's finish
+    ∷ (span tableR refresh ≡ 34)
+    ∷ (lastCommand 1 twice ≡ At (10 + boundS tableR))
+    ∷ (countFrom tableR refresh 44 ≡ 94)
+    -- rule 11: a bank's precharge start + RP; an open bank. Rule 12: RFC after a REF, for a REF and for an ACT. Rule 1: a REF's bank is 0.
+    ∷ (judge tableR (thenRef 38 0) ≡ Accepted)
+    ∷ (judge tableR (thenRef 37 0) ≡ Refused Refresh 2)
+    ∷ (judge tableR (command 0 Act 5 0 ∷ command 1 Ref 0 1 ∷ []) ≡ Refused Refresh 1)
+    ∷ (judge tableR (thenRef 38 1) ≡ Refused Range 2)
+    ∷ (judge tableR (command 0 Ref 0 0 ∷ command 49 Ref 0 1 ∷ []) ≡ Refused Rfc 1)
+    ∷ (judge tableR (command 0 Ref 0 0 ∷ command 49 Act 0 1 ∷ command 59 Rda 0 1 ∷ []) ≡ Refused Rfc 1)
+    -- as patterns: a REF alone every RFC cycles; `thenRef` every 38 + 50
+    ∷ EveryNumberLegal tableR 50 (command 0 Ref 0 0 ∷ [])
+    ∷ ((n : ℕ) → copies tableR 49 (command 0 Ref 0 0 ∷ []) (suc (suc n)) ≡ RefusedAt Rfc 2 0)
+    ∷ EveryNumberLegal tableR 88 (thenRef 38 0)
+    ∷ ((n : ℕ) → copies tableR 87 (thenRef 38 0) (suc (suc n)) ≡ RefusedAt Rfc 2 0)
     ∷ []
 
 -- every statement of a list holds

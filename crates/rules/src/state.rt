@@ -15,7 +15,7 @@ pub struct Bank {
 }
 
 // `cycle` is the next to be tried; `acts` and `datas` have left the two queues; `a1` to `a4` are the cycles of the last four ACTs, newest
-// first; `rd` and `wr` those of the last RD and the last WR of all.
+// first; `rd` and `wr` those of the last RD and the last WR of all; `refresh` that of the last REF.
 pub struct State {
     pub edition: u32,
     pub cycle: u64,
@@ -28,4 +28,5 @@ pub struct State {
     pub a4: Stamp,
     pub rd: Stamp,
     pub wr: Stamp,
+    pub refresh: Stamp,
 }

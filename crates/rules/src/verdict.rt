@@ -1,6 +1,6 @@
 // What the judge answers.
 
-// The rules of document 01, in the order of their numbers, 1 to 10.
+// The rules of document 01, in the order of their numbers, 1 to 12. Rule 10 is asked at the end, the others of each record.
 pub enum Rule {
     Range,
     Order,
@@ -12,6 +12,8 @@ pub enum Rule {
     Rcd,
     Distance,
     End,
+    Refresh,
+    Rfc,
 }
 
 // What one record breaks: no rule, or the first that applies.

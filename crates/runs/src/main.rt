@@ -1,7 +1,7 @@
 // Hands hostile lists, states and buffers to the calls that build, run and tell the bound, and writes lines on what each answers.
 //
 // Standard input, of which 65,536 bytes are read at most, is a sequence of cases, `[call][expected: u16][table: 32 bytes]` and then, for call 1, a build,
-// `[room: u16][slots: u16][n: u16][n bytes]`; for call 2, a run, `[count: u32][room: u16][state: 246 bytes][n: u16][n bytes]`; for call 3,
+// `[room: u16][slots: u16][n: u16][n bytes]`; for call 2, a run, `[count: u32][room: u16][state: 250 bytes][n: u16][n bytes]`; for call 3,
 // a bound, `[BI][BC]`. The rooms are in bytes, the n bytes are the transactions. The line is `case` for any other call, and for a case that
 // the input cuts short: nothing after it is read.
 mod build;
@@ -81,18 +81,18 @@ fn build_case(s: &[u8]) -> usize
 fn run_case(s: &[u8]) -> usize
     ensures { λ r. ⌜ r ≤ length (now (s .entry)) ⌝ }
 {
-    let from = 289;
+    let from = 293;
     if s.len() < from {
         return 0;
     }
-    let n = size(num_at(s, 287));
+    let n = size(num_at(s, 291));
     if s.len() - from < n {
         return 0;
     }
     let end = from + n;
     let count = long_at(s, 35);
     let room = num_at(s, 39);
-    let state = controller_at(&s[41..287]);
+    let state = controller_at(&s[41..291]);
     run::lines(num_at(s, 1), &s[3..35], count, room, state, &s[from..end]);
     end
 }

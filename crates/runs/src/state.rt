@@ -1,4 +1,4 @@
-// The 246 bytes of a state, and its line.
+// The 250 bytes of a state, and its line.
 use crate::told::first;
 use crate::told::long;
 use crate::told::text;
@@ -16,7 +16,7 @@ pub(crate) fn long_at(s: &[u8], at: usize) -> u32
 }
 
 pub(crate) fn controller_at(s: &[u8]) -> Controller
-    requires { ⌜ 246 ≤ length (now s) ⌝ }
+    requires { ⌜ 250 ≤ length (now s) ⌝ }
 {
     let banks = banks_at(s);
     Controller {
@@ -33,6 +33,7 @@ pub(crate) fn controller_at(s: &[u8]) -> Controller
         ],
         rd: long_at(s, 238),
         wr: long_at(s, 242),
+        refresh: long_at(s, 246),
     }
 }
 
@@ -77,6 +78,7 @@ pub(crate) fn state_line(c: Controller) {
     long(c.last[3]);
     long(c.rd);
     long(c.wr);
+    long(c.refresh);
     text(b"\n");
 }
 

@@ -44,6 +44,7 @@ fn kind_name(k: Kind) {
         Kind::Rda => text(b"RDA"),
         Kind::Wr => text(b"WR"),
         Kind::Wra => text(b"WRA"),
+        Kind::Ref => text(b"REF"),
         Kind::Other(n) => small(n),
     }
 }

@@ -3,24 +3,24 @@
 use Prim.Native.Nat.{ℕ, zero, suc, _+_, _-_}
 use native.Mathlib.Numerals.{add-one}
 use native.Mathlib.Omega.{arith}
-use mathlib.Core.Path.{_≡_, refl, sym, ap, _∙_}
+use mathlib.Core.Path.{_≡_, refl, sym, ap}
 use mathlib.Core.Bool.{Bool, true, false, not, _&&_, and-true}
 use mathlib.Core.List.{List, [], _∷_, map}
-use lib.ListN.{getD, set, length, length-map, List·getD-map}
+use lib.Seq.{set-getD}
+use lib.ListN.{getD, set, List·getD-map}
 use Rattle.records.specs.declared.table.Table.{Table}
 use Rattle.records.specs.declared.command.Kind.{Kind}
-use Rattle.records.specs.declared.command.Kind.the-variants.{Act, Rd, Rda, Wr, Wra, Other}
+use Rattle.records.specs.declared.command.Kind.the-variants.{Act, Rd, Rda, Wr, Wra, Ref, Other}
 use Rattle.rules.specs.declared.state.Stamp.the-variants.{At}
 use Rattle.rules.specs.declared.state.Bank.{Bank}
-use Rattle.rules.specs.declared.state.State.{State}
-use Rattle.rules.specs.Kinds.{isAct, isWr, isKnown}
+use Rattle.rules.specs.Kinds.{isAct, isWr, isRef, isKnown}
 use Rattle.rules.specs.Square.{writeTail}
-use Rattle.rules.specs.State.{past, isOpen, bankOf, charged, actTestsOf, dataTestsOf, fresh, note}
+use Rattle.rules.specs.State.{past, isOpen, shut, bankOf, charged, atRest, rule11, actTestsOf, dataTestsOf, fresh, note}
 use Rattle.rules.proofs.TestLaws.{true-false}
-use Rattle.timing.specs.declared.kept.KeptBank.{KeptBank}
+use Rattle.rules.proofs.Below.{below-same}
 use Rattle.timing.specs.declared.kept.Kept.{Kept}
 use Rattle.timing.specs.Kept.{isClosing, stampOf, toldBank, told, shutKept, keptFresh, keptOpened, keptAfter}
-use Rattle.records.specs.Tests.{pick, allOf}
+use Rattle.records.specs.Tests.{pick, allOf, everyBelow}
 
 -- a number that is not 0
 pub stamp-some : (s : ℕ) → (s ≡ 0 → ⊥) → stampOf s ≡ At (s - 1)
@@ -56,6 +56,7 @@ actKept s next b =
       a4 = s .a3;
       rd = s .rd;
       wr = s .wr;
+      refresh = s .refresh;
     }
 
 pub told-act : (s : Kept) (k : Kind) (c b : ℕ) → isAct k ≡ true → told (actKept s (c + 1) b) ≡ note (told s) c k b
@@ -65,6 +66,7 @@ told-act s Rd c b e = true-false false e refl
 told-act s Rda c b e = true-false false e refl
 told-act s Wr c b e = true-false false e refl
 told-act s Wra c b e = true-false false e refl
+told-act s Ref c b e = true-false false e refl
 told-act s (Other n) c b e = true-false false e refl
 
 -- and after a data command
@@ -82,19 +84,57 @@ dataKept s w z next b =
       a4 = s .a4;
       rd = pick w (s .rd) next;
       wr = pick w next (s .wr);
+      refresh = s .refresh;
     }
 
-pub told-data : (s : Kept) (k : Kind) (c b : ℕ) → isKnown k ≡ true → isAct k ≡ false
+pub told-data : (s : Kept) (k : Kind) (c b : ℕ) → isKnown k ≡ true → isAct k ≡ false → isRef k ≡ false
     → told (dataKept s (isWr k) (isClosing k) (c + 1) b) ≡ note (told s) c k b
 unfolding told
-told-data s Act c b n a = true-false true refl a
-told-data s Rd c b n a = rw (map-set toldBank, List·getD-map toldBank (s .banks) b shutKept, add-one c)
-told-data s Rda c b n a = rw (map-set toldBank, List·getD-map toldBank (s .banks) b shutKept, add-one c)
-told-data s Wr c b n a = rw (map-set toldBank, List·getD-map toldBank (s .banks) b shutKept, add-one c)
-told-data s Wra c b n a = rw (map-set toldBank, List·getD-map toldBank (s .banks) b shutKept, add-one c)
-told-data s (Other m) c b n a = true-false false n refl
+told-data s Act c b n a f = true-false true refl a
+told-data s Rd c b n a f = rw (map-set toldBank, List·getD-map toldBank (s .banks) b shutKept, add-one c)
+told-data s Rda c b n a f = rw (map-set toldBank, List·getD-map toldBank (s .banks) b shutKept, add-one c)
+told-data s Wr c b n a f = rw (map-set toldBank, List·getD-map toldBank (s .banks) b shutKept, add-one c)
+told-data s Wra c b n a f = rw (map-set toldBank, List·getD-map toldBank (s .banks) b shutKept, add-one c)
+told-data s Ref c b n a f = true-false true refl f
+told-data s (Other m) c b n a f = true-false false n refl
 
--- tests that stop at the first that fails: of three, of an ACT's (open, precharge, RC, RRD, FAW), of a data command's (open, RCD, rule 9)
+-- and after a REF, which leaves every bank as it is
+abbrev pub refKept : Kept → ℕ → Kept
+refKept s next =
+    record {
+      edition = s .edition;
+      cycle = next;
+      acts = s .acts + 1;
+      datas = s .datas;
+      banks = s .banks;
+      a1 = s .a1;
+      a2 = s .a2;
+      a3 = s .a3;
+      a4 = s .a4;
+      rd = s .rd;
+      wr = s .wr;
+      refresh = next;
+    }
+
+pub told-ref : (s : Kept) (k : Kind) (c b : ℕ) → isRef k ≡ true → told (refKept s (c + 1)) ≡ note (told s) c k b
+unfolding told
+told-ref s Act c b e = true-false false e refl
+told-ref s Rd c b e = true-false false e refl
+told-ref s Rda c b e = true-false false e refl
+told-ref s Wr c b e = true-false false e refl
+told-ref s Wra c b e = true-false false e refl
+told-ref s Ref c b e = rw (set-getD (map toldBank (s .banks)) b shut, add-one c)
+told-ref s (Other n) c b e = true-false false e refl
+
+-- rule 11, bank by bank
+module _ (τ : Table) (s : Kept) (t : ℕ) where
+  abbrev pub restsAt : ℕ → Bool
+  restsAt b = atRest τ (toldBank (getD (s .banks) b shutKept)) t
+
+  pub told-rests : everyBelow (τ .banks) restsAt ≡ rule11 τ (told s) t
+  told-rests = below-same (τ .banks) restsAt (λ b. atRest τ (bankOf (told s) b) t) (λ b l. rw (told-at s b))
+
+-- tests that stop at the first that fails: of three, of an ACT's (open, precharge, RC, RRD, FAW, RFC), of a data command's (open, RCD, rule 9)
 three-yes : (x y z : Bool) → y ≡ true → z ≡ true → x ≡ (x && (y && z))
 three-yes true y z p q = rw (p, q)
 three-yes false y z p q = refl
@@ -108,25 +148,30 @@ three-third true true z p = rw p
 three-third true false z p = refl
 three-third false y z p = refl
 
-act-charge : (o h c d f : Bool) → h ≡ false → false ≡ allOf (not o ∷ h ∷ c ∷ d ∷ f ∷ [])
-act-charge true h c d f p = refl
-act-charge false h c d f p = rw p
+act-charge : (o h c d f g : Bool) → h ≡ false → false ≡ allOf (not o ∷ h ∷ c ∷ d ∷ f ∷ true ∷ true ∷ true ∷ g ∷ [])
+act-charge true h c d f g p = refl
+act-charge false h c d f g p = rw p
 
-act-rrd : (o h c d f : Bool) → d ≡ false → false ≡ allOf (not o ∷ h ∷ c ∷ d ∷ f ∷ [])
-act-rrd true h c d f p = refl
-act-rrd false false c d f p = refl
-act-rrd false true false d f p = refl
-act-rrd false true true d f p = rw p
+act-rc : (o h c d f g : Bool) → c ≡ false → false ≡ allOf (not o ∷ h ∷ c ∷ d ∷ f ∷ true ∷ true ∷ true ∷ g ∷ [])
+act-rc true h c d f g p = refl
+act-rc false false c d f g p = refl
+act-rc false true c d f g p = rw p
 
-act-faw : (o h c d f : Bool) → f ≡ false → false ≡ allOf (not o ∷ h ∷ c ∷ d ∷ f ∷ [])
-act-faw true h c d f p = refl
-act-faw false false c d f p = refl
-act-faw false true false d f p = refl
-act-faw false true true false f p = refl
-act-faw false true true true f p = rw p
+act-rrd : (o h c d f g : Bool) → d ≡ false → false ≡ allOf (not o ∷ h ∷ c ∷ d ∷ f ∷ true ∷ true ∷ true ∷ g ∷ [])
+act-rrd true h c d f g p = refl
+act-rrd false false c d f g p = refl
+act-rrd false true false d f g p = refl
+act-rrd false true true d f g p = rw p
 
-act-yes : (o h c d f : Bool) → o ≡ false → f ≡ true → d ≡ true → h ≡ true → c ≡ allOf (not o ∷ h ∷ c ∷ d ∷ f ∷ [])
-act-yes o h c d f p q r s = rw (p, q, r, s) (sym (and-true c))
+act-faw : (o h c d f g : Bool) → f ≡ false → false ≡ allOf (not o ∷ h ∷ c ∷ d ∷ f ∷ true ∷ true ∷ true ∷ g ∷ [])
+act-faw true h c d f g p = refl
+act-faw false false c d f g p = refl
+act-faw false true false d f g p = refl
+act-faw false true true false f g p = refl
+act-faw false true true true f g p = rw p
+
+act-yes : (o h c d f g : Bool) → o ≡ false → f ≡ true → d ≡ true → h ≡ true → c ≡ true → g ≡ allOf (not o ∷ h ∷ c ∷ d ∷ f ∷ true ∷ true ∷ true ∷ g ∷ [])
+act-yes o h c d f g p q r s u = rw (p, q, r, s, u) (sym (and-true g))
 
 data-near : (o c f : Bool) → f ≡ false → false ≡ allOf (o ∷ true ∷ true ∷ true ∷ true ∷ c ∷ f ∷ [])
 data-near false c f p = refl
@@ -146,21 +191,24 @@ module _ (τ : Table) (k : Bank) (t : ℕ) where
   pub charged-wr : past (k .wr) (writeTail τ + τ .rp) t ≡ false → false ≡ charged τ k t
   charged-wr = three-third (past (k .act) (τ .ras + τ .rp) t) (past (k .rd) (τ .rtp + τ .rp) t) (past (k .wr) (writeTail τ + τ .rp) t)
 
-  module _ (d f : Bool) where
-    pub free-open : isOpen k ≡ true → false ≡ allOf (actTestsOf τ k d f t)
+  module _ (d f g : Bool) where
+    pub free-open : isOpen k ≡ true → false ≡ allOf (actTestsOf τ k d f g t)
     free-open p = rw p
 
-    pub free-yes : isOpen k ≡ false → f ≡ true → d ≡ true → charged τ k t ≡ true → past (k .act) (τ .rc) t ≡ allOf (actTestsOf τ k d f t)
-    free-yes = act-yes (isOpen k) (charged τ k t) (past (k .act) (τ .rc) t) d f
+    pub free-yes : isOpen k ≡ false → f ≡ true → d ≡ true → charged τ k t ≡ true → past (k .act) (τ .rc) t ≡ true → g ≡ allOf (actTestsOf τ k d f g t)
+    free-yes = act-yes (isOpen k) (charged τ k t) (past (k .act) (τ .rc) t) d f g
 
-    pub free-charge : charged τ k t ≡ false → false ≡ allOf (actTestsOf τ k d f t)
-    free-charge = act-charge (isOpen k) (charged τ k t) (past (k .act) (τ .rc) t) d f
+    pub free-charge : charged τ k t ≡ false → false ≡ allOf (actTestsOf τ k d f g t)
+    free-charge = act-charge (isOpen k) (charged τ k t) (past (k .act) (τ .rc) t) d f g
 
-    pub free-rrd : d ≡ false → false ≡ allOf (actTestsOf τ k d f t)
-    free-rrd = act-rrd (isOpen k) (charged τ k t) (past (k .act) (τ .rc) t) d f
+    pub free-rc : past (k .act) (τ .rc) t ≡ false → false ≡ allOf (actTestsOf τ k d f g t)
+    free-rc = act-rc (isOpen k) (charged τ k t) (past (k .act) (τ .rc) t) d f g
 
-    pub free-faw : f ≡ false → false ≡ allOf (actTestsOf τ k d f t)
-    free-faw = act-faw (isOpen k) (charged τ k t) (past (k .act) (τ .rc) t) d f
+    pub free-rrd : d ≡ false → false ≡ allOf (actTestsOf τ k d f g t)
+    free-rrd = act-rrd (isOpen k) (charged τ k t) (past (k .act) (τ .rc) t) d f g
+
+    pub free-faw : f ≡ false → false ≡ allOf (actTestsOf τ k d f g t)
+    free-faw = act-faw (isOpen k) (charged τ k t) (past (k .act) (τ .rc) t) d f g
 
   module _ (f : Bool) where
     pub free-data : f ≡ true → isOpen k ≡ true → past (k .act) (τ .rcd) t ≡ allOf (dataTestsOf τ k f t)

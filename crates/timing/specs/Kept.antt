@@ -5,7 +5,7 @@ use mathlib.Core.List.{map}
 use lib.ListN.{replicate}
 use Rattle.records.specs.Tests.{pick}
 use Rattle.records.specs.declared.command.Kind.{Kind}
-use Rattle.records.specs.declared.command.Kind.the-variants.{Act, Rd, Rda, Wr, Wra, Other}
+use Rattle.records.specs.declared.command.Kind.the-variants.{Act, Rd, Rda, Wr, Wra, Ref, Other}
 use Rattle.rules.specs.declared.state.Stamp.{Stamp}
 use Rattle.rules.specs.declared.state.Stamp.the-variants.{Never, At}
 use Rattle.rules.specs.declared.state.Bank.{Bank}
@@ -20,6 +20,7 @@ isClosing Rd = false
 isClosing Rda = true
 isClosing Wr = false
 isClosing Wra = true
+isClosing Ref = false
 isClosing (Other n) = false
 
 -- 0 is "never", and every other number is one more than the cycle
@@ -44,6 +45,7 @@ told s =
       a4 = stampOf (s .a4);
       rd = stampOf (s .rd);
       wr = stampOf (s .wr);
+      refresh = stampOf (s .refresh);
     }
 
 abbrev pub shutKept : KeptBank
@@ -63,6 +65,7 @@ keptFresh e =
       a4 = 0;
       rd = 0;
       wr = 0;
+      refresh = 0;
     }
 
 -- a bank after an ACT, and after a data command, a write or not, with auto precharge or not; `next` is the cycle after the command

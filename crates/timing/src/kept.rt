@@ -6,11 +6,12 @@ use crate::square::sum_2;
 use crate::square::sum_4;
 use crate::square::wide;
 use records::table::Table;
+use records::tests::not_of;
 ghost use mathlib.Core.Path.{_≡_};
-ghost use Prim.Native.Nat.{_+_, _<_};
+ghost use Prim.Native.Nat.{_+_, _≤_, _<_};
 ghost use Rattle.records.specs.Tests.{pick, allOf};
-ghost use Rattle.rules.specs.State.{past, isOpen, charged, farBy, actTestsOf, dataTestsOf};
-ghost use Rattle.timing.specs.Kept.{stampOf, toldBank, shutKept, keptFresh, keptAfter};
+ghost use Rattle.rules.specs.State.{past, isOpen, charged, atRest, rule11, farBy, actTestsOf, dataTestsOf};
+ghost use Rattle.timing.specs.Kept.{stampOf, toldBank, told, keptFresh, keptAfter};
 
 // A bank. A stamp is 0 for "never", and else the cycle after it.
 pub struct KeptBank {
@@ -32,6 +33,7 @@ pub struct Kept {
     pub a4: u64,
     pub rd: u64,
     pub wr: u64,
+    pub refresh: u64,
 }
 
 pub fn kept_fresh(edition: u16) -> Kept
@@ -55,6 +57,7 @@ pub fn kept_fresh(edition: u16) -> Kept
         a4: 0,
         rd: 0,
         wr: 0,
+        refresh: 0,
     }
 }
 
@@ -91,6 +94,33 @@ pub fn kept_charged(t: Table, k: KeptBank, c: u64) -> bool
     false
 }
 
+// A bank that lets a REF go at cycle c: it is closed and charged.
+pub fn kept_at_rest(t: Table, k: KeptBank, c: u64) -> bool
+    ensures { λ r. ⌜ r ≡ atRest t (toldBank k) c ⌝ }
+{
+    if kept_open(k) {
+        return false;
+    }
+    kept_charged(t, k, c)
+}
+
+// Rule 11: every bank of the table lets a REF go at cycle c. It goes over the banks, so it is asked of a REF alone.
+pub fn kept_rests(t: Table, s: Kept, c: u64) -> bool
+    requires { ⌜ t .banks ≤ 16 ⌝ }
+    ensures { λ r. ⌜ r ≡ rule11 t (told s) c ⌝ }
+{
+    let n = t.banks as usize;
+    let mut b: usize = 0;
+    while b < n {
+        let k = s.banks[b];
+        if not_of(kept_at_rest(t, k, c)) {
+            return false;
+        }
+        b = b + 1;
+    }
+    true
+}
+
 // Rule 9.
 pub fn kept_far(q: [[u32; 2]; 2], rd: u64, wr: u64, write: bool, c: u64) -> bool
     ensures { λ r. ⌜ r ≡ farBy q (stampOf rd) (stampOf wr) write c ⌝ }
@@ -102,9 +132,9 @@ pub fn kept_far(q: [[u32; 2]; 2], rd: u64, wr: u64, write: bool, c: u64) -> bool
     false
 }
 
-// An ACT to bank k at cycle c breaks none of rules 3 to 9; a1 and a4 are the newest and the fourth ACT before it.
-pub fn kept_act_free(t: Table, k: KeptBank, a1: u64, a4: u64, c: u64) -> bool
-    ensures { λ r. ⌜ r ≡ allOf (actTestsOf t (toldBank k) (past (stampOf a1) (t .rrd) c) (past (stampOf a4) (t .faw) c) c) ⌝ }
+// An ACT to bank k at cycle c breaks none of rules 3 to 12; a1 and a4 are the newest and the fourth ACT before it, and rule 12 is told.
+pub fn kept_act_free(t: Table, k: KeptBank, a1: u64, a4: u64, keeps12: bool, c: u64) -> bool
+    ensures { λ r. ⌜ r ≡ allOf (actTestsOf t (toldBank k) (past (stampOf a1) (t .rrd) c) (past (stampOf a4) (t .faw) c) keeps12 c) ⌝ }
 {
     if kept_open(k) {
         return false;
@@ -112,7 +142,10 @@ pub fn kept_act_free(t: Table, k: KeptBank, a1: u64, a4: u64, c: u64) -> bool
     if since(a4, wide(t.faw), c) {
         if since(a1, wide(t.rrd), c) {
             if kept_charged(t, k, c) {
-                return since(k.act, wide(t.rc), c);
+                if since(k.act, wide(t.rc), c) {
+                    return keeps12;
+                }
+                return false;
             }
             return false;
         }

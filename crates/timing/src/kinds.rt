@@ -1,7 +1,7 @@
 // Kinds of commands, for judge and engine.
 use records::command::Kind;
 ghost use mathlib.Core.Path.{_≡_};
-ghost use Rattle.rules.specs.Kinds.{isAct, isWr, isData, isKnown};
+ghost use Rattle.rules.specs.Kinds.{isAct, isWr, isRef, isData, inActQueue, canEnd, isKnown};
 ghost use Rattle.rules.specs.Queues.{dataKind};
 ghost use Rattle.timing.specs.Kept.{isClosing};
 
@@ -14,6 +14,7 @@ pub fn is_act(k: Kind) -> bool
         Kind::Rda => false,
         Kind::Wr => false,
         Kind::Wra => false,
+        Kind::Ref => false,
         Kind::Other(_) => false,
     }
 }
@@ -27,6 +28,21 @@ pub fn is_wr(k: Kind) -> bool
         Kind::Rda => false,
         Kind::Wr => true,
         Kind::Wra => true,
+        Kind::Ref => false,
+        Kind::Other(_) => false,
+    }
+}
+
+pub fn is_ref(k: Kind) -> bool
+    ensures { λ r. ⌜ r ≡ isRef k ⌝ }
+{
+    match k {
+        Kind::Act => false,
+        Kind::Rd => false,
+        Kind::Rda => false,
+        Kind::Wr => false,
+        Kind::Wra => false,
+        Kind::Ref => true,
         Kind::Other(_) => false,
     }
 }
@@ -40,6 +56,37 @@ pub fn is_data(k: Kind) -> bool
         Kind::Rda => true,
         Kind::Wr => true,
         Kind::Wra => true,
+        Kind::Ref => false,
+        Kind::Other(_) => false,
+    }
+}
+
+// A command of the ACT queue: an ACT or a REF.
+pub fn in_act_queue(k: Kind) -> bool
+    ensures { λ r. ⌜ r ≡ inActQueue k ⌝ }
+{
+    match k {
+        Kind::Act => true,
+        Kind::Rd => false,
+        Kind::Rda => false,
+        Kind::Wr => false,
+        Kind::Wra => false,
+        Kind::Ref => true,
+        Kind::Other(_) => false,
+    }
+}
+
+// A transaction's last command: a data command, or its REF.
+pub fn can_end(k: Kind) -> bool
+    ensures { λ r. ⌜ r ≡ canEnd k ⌝ }
+{
+    match k {
+        Kind::Act => false,
+        Kind::Rd => true,
+        Kind::Rda => true,
+        Kind::Wr => true,
+        Kind::Wra => true,
+        Kind::Ref => true,
         Kind::Other(_) => false,
     }
 }
@@ -53,6 +100,7 @@ pub fn is_known(k: Kind) -> bool
         Kind::Rda => true,
         Kind::Wr => true,
         Kind::Wra => true,
+        Kind::Ref => true,
         Kind::Other(_) => false,
     }
 }
@@ -67,6 +115,7 @@ pub fn is_closing(k: Kind) -> bool
         Kind::Rda => true,
         Kind::Wr => false,
         Kind::Wra => true,
+        Kind::Ref => false,
         Kind::Other(_) => false,
     }
 }

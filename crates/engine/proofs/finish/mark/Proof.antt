@@ -18,10 +18,10 @@ slice-write-finishes : tie.Need-slice-write-finishes Inv-loop μ-loop
 slice-write-finishes c = let args = c .before .before .before .before .before .before .before .before .args in let loop = c .before .before .before .before .before .loop in let pre = c .before .before .before .before .before .before .before .before .pre in let command-at = c .before .before .before .command-at in omega (arith, in-range _ (args .m) (loop .j) _ (loop .finishes) (loop .inv .1) (pre .1) (c .before .before .before .before .loop-test .taken) (command-at .result) (command-at .ensures))
 
 loop-again : tie.Need-loop-again Inv-loop μ-loop
-loop-again c = let loop-test = c .before .before .before .before .loop-test in let args = c .before .before .before .before .before .before .before .before .args in let loop = c .before .before .before .before .before .loop in let pre = c .before .before .before .before .before .before .before .before .pre in let command-at = c .before .before .before .command-at in (omega (arith, loop-test .taken), stores _ (args .m) (loop .j) _ (loop .finishes) (loop .inv .1) (pre .1) (loop-test .taken) (command-at .result) (command-at .ensures) (c .before .before .is-data .result) (c .before .before .is-data .ensures) (c .before .if1 .taken))
+loop-again c = let loop-test = c .before .before .before .before .loop-test in let args = c .before .before .before .before .before .before .before .before .args in let loop = c .before .before .before .before .before .loop in let pre = c .before .before .before .before .before .before .before .before .pre in let command-at = c .before .before .before .command-at in (omega (arith, loop-test .taken), stores _ (args .m) (loop .j) _ (loop .finishes) (loop .inv .1) (pre .1) (loop-test .taken) (command-at .result) (command-at .ensures) (c .before .before .can-end .result) (c .before .before .can-end .ensures) (c .before .if1 .taken))
 
 loop-again-2 : tie.Need-loop-again-2 Inv-loop μ-loop
-loop-again-2 c = let loop-test = c .before .before .before .loop-test in let args = c .before .before .before .before .before .before .before .args in let loop = c .before .before .before .before .loop in let pre = c .before .before .before .before .before .before .before .pre in (omega (arith, loop-test .taken), skips _ (args .m) (loop .j) _ (loop .finishes) (loop .inv .1) (pre .1) (loop-test .taken) (c .before .before .command-at .result) (c .before .before .command-at .ensures) (c .before .is-data .result) (c .before .is-data .ensures) (c .if1 .left))
+loop-again-2 c = let loop-test = c .before .before .before .loop-test in let args = c .before .before .before .before .before .before .before .args in let loop = c .before .before .before .before .loop in let pre = c .before .before .before .before .before .before .before .pre in (omega (arith, loop-test .taken), skips _ (args .m) (loop .j) _ (loop .finishes) (loop .inv .1) (pre .1) (loop-test .taken) (c .before .before .command-at .result) (c .before .before .command-at .ensures) (c .before .can-end .result) (c .before .can-end .ensures) (c .if1 .left))
 
 returns : tie.Need-returns Inv-loop μ-loop
 returns c = let e : c .before .loop .j ≡ c .before .before .before .before .args .m = omega arith in rw e at (c .before .loop .inv .1)

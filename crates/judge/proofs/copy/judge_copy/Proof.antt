@@ -5,7 +5,6 @@ use Prim.Native.Nat.{ℕ, _*_, _-_}
 use mathlib.Core.Path.{_≡_, refl, sym, ap, _∙_}
 use mathlib.Core.Bool.{Bool}
 use Rattle.records.specs.Tests.{pick}
-use Rattle.records.specs.Command.{command}
 use Rattle.rules.specs.declared.verdict.Verdict.{Verdict}
 use Rattle.rules.specs.declared.verdict.Verdict.the-variants.{Accepted, Refused}
 use Rattle.rules.specs.declared.verdict.Rule.the-variants.{End}
@@ -13,7 +12,7 @@ use Rattle.timing.specs.Kept.{told}
 use Rattle.judge.specs.Seen.{recordCount, whole}
 use Rattle.judge.proofs.Seen.{record-read}
 use Rattle.judge.proofs.Turn.{Turn, turn-start, turn-judging, turn-end}
-use Rattle.judge.proofs.InPlace.{low-bank, known, range-stops, rule-stops, act-next, data-next, kept-room}
+use Rattle.judge.proofs.InPlace.{low-bank, known, range-stops, ref-stops, ref-next, rule-stops, act-next, data-next, kept-room}
 use Rattle.judge.proofs.copy.judge_copy.Statement.{statement}
 use Rattle.judge.proofs.copy.judge_copy.Tie as tie
 
@@ -30,86 +29,128 @@ returns c =
     let a = e .before .before .before .before .before .before .before .before .before in
     (range-stops (l .state) (a .pre .0) (l .inv .0) (e .before .before .before .before .before .loop-test .taken) (record-read (a .args .s .now) _ (l .i) _ _ (e .before .before .before .before .command-at .ensures) (e .before .before .before .before .before .before .before .shift-of .ensures .0)) (sym (e .before .before .in-table .ensures) ∙ not-true _ (sym (e .before .not-of .ensures) ∙ e .if1 .taken)), λ e. let z : _≡_ {A = ℕ} 0 1 = cc in absurd (omega arith))
 
-element-copy-out-bank : tie.Need-element-copy-out-bank Inv-loop μ-loop
-element-copy-out-bank c =
-    let e = c in
-    let l = e .before .before .before .before .before .before .loop in
-    let a = e .before .before .before .before .before .before .before .before .before in
-    omega (arith, low-bank (a .args .t) (a .pre .0) (e .before .before .before .before .command-at .result) (sym (e .before .before .in-table .ensures) ∙ not-false _ (sym (e .before .not-of .ensures) ∙ e .if1 .left)))
-
-found-on-requires : tie.Need-found-on-requires Inv-loop μ-loop
-found-on-requires c κs =
-    let e = c .before in
-    let l = e .before .before .before .before .before .before .loop in
-    let a = e .before .before .before .before .before .before .before .before .before in
-    (a .pre .1, known (a .args .t) (e .before .before .before .before .command-at .result) (sym (e .before .before .in-table .ensures) ∙ not-false _ (sym (e .before .not-of .ensures) ∙ e .if1 .left)))
-
 returns-2 : tie.Need-returns-2 Inv-loop μ-loop
 returns-2 c =
-    let e = c .before .before .before .before .before in
+    let r = c .before .before .before .before .before in
+    let e = r .before .before in
     let l = e .before .before .before .before .before .before .loop in
     let a = e .before .before .before .before .before .before .before .before .before in
-    (rule-stops (l .state) (a .pre .0) (l .inv .0) (e .before .before .before .before .before .loop-test .taken) (record-read (a .args .s .now) _ (l .i) _ _ (e .before .before .before .before .command-at .ensures) (e .before .before .before .before .before .before .before .shift-of .ensures .0)) (sym (e .before .before .in-table .ensures) ∙ not-false _ (sym (e .before .not-of .ensures) ∙ e .if1 .left)) (c .before .before .before .found-on .ensures) _ (c .before .x .given .1), λ e. let z : _≡_ {A = ℕ} 0 1 = cc in absurd (omega arith))
+    (ref-stops (l .state) (a .pre .0) (l .inv .0) (e .before .before .before .before .before .loop-test .taken) (record-read (a .args .s .now) _ (l .i) _ _ (e .before .before .before .before .command-at .ensures) (e .before .before .before .before .before .before .before .shift-of .ensures .0)) (sym (e .before .before .in-table .ensures) ∙ not-false _ (sym (e .before .not-of .ensures) ∙ e .if1 .left)) (sym (r .before .is-ref .ensures) ∙ r .if2 .taken) (c .before .before .before .before .kept-rests .ensures) (c .before .before .before .found-ref .ensures) _ (c .before .x .given .1), λ e. let z : _≡_ {A = ℕ} 0 1 = cc in absurd (omega arith))
 
 add-later : tie.Need-add-later Inv-loop μ-loop
 add-later c =
-    let e = c .before .before .before .before in
+    let r = c .before .before .before .before in
+    let e = r .before .before in
     let l = e .before .before .before .before .before .before .loop in
     let a = e .before .before .before .before .before .before .before .before .before in
     omega (arith, e .before .before .before .struct-known .given, e .before .before .before .before .before .before .before .shift-of .ensures .1)
 
 add-state : tie.Need-add-state Inv-loop μ-loop
 add-state c =
-    let e = c .before .before .before .before .before .before in
+    let r = c .before .before .before .before in
+    let e = r .before .before in
+    let l = e .before .before .before .before .before .before .loop in
+    let a = e .before .before .before .before .before .before .before .before .before in
+    omega (arith, (kept-room (a .args .length) (a .args .s .now) (a .args .k) (l .i) (l .state) (a .pre .3) (omega arith) (a .pre .2) (l .inv .0 .judging .sums)) .0)
+
+loop-again : tie.Need-loop-again Inv-loop μ-loop
+loop-again c =
+    let r = c .before .before .before .before in
+    let e = r .before .before in
+    let l = e .before .before .before .before .before .before .loop in
+    let a = e .before .before .before .before .before .before .before .before .before in
+    (ref-next (l .state) (a .pre .0) (l .inv .0) (e .before .before .before .before .before .loop-test .taken) (record-read (a .args .s .now) _ (l .i) _ _ (e .before .before .before .before .command-at .ensures) (e .before .before .before .before .before .before .before .shift-of .ensures .0)) (sym (e .before .before .in-table .ensures) ∙ not-false _ (sym (e .before .not-of .ensures) ∙ e .if1 .left)) (sym (r .before .is-ref .ensures) ∙ r .if2 .taken) (c .before .before .before .kept-rests .ensures) (c .before .before .found-ref .ensures) (c .enum-told .given .1), l .inv .1)
+
+element-copy-out-bank : tie.Need-element-copy-out-bank Inv-loop μ-loop
+element-copy-out-bank c =
+    let r = c in
+    let e = r .before .before in
+    let l = e .before .before .before .before .before .before .loop in
+    let a = e .before .before .before .before .before .before .before .before .before in
+    omega (arith, low-bank (a .args .t) (a .pre .0) (e .before .before .before .before .command-at .result) (sym (e .before .before .in-table .ensures) ∙ not-false _ (sym (e .before .not-of .ensures) ∙ e .if1 .left)))
+
+found-on-requires : tie.Need-found-on-requires Inv-loop μ-loop
+found-on-requires c κs =
+    let r = c .before in
+    let e = r .before .before in
+    let l = e .before .before .before .before .before .before .loop in
+    let a = e .before .before .before .before .before .before .before .before .before in
+    (a .pre .1, known (a .args .t) (e .before .before .before .before .command-at .result) (sym (e .before .before .in-table .ensures) ∙ not-false _ (sym (e .before .not-of .ensures) ∙ e .if1 .left)), (sym (r .before .is-ref .ensures) ∙ r .if2 .left))
+
+returns-3 : tie.Need-returns-3 Inv-loop μ-loop
+returns-3 c =
+    let r = c .before .before .before .before .before in
+    let e = r .before .before in
+    let l = e .before .before .before .before .before .before .loop in
+    let a = e .before .before .before .before .before .before .before .before .before in
+    (rule-stops (l .state) (a .pre .0) (l .inv .0) (e .before .before .before .before .before .loop-test .taken) (record-read (a .args .s .now) _ (l .i) _ _ (e .before .before .before .before .command-at .ensures) (e .before .before .before .before .before .before .before .shift-of .ensures .0)) (sym (e .before .before .in-table .ensures) ∙ not-false _ (sym (e .before .not-of .ensures) ∙ e .if1 .left)) (sym (r .before .is-ref .ensures) ∙ r .if2 .left) (c .before .before .before .found-on .ensures) _ (c .before .x2 .given .1), λ e. let z : _≡_ {A = ℕ} 0 1 = cc in absurd (omega arith))
+
+add-later-2 : tie.Need-add-later-2 Inv-loop μ-loop
+add-later-2 c =
+    let r = c .before .before .before .before in
+    let e = r .before .before in
+    let l = e .before .before .before .before .before .before .loop in
+    let a = e .before .before .before .before .before .before .before .before .before in
+    omega (arith, e .before .before .before .struct-known .given, e .before .before .before .before .before .before .before .shift-of .ensures .1)
+
+add-state-2 : tie.Need-add-state-2 Inv-loop μ-loop
+add-state-2 c =
+    let r = c .before .before .before .before .before .before in
+    let e = r .before .before in
     let l = e .before .before .before .before .before .before .loop in
     let a = e .before .before .before .before .before .before .before .before .before in
     omega (arith, (kept-room (a .args .length) (a .args .s .now) (a .args .k) (l .i) (l .state) (a .pre .3) (omega arith) (a .pre .2) (l .inv .0 .judging .sums)) .0)
 
 element-set-from-state : tie.Need-element-set-from-state Inv-loop μ-loop
 element-set-from-state c =
-    let e = c .before .before .before .before .before .before in
-    let l = e .before .before .before .before .before .before .loop in
-    let a = e .before .before .before .before .before .before .before .before .before in
-    omega (arith, low-bank (a .args .t) (a .pre .0) (e .before .before .before .before .command-at .result) (sym (e .before .before .in-table .ensures) ∙ not-false _ (sym (e .before .not-of .ensures) ∙ e .if1 .left)))
-
-loop-again : tie.Need-loop-again Inv-loop μ-loop
-loop-again c =
-    let e = c .before .before .before .before .before .before in
-    let l = e .before .before .before .before .before .before .loop in
-    let a = e .before .before .before .before .before .before .before .before .before in
-    (act-next (l .state) (a .pre .0) (l .inv .0) (e .before .before .before .before .before .loop-test .taken) (record-read (a .args .s .now) _ (l .i) _ _ (e .before .before .before .before .command-at .ensures) (e .before .before .before .before .before .before .before .shift-of .ensures .0)) (sym (e .before .before .in-table .ensures) ∙ not-false _ (sym (e .before .not-of .ensures) ∙ e .if1 .left)) (c .before .before .before .before .found-on .ensures) (c .before .before .enum-told .given .1) (sym (c .before .is-act .ensures) ∙ c .if2 .taken), l .inv .1)
-
-add-state-2 : tie.Need-add-state-2 Inv-loop μ-loop
-add-state-2 c =
-    let e = c .before .before .before .before .before .before .before in
-    let l = e .before .before .before .before .before .before .loop in
-    let a = e .before .before .before .before .before .before .before .before .before in
-    omega (arith, (kept-room (a .args .length) (a .args .s .now) (a .args .k) (l .i) (l .state) (a .pre .3) (omega arith) (a .pre .2) (l .inv .0 .judging .sums)) .1)
-
-element-set-from-state-2 : tie.Need-element-set-from-state-2 Inv-loop μ-loop
-element-set-from-state-2 c =
-    let e = c .before .before .before .before .before .before .before .before .before in
+    let r = c .before .before .before .before .before .before in
+    let e = r .before .before in
     let l = e .before .before .before .before .before .before .loop in
     let a = e .before .before .before .before .before .before .before .before .before in
     omega (arith, low-bank (a .args .t) (a .pre .0) (e .before .before .before .before .command-at .result) (sym (e .before .before .in-table .ensures) ∙ not-false _ (sym (e .before .not-of .ensures) ∙ e .if1 .left)))
 
 loop-again-2 : tie.Need-loop-again-2 Inv-loop μ-loop
 loop-again-2 c =
-    let e = c .before .before .before .before .before .before .before .before .before .before .before in
+    let r = c .before .before .before .before .before .before in
+    let e = r .before .before in
     let l = e .before .before .before .before .before .before .loop in
     let a = e .before .before .before .before .before .before .before .before .before in
-    (rw (c .either-642 .ensures, c .before .either-64 .ensures, c .before .before .kept-after .ensures, c .before .before .before .is-closing .ensures, c .before .before .before .before .is-wr .ensures) (data-next (l .state) (a .pre .0) (l .inv .0) (e .before .before .before .before .before .loop-test .taken) (record-read (a .args .s .now) _ (l .i) _ _ (e .before .before .before .before .command-at .ensures) (e .before .before .before .before .before .before .before .shift-of .ensures .0)) (sym (e .before .before .in-table .ensures) ∙ not-false _ (sym (e .before .not-of .ensures) ∙ e .if1 .left)) (c .before .before .before .before .before .before .before .before .before .found-on .ensures) (c .before .before .before .before .before .before .before .enum-told .given .1) (sym (c .before .before .before .before .before .before .is-act .ensures) ∙ c .before .before .before .before .before .if2 .left)), l .inv .1)
+    (act-next (l .state) (a .pre .0) (l .inv .0) (e .before .before .before .before .before .loop-test .taken) (record-read (a .args .s .now) _ (l .i) _ _ (e .before .before .before .before .command-at .ensures) (e .before .before .before .before .before .before .before .shift-of .ensures .0)) (sym (e .before .before .in-table .ensures) ∙ not-false _ (sym (e .before .not-of .ensures) ∙ e .if1 .left)) (sym (r .before .is-ref .ensures) ∙ r .if2 .left) (c .before .before .before .before .found-on .ensures) (c .before .before .enum-told2 .given .1) (sym (c .before .is-act .ensures) ∙ c .if3 .taken), l .inv .1)
+
+add-state-3 : tie.Need-add-state-3 Inv-loop μ-loop
+add-state-3 c =
+    let r = c .before .before .before .before .before .before .before in
+    let e = r .before .before in
+    let l = e .before .before .before .before .before .before .loop in
+    let a = e .before .before .before .before .before .before .before .before .before in
+    omega (arith, (kept-room (a .args .length) (a .args .s .now) (a .args .k) (l .i) (l .state) (a .pre .3) (omega arith) (a .pre .2) (l .inv .0 .judging .sums)) .1)
+
+element-set-from-state-2 : tie.Need-element-set-from-state-2 Inv-loop μ-loop
+element-set-from-state-2 c =
+    let r = c .before .before .before .before .before .before .before .before .before in
+    let e = r .before .before in
+    let l = e .before .before .before .before .before .before .loop in
+    let a = e .before .before .before .before .before .before .before .before .before in
+    omega (arith, low-bank (a .args .t) (a .pre .0) (e .before .before .before .before .command-at .result) (sym (e .before .before .in-table .ensures) ∙ not-false _ (sym (e .before .not-of .ensures) ∙ e .if1 .left)))
+
+loop-again-3 : tie.Need-loop-again-3 Inv-loop μ-loop
+loop-again-3 c =
+    let r = c .before .before .before .before .before .before .before .before .before .before .before in
+    let e = r .before .before in
+    let l = e .before .before .before .before .before .before .loop in
+    let a = e .before .before .before .before .before .before .before .before .before in
+    (rw (c .either-642 .ensures, c .before .either-64 .ensures, c .before .before .kept-after .ensures, c .before .before .before .is-closing .ensures, c .before .before .before .before .is-wr .ensures) (data-next (l .state) (a .pre .0) (l .inv .0) (e .before .before .before .before .before .loop-test .taken) (record-read (a .args .s .now) _ (l .i) _ _ (e .before .before .before .before .command-at .ensures) (e .before .before .before .before .before .before .before .shift-of .ensures .0)) (sym (e .before .before .in-table .ensures) ∙ not-false _ (sym (e .before .not-of .ensures) ∙ e .if1 .left)) (sym (r .before .is-ref .ensures) ∙ r .if2 .left) (c .before .before .before .before .before .before .before .before .before .found-on .ensures) (c .before .before .before .before .before .before .before .enum-told2 .given .1) (sym (c .before .before .before .before .before .before .is-act .ensures) ∙ c .before .before .before .before .before .if3 .left)), l .inv .1)
 
 -- rule 10, by whether all banks are shut
 abbrev ended : ℕ → Bool → Verdict
 ended n shut = pick shut Accepted (Refused End n)
 
-returns-3 : tie.Need-returns-3 Inv-loop μ-loop
-returns-3 c =
+returns-4 : tie.Need-returns-4 Inv-loop μ-loop
+returns-4 c =
     let a = c .before .before .before .before .before .before in
     let l = c .before .before .before .loop in
     let told : c .end-of .result ≡ ended (recordCount (a .args .s .now)) (c .before .all-shut .result) = c .end-of .ensures in
     (told ∙ (ap (ended (recordCount (a .args .s .now))) (c .before .all-shut .ensures) ∙ turn-end (a .pre .0) (l .inv .0) (c .before .before .loop-test .left)), λ e. turn-judging (a .pre .0) (l .inv .0) (c .before .before .loop-test .left))
 
 pub judge-copy-spec : {M : Type 1} → statement M
-judge-copy-spec = tie.close (tie.spec Inv-loop μ-loop (λ c κs. search needs) (λ c. (turn-start (c .before .before .pre .4), refl)) (λ c. search needs) (λ c κs. omega arith) (λ c. search needs) (λ c. search needs) (λ c. search needs) (λ c. search needs) (λ c κs. search needs) (λ c κs. search needs) returns (λ c. search needs) (λ c. search needs) element-copy-out-bank found-on-requires (λ c. search needs) returns-2 (λ c. search needs) add-later (λ c κs. search needs) add-state (λ c. search needs) element-set-from-state (λ c. search needs) loop-again (λ c κs. search needs) add-state-2 (λ c κs. search needs) (λ c κs. search needs) (λ c. search needs) element-set-from-state-2 (λ c κs. search needs) (λ c κs. search needs) (λ c. search needs) loop-again-2 (λ c κs. search needs) (λ c. search needs) (λ c κs. search needs) returns-3)
+judge-copy-spec = tie.close (tie.spec Inv-loop μ-loop (λ c κs. search needs) (λ c. (turn-start (c .before .before .pre .4), refl)) (λ c. search needs) (λ c κs. omega arith) (λ c. search needs) (λ c. search needs) (λ c. search needs) (λ c. search needs) (λ c κs. search needs) (λ c κs. search needs) returns (λ c κs. search needs) (λ c κs. search needs) (λ c κs. search needs) (λ c. search needs) returns-2 (λ c. search needs) add-later add-state (λ c. search needs) loop-again (λ c. search needs) (λ c. search needs) element-copy-out-bank found-on-requires (λ c. search needs) returns-3 (λ c. search needs) add-later-2 (λ c κs. search needs) add-state-2 (λ c. search needs) element-set-from-state (λ c. search needs) loop-again-2 (λ c κs. search needs) add-state-3 (λ c κs. search needs) (λ c κs. search needs) (λ c. search needs) element-set-from-state-2 (λ c κs. search needs) (λ c κs. search needs) (λ c. search needs) loop-again-3 (λ c κs. search needs) (λ c. search needs) (λ c κs. search needs) returns-4)

@@ -13,16 +13,16 @@ use Rattle.lists.proofs.check.check_range.Statement.{statement}
 use Rattle.lists.proofs.check.check_range.Tie as tie
 
 abbrev Inv-loop : tie.InvT-loop
-Inv-loop banks edition s n k₀ k = (k ≤ n) × (n ≡ length s / 4) × (leftFrom banks edition s n k ≡ rangeFrom banks edition (transactionsIn s) 0)
+Inv-loop banks rfc edition s n k₀ k = (k ≤ n) × (n ≡ length s / 4) × (leftFrom banks rfc edition s n k ≡ rangeFrom banks rfc edition (transactionsIn s) 0)
 
 abbrev μ-loop : tie.MeasureT-loop
-μ-loop banks edition s n k₀ k = n - k
+μ-loop banks rfc edition s n k₀ k = n - k
 
 loop-again : tie.Need-loop-again Inv-loop μ-loop
-loop-again c = (omega (arith, c .before .before .before .loop-test .taken), c .before .before .before .before .loop .inv .1, left-fits _ _ _ _ _ (c .before .before .before .loop-test .taken) (ap (λ (x : Transaction). fitsIn (c .before .before .before .before .before .before .args .banks) x) (sym (c .before .before .transaction-at .ensures)) ∙ sym (c .before .fits-in .ensures) ∙ c .if1 .taken) ∙ c .before .before .before .before .loop .inv .2)
+loop-again c = (omega (arith, c .before .before .before .loop-test .taken), c .before .before .before .before .loop .inv .1, left-fits _ _ _ _ _ _ (c .before .before .before .loop-test .taken) (ap (λ (x : Transaction). fitsIn (c .before .before .before .before .before .before .args .banks) (c .before .before .before .before .before .before .args .rfc) x) (sym (c .before .before .transaction-at .ensures)) ∙ sym (c .before .fits-in .ensures) ∙ c .if1 .taken) ∙ c .before .before .before .before .loop .inv .2)
 
 returns : tie.Need-returns Inv-loop μ-loop
-returns c = ap Refused (c .refuse .ensures) ∙ left-out _ _ _ _ _ (c .before .before .before .before .loop-test .taken) (ap (λ (x : Transaction). fitsIn (c .before .before .before .before .before .before .before .args .banks) x) (sym (c .before .before .before .transaction-at .ensures)) ∙ sym (c .before .before .fits-in .ensures) ∙ c .before .if1 .left) ∙ c .before .before .before .before .before .loop .inv .2
+returns c = ap Refused (c .refuse .ensures) ∙ left-out _ _ _ _ _ _ (c .before .before .before .before .loop-test .taken) (ap (λ (x : Transaction). fitsIn (c .before .before .before .before .before .before .before .args .banks) (c .before .before .before .before .before .before .before .args .rfc) x) (sym (c .before .before .before .transaction-at .ensures)) ∙ sym (c .before .before .fits-in .ensures) ∙ c .before .if1 .left) ∙ c .before .before .before .before .before .loop .inv .2
 
 pub check-range-spec : {M : Type 1} → statement M
-check-range-spec = tie.close (tie.spec Inv-loop μ-loop (λ c. (omega arith, refl, left-all _ _ _ _)) (λ c. omega arith) (λ c κs. omega arith) (λ c κs. search needs) (λ c. omega arith) (λ c. omega arith) loop-again (λ c. omega arith) (λ c κs. search needs) returns (λ c. left-none _ _ _ _ _ (c .loop-test .left) ∙ c .before .loop .inv .2))
+check-range-spec = tie.close (tie.spec Inv-loop μ-loop (λ c. (omega arith, refl, left-all _ _ _ _ _)) (λ c. omega arith) (λ c κs. omega arith) (λ c κs. search needs) (λ c. omega arith) (λ c. omega arith) loop-again (λ c. omega arith) (λ c κs. search needs) returns (λ c. left-none _ _ _ _ _ _ (c .loop-test .left) ∙ c .before .loop .inv .2))

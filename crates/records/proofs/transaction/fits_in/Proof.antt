@@ -3,7 +3,7 @@ use Rattle.records.proofs.transaction.fits_in.Statement.{statement}
 use Rattle.records.proofs.transaction.fits_in.Tie as tie
 
 returns : tie.Need-returns
-returns c = rw (c .both-of4 .ensures, c .before .both-of3 .ensures, c .before .before .both-of2 .ensures, c .before .before .before .both-of .ensures, c .before .before .before .before .is-within2 .ensures, c .before .before .before .before .before .is-within .ensures)
+returns c = rw (c .either-of .ensures, c .before .moves-data .ensures, c .before .before .refreshes .ensures)
 
 pub fits-in-spec : {M : Type 1} → statement M
-fits-in-spec = tie.close (tie.spec (λ c. search needs) (λ c κs. search needs) (λ c κs. search needs) (λ c κs. search needs) (λ c κs. search needs) (λ c κs. search needs) returns)
+fits-in-spec = tie.close (tie.spec (λ c κs. search needs) (λ c κs. search needs) (λ c κs. search needs) returns)

@@ -1,0 +1,122 @@
+-- What the worked calls are handed, and how what they tell is written.
+use Prim.Native.Nat.{ℕ}
+use mathlib.Core.Path.{_≡_}
+use mathlib.Core.List.{List, [], _∷_}
+use lib.ListN.{take, replicate}
+use Rattle.records.specs.declared.transaction.Transaction.{Transaction}
+use Rattle.records.specs.declared.command.Command.{Command}
+use Rattle.records.specs.Told.{refusal, Wrote}
+use Rattle.records.specs.Little.{bytes16}
+use Rattle.records.specs.Transaction.{transactionsIn}
+use Rattle.records.specs.Command.{bytesOfAll}
+use Rattle.records.specs.House.{house, numbersA, numbersB, numbersC}
+use Rattle.rules.specs.Worked.{read}
+use Rattle.judge.specs.declared.answer.PatternJudged.{PatternJudged}
+use Rattle.builder.specs.declared.build.BuildAnswer.{BuildAnswer}
+use Rattle.lists.specs.Check.{checkList, checkBytes}
+use Rattle.controller.specs.declared.controller.Controller.{Controller}
+use Rattle.desk.specs.Admit.{admitted}
+use Rattle.desk.specs.Judging.{judging, PatternTold}
+use Rattle.desk.specs.Bounds.{bounding}
+use Rattle.desk.specs.Transactions.{reading}
+use Rattle.desk.specs.Schedules.{Schedules}
+use Rattle.desk.specs.Running.{running}
+use Rattle.desk.specs.Numbers.{Numbers, refusing, writtenNumbers, judgedNumbers, patternNumbers, boundNumbers, readNumbers, buildNumbers, runNumbers}
+
+-- ---- what is handed in
+
+-- the 32 bytes of tables A, B and C; of A with RC 50; of A with CCD 1, which number 2 refuses; and 31 bytes of that, which number 1 refuses first
+abbrev pub A : List ℕ
+A = bytes16 numbersA
+
+abbrev pub B : List ℕ
+B = bytes16 numbersB
+
+abbrev pub C : List ℕ
+C = bytes16 numbersC
+
+abbrev pub A50 : List ℕ
+A50 = bytes16 (7 ∷ 8 ∷ 4 ∷ 4 ∷ 10 ∷ 10 ∷ 28 ∷ 50 ∷ 6 ∷ 32 ∷ 10 ∷ 8 ∷ 6 ∷ 12 ∷ 6 ∷ 0 ∷ [])
+
+abbrev pub ccd1 : List ℕ
+ccd1 = bytes16 (7 ∷ 8 ∷ 4 ∷ 1 ∷ 10 ∷ 10 ∷ 28 ∷ 38 ∷ 6 ∷ 32 ∷ 10 ∷ 8 ∷ 6 ∷ 12 ∷ 6 ∷ 0 ∷ [])
+
+abbrev pub cut : List ℕ
+cut = take 31 ccd1
+
+-- of A with an RFC; of A with RFC 50; and of that with RRD 200
+abbrev pub withRfc : ℕ → List ℕ
+withRfc rfc = bytes16 (house 32 6 rfc)
+
+abbrev pub R : List ℕ
+R = withRfc 50
+
+abbrev pub R200 : List ℕ
+R200 = bytes16 (7 ∷ 8 ∷ 4 ∷ 4 ∷ 10 ∷ 10 ∷ 28 ∷ 38 ∷ 200 ∷ 32 ∷ 10 ∷ 8 ∷ 6 ∷ 12 ∷ 6 ∷ 50 ∷ [])
+
+-- a read that fits the table, and one that does not
+abbrev pub fine : Transaction
+fine = read 0 1 1
+
+abbrev pub out : Transaction
+out = read 8 1 1
+
+-- a controller of an edition and a cycle, from whose queues so many commands have gone, and whose last REF went at a cycle; nothing else has
+-- happened to it
+abbrev pub refreshed : ℕ → ℕ → ℕ → ℕ → ℕ → Controller
+refreshed e t acts datas c =
+    record {
+      edition = e;
+      cycle = t;
+      acts = acts;
+      datas = datas;
+      banks = replicate 16 (record { opened = 0; act = 4294967295; rd = 4294967295; wr = 4294967295 });
+      last = replicate 4 4294967295;
+      rd = 4294967295;
+      wr = 4294967295;
+      refresh = c;
+    }
+
+-- and one that never had a REF
+abbrev pub gone : ℕ → ℕ → ℕ → ℕ → Controller
+gone e t acts datas = refreshed e t acts datas 4294967295
+
+-- ---- what is told
+
+-- a refusal by a number, at a position, with an edition
+abbrev pub told : ℕ → ℕ → ℕ → Numbers
+told n p e = refusing (refusal n p e)
+
+abbrev pub judges : ℕ → List ℕ → List Command → Numbers
+judges e t rs = judgedNumbers (judging (admitted e t) (bytesOfAll rs))
+
+abbrev pub judgesBytes : ℕ → List ℕ → List ℕ → Numbers
+judgesBytes e t s = judgedNumbers (judging (admitted e t) s)
+
+-- whatever answer keeps the promise tells these numbers
+abbrev pub Patterns : ℕ → List ℕ → List ℕ → ℕ → Numbers → Type 0
+Patterns e t s L n = (r : PatternJudged) → PatternTold (admitted e t) s L r → patternNumbers r ≡ n
+
+abbrev pub bounds : ℕ → List ℕ → ℕ → ℕ → Numbers
+bounds e t bi bc = boundNumbers (bounding (admitted e t) bi bc)
+
+abbrev pub reads : ℕ → List ℕ → List ℕ → List Transaction → Numbers
+reads e t s l = readNumbers (reading (admitted e t) s l .answer)
+
+-- whatever answer and buffers keep the promise, the answer tells these numbers and the buffers hold b and f
+abbrev pub Builds : ℕ → List ℕ → List Transaction → List ℕ → List ℕ → Numbers → List ℕ → List ℕ → Type 0
+Builds e t l b₀ f₀ n b f =
+    (r : BuildAnswer) (b' f' : List ℕ) → Schedules (λ τ. checkList τ l) (admitted e t) l b₀ b' f₀ f' r → (buildNumbers r ≡ n) × (b' ≡ b) × (f' ≡ f)
+
+abbrev pub BuildsBytes : ℕ → List ℕ → List ℕ → List ℕ → List ℕ → Numbers → List ℕ → List ℕ → Type 0
+BuildsBytes e t s b₀ f₀ n b f =
+    (r : BuildAnswer) (b' f' : List ℕ) → Schedules (λ τ. checkBytes τ s) (admitted e t) (transactionsIn s) b₀ b' f₀ f' r → (buildNumbers r ≡ n) × (b' ≡ b) × (f' ≡ f)
+
+abbrev pub runs : ℕ → List ℕ → Controller → List Transaction → ℕ → ℕ → Numbers
+runs e t c l n room = runNumbers (running (λ τ. checkList τ l) (admitted e t) c l n (replicate room 9) .told .answer)
+
+abbrev pub runsBytes : ℕ → List ℕ → Controller → List ℕ → ℕ → ℕ → Numbers
+runsBytes e t c s n room = runNumbers (running (λ τ. checkBytes τ s) (admitted e t) c (transactionsIn s) n (replicate room 9) .told .answer)
+
+abbrev pub Writes : Wrote → Numbers → List ℕ → Type 0
+Writes w n b = (writtenNumbers (w .answer) ≡ n) × (w .buffer ≡ b)
