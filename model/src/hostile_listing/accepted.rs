@@ -4,7 +4,7 @@ use super::{Cases, EXAMPLE_3, EXAMPLE_5};
 use crate::examples;
 use crate::house::*;
 use crate::listing::ROOM;
-use crate::records::{Table, B, BANKS, CCD, EDITION, LAST};
+use crate::records::{Table, B, BANKS, CCD, EDITION, RFC};
 
 pub fn put(cases: &mut Cases) {
     let mut numbers = Numbers(21);
@@ -123,7 +123,7 @@ fn any_table(numbers: &mut Numbers) -> Table {
         let place = 4 + numbers.below(11);
         t[place] = 1 + u16::from(numbers.byte()) % 255;
     }
-    t[LAST] = 0;
+    t[RFC] = 0;
     t
 }
 

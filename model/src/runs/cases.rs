@@ -5,7 +5,7 @@ use super::editions::editions;
 use super::states::*;
 use super::*;
 use crate::house::*;
-use crate::records::{BANKS, CCD, EDITION, LAST};
+use crate::records::{BANKS, CCD, EDITION, RFC};
 
 pub struct Cases(Vec<u8>);
 
@@ -257,7 +257,7 @@ fn bounds(cases: &mut Cases) {
 /// The table is refused before anything else is looked at.
 fn refused_tables(cases: &mut Cases) {
     for table in [
-        with(&[(LAST, 1), (BANKS, 0)]),
+        with(&[(RFC, 1024), (BANKS, 0)]),
         with(&[(CCD, 1)]),
         with(&[(BANKS, 17)]),
         with(&[(EDITION, 0)]),
@@ -267,7 +267,7 @@ fn refused_tables(cases: &mut Cases) {
         cases.bound(&table, 0, 0);
         cases.bound(&table, 1, 1);
     }
-    for table in [with(&[(LAST, 1)]), with(&[(FAW, 0)])] {
+    for table in [with(&[(RFC, 1024)]), with(&[(FAW, 0)])] {
         cases.run(&table, 1, 0, &Controller::fresh(&table), &[0, 0, 1, 1]);
     }
 }

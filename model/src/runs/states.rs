@@ -14,7 +14,8 @@ pub fn bytes_of_state(s: &Controller) -> Vec<u8> {
         bytes.push(bank.opened);
         bytes.extend([bank.act, bank.rd, bank.wr].into_iter().flat_map(four));
     }
-    bytes.extend(s.last.into_iter().chain([s.rd, s.wr]).flat_map(four));
+    let of_all = [s.rd, s.wr, s.refresh];
+    bytes.extend(s.last.into_iter().chain(of_all).flat_map(four));
     bytes
 }
 

@@ -6,7 +6,7 @@ use super::editions::editions;
 use super::search::*;
 use super::*;
 use crate::house::*;
-use crate::records::{Table, BANKS, CCD, EDITION, LAST};
+use crate::records::{Table, BANKS, CCD, EDITION, RFC};
 use crate::rules::*;
 
 const TOP: u64 = u32::MAX as u64;
@@ -210,14 +210,14 @@ fn sizes(cases: &mut Cases) {
 /// The table is refused before anything else is looked at.
 fn refused_tables(cases: &mut Cases) {
     let tables = [
-        with(&[(LAST, 1)]),
-        with(&[(LAST, 1), (CCD, 1)]),
+        with(&[(RFC, 1024)]),
+        with(&[(RFC, 65535), (CCD, 1)]),
         with(&[(CCD, 1)]),
         with(&[(CCD, 3)]),
         with(&[(BANKS, 0)]),
         with(&[(BANKS, 17)]),
         with(&[(EDITION, 0)]),
-        with(&[(FAW, 256)]),
+        with(&[(FAW, 1024)]),
         with(&[(RTP, 0)]),
         [0; 16],
         [65535; 16],

@@ -12,7 +12,7 @@ pub fn earliest(table: &Table, before: &[Record], kind: u8, bank: u8) -> u64 {
     let from = before.last().map_or(0, |last| last.cycle + 1);
     let at = |cycle| Record { cycle, kind, bank };
     let fine = |&cycle: &u64| first_broken(table, before, &at(cycle)).is_none();
-    (from..from + 2000).find(fine).expect("time breaks no rule")
+    (from..from + 5000).find(fine).expect("time breaks no rule")
 }
 
 /// So many records that break no rule and close every bank, most as early as can be.
