@@ -6,6 +6,7 @@
 
 mod cases;
 mod editions;
+mod refreshes;
 mod states;
 
 pub use cases::cases;

@@ -143,6 +143,14 @@ fn transactions(cases: &mut Cases) {
     for kind in [0, 1, 2, 3, 255] {
         cases.put_both(READ_TRANSACTION, &[kind, 0, 1, 1]);
     }
+    // "A transaction of type 2, with the other three bytes 0, is a refresh .. accepted where no table is given."
+    for place in 0..4 {
+        for n in [0, 1, 2, 3, 16, 255] {
+            let mut x = REFRESH_BYTES;
+            x[place] = n;
+            cases.put_both(READ_TRANSACTION, &x);
+        }
+    }
     for start in edges {
         for bi in edges {
             cases.put_both(READ_TRANSACTION, &[0, start, bi, 1]);
@@ -178,6 +186,8 @@ fn transactions(cases: &mut Cases) {
         [1, 0, 0, 1],
         [1, 0, 1, 17],
         [255; 4],
+        REFRESH_BYTES,
+        [2, 0, 0, 1],
     ] {
         cases.put_rooms(WRITE_TRANSACTION, &x);
     }

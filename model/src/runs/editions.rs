@@ -8,7 +8,7 @@ use crate::records::{BANKS, CCD, EDITION, RFC};
 const READ: [u8; 4] = [0, 0, 1, 1];
 
 /// A run's case is long, so it's tried with so many of the pairs.
-const RUNS: usize = 5;
+const RUNS: usize = 3;
 
 pub fn editions(cases: &mut Cases) {
     others(cases);
