@@ -3,7 +3,7 @@
 use crate::desk::*;
 use crate::house::*;
 use crate::listing::commands;
-use crate::records::{B, BANKS, EDITION, REFRESH, RFC};
+use crate::records::{BANKS, EDITION, REFRESH, RFC};
 use crate::rules::{Times, ACT};
 use crate::scheduler::longest_wait;
 
@@ -70,32 +70,39 @@ fn last_datas(room: &[u8], size: usize) -> Vec<u64> {
 }
 
 /// "The bound still counts from last command to last command; the promised finish of a read is that limit + RL + B." With refreshes,
-/// "the promise counts from that finish where the predecessor is a refresh. A REF itself comes within S of where its count starts".
+/// "the promise counts from that finish where the predecessor is a refresh. A REF itself comes within S of where its count starts". The
+/// judge accepts what is built. Answers which types met their limit exactly.
+pub fn passes_and_meets_the_bound(table: &Table, list: &[[u8; 4]]) -> Vec<u8> {
+    let (room, finishes) = built(table, list);
+    let times = Times::of(table);
+    let (edition, table) = (table[EDITION], bytes_of(table));
+    let (_, verdict) = judge(edition, &table, &room).expect("whole records");
+    assert_eq!(verdict, Verdict::Accepted);
+    let mut start = 0;
+    let mut exact = Vec::new();
+    let lasts = last_datas(&room, list.len());
+    for ((&[kind, _, bi, bc], finish), last) in list.iter().zip(finishes).zip(lasts) {
+        let (cycles, after) = if kind == REFRESH {
+            (longest_wait(&times), times.rfc)
+        } else {
+            let (_, cycles) = bound(edition, &table, bi, bc).expect("it's in the list");
+            (cycles, [times.rl + times.b, 0][usize::from(kind)])
+        };
+        let limit = start + cycles;
+        assert!(last <= limit);
+        assert_eq!(u64::from(finish), last + after);
+        if last == limit {
+            exact.push(kind);
+        }
+        start = if kind == REFRESH { finish.into() } else { last };
+    }
+    exact
+}
+
 #[test]
 fn built_schedules_pass_and_meet_the_bound() {
     for (table, list) in lists_and_tables() {
-        let (room, finishes) = built(&table, &list);
-        let data_back = u64::from(table[RL]) + u64::from(table[B]);
-        let rfc = u64::from(table[RFC]);
-        let s = longest_wait(&Times::of(&table));
-        let (edition, table) = (table[EDITION], bytes_of(&table));
-        let (_, verdict) = judge(edition, &table, &room).expect("whole records");
-        assert_eq!(verdict, Verdict::Accepted);
-        let mut before = 0;
-        let lasts = last_datas(&room, list.len());
-        for ((x, finish), last) in list.iter().zip(finishes).zip(lasts) {
-            let refreshes = x[0] == REFRESH;
-            let cycles = match bound(edition, &table, x[2], x[3]) {
-                Ok((_, cycles)) => cycles,
-                Err(_) => s,
-            };
-            let limit = before + cycles;
-            let after = [data_back, 0, rfc][usize::from(x[0])];
-            assert!(last <= limit);
-            assert_eq!(u64::from(finish), last + after);
-            assert!(u64::from(finish) <= limit + after);
-            before = if refreshes { finish.into() } else { last };
-        }
+        passes_and_meets_the_bound(&table, &list);
     }
 }
 

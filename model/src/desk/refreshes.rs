@@ -3,7 +3,7 @@
 mod states;
 mod verdicts;
 
-use super::laws::transaction;
+use super::laws::{passes_and_meets_the_bound, transaction};
 use super::refusals::told;
 use crate::desk::*;
 use crate::house::*;
@@ -216,4 +216,38 @@ fn every_number_of_banks() {
             .collect();
         assert!(order.windows(2).all(|pair| pair[0] <= pair[1]));
     }
+}
+
+/// A table that has a refresh, of small numbers and some that stand out.
+fn any_table(numbers: &mut Numbers) -> Table {
+    let mut t = TABLE_A.map(|_| 1 + numbers.below(12) as u16);
+    t[BANKS] = 1 + numbers.below(5) as u16;
+    t[CCD] = t[B].max(2) + numbers.below(3) as u16;
+    for _ in 0..numbers.below(3) {
+        t[4 + numbers.below(12)] = 20 + u16::from(numbers.byte()) / 2;
+    }
+    t
+}
+
+/// Any list with refreshes: each REF within S of where its count starts, and what follows it within its bound of the refresh's finish.
+/// Each type meets its limit exactly somewhere.
+#[test]
+fn any_lists() {
+    let mut numbers = Numbers(41);
+    let mut exact = std::collections::BTreeSet::new();
+    for round in 0..1500 {
+        let table = any_table(&mut numbers);
+        let banks = usize::from(table[BANKS]);
+        let list: Vec<[u8; 4]> = (0..1 + round % 7)
+            .map(|_| match numbers.below(3) as u8 {
+                2 => REFRESH,
+                kind => {
+                    let (start, bi) = (numbers.below(banks), 1 + numbers.below(banks));
+                    [kind, start as u8, bi as u8, 1 + numbers.byte() % 3]
+                }
+            })
+            .collect();
+        exact.extend(passes_and_meets_the_bound(&table, &list));
+    }
+    assert!(exact.into_iter().eq(0..=2));
 }
