@@ -13,6 +13,7 @@ pub fn refreshes(cases: &mut Cases) {
     builds(cases);
     refused(cases);
     states(cases);
+    wide(cases);
     places(cases);
 }
 
@@ -107,14 +108,23 @@ fn states(cases: &mut Cases) {
     });
 }
 
+/// RFC past 255, for a REF and for an ACT.
+fn wide(cases: &mut Cases) {
+    let table = with(&[(RFC, 1023)]);
+    let list = [REFRESH, REFRESH, READ];
+    let fresh = Controller::fresh(&table);
+    cases.run(&table, 3000, room_for(&list), &fresh, &list.concat());
+}
+
 /// REFs count as places of the ACT queue, and as commands left.
 fn places(cases: &mut Cases) {
     let list = [REFRESH, READ, REFRESH, WRITE];
     let mut state = Controller::fresh(&REFRESHED);
     (state.cycle, state.banks[0].opened) = (100, 1);
-    for (acts, datas, left) in [(1, 0, 5), (1, 1, 4), (2, 0, 4), (3, 2, 1)] {
+    for (acts, datas, left) in [(1, 0, 5), (1, 1, 4), (3, 2, 1), (2, 0, 4)] {
         (state.acts, state.datas) = (acts, datas);
         cases.run(&REFRESHED, 200, 8 * left, &state, &list.concat());
     }
-    cases.run(&REFRESHED, 200, 8 - 1, &state, &list.concat());
+    // A REF and an ACT are left, and both data commands.
+    cases.run(&REFRESHED, 200, 8 * 4 - 1, &state, &list.concat());
 }

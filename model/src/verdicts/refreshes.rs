@@ -17,6 +17,7 @@ pub fn refreshes(cases: &mut Cases) {
     after_the_others(cases);
     no_act(cases);
     patterns(cases);
+    wide(cases);
 }
 
 /// The last record at this cycle, and one before it.
@@ -45,10 +46,9 @@ fn rule_1(cases: &mut Cases) {
 /// By ACT + RAS, RD + RTP, WR + WL + B + WR, of bank 0 and of others, and while a bank is open.
 fn rule_11(cases: &mut Cases) {
     let two = [(0, ACT, 0), (6, ACT, 1), (16, WRA, 1), (34, RDA, 0)];
-    let write_then_read = [(0, ACT, 5), (10, WR, 5), (28, RDA, 5)];
+    let write_then_read = [(0, ACT, 7), (10, WR, 7), (28, RDA, 7)];
     for (before, cycle) in [
         (&EXAMPLE_1[..], 38),
-        (&[(0, ACT, 7), (10, RDA, 7)], 38),
         (&[(0, ACT, 0), (30, RDA, 0)], 46),
         (&[(0, ACT, 0), (10, WRA, 0)], 44),
         (&[(0, ACT, 3), (10, WRA, 3)], 44),
@@ -166,4 +166,9 @@ fn patterns(cases: &mut Cases) {
         let pattern = [&refresh_last[..], &two].concat();
         cases.pattern(&rfc_1, &pattern, length);
     }
+}
+
+/// RD to WR by an RL past 255.
+fn wide(cases: &mut Cases) {
+    around(cases, &ODD[6], &[(0, ACT, 0), (2, RD, 0)], (1028, WRA, 0));
 }

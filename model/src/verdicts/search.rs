@@ -61,7 +61,7 @@ pub fn bytes_of_records(records: &[Record]) -> Vec<u8> {
 /// For each table and rule a legal schedule whose record stands one cycle too early: that record's place, and the whole.
 pub fn too_early(numbers: &mut Numbers) -> Vec<(Table, usize, Vec<Record>)> {
     let house = [TABLE_A, TABLE_B, LEAST, GREATEST];
-    let long_rc = [with(&[(0, 8), (RC, 60)]), with(&[(0, 9), (RC, 255)])];
+    let long_rc = [with(&[(0, 8), (RC, 60)]), with(&[(0, 9), (RC, 1023)])];
     let mut found = Vec::new();
     let mut seen = BTreeSet::new();
     for table in house.iter().chain(&long_rc).chain(&ODD[1..]) {
