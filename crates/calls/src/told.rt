@@ -124,6 +124,7 @@ pub(crate) fn controller(c: Controller) {
     number(c.last[3]);
     number(c.rd);
     number(c.wr);
+    number(c.refresh);
 }
 
 fn all_banks(banks: [HostBank; 16]) {
