@@ -1,6 +1,7 @@
 //! The house tables, tables in which one number outgrows the others, and what else the cases are made from.
 
 use crate::desk::schedule_bytes;
+pub use crate::records::{B, RFC};
 use crate::records::{Table, EDITION, REFRESH};
 
 pub const RC: usize = 7;
@@ -87,13 +88,23 @@ pub fn split(bytes: &[u8], n: usize) -> Option<(&[u8], &[u8])> {
     (n <= bytes.len()).then(|| bytes.split_at(n))
 }
 
-/// 8 bytes for each ACT, each data command and each REF.
+/// What a transaction puts into each queue: its ACTs or its REF, and its data commands.
+pub fn queued(x: &[u8; 4]) -> [usize; 2] {
+    if x[0] == REFRESH {
+        return [1, 0];
+    }
+    let [_, _, bi, bc] = x.map(usize::from);
+    [bi, bi * bc]
+}
+
+/// The commands due.
+pub fn due(list: &[[u8; 4]]) -> usize {
+    list.iter().map(|x| queued(x).iter().sum::<usize>()).sum()
+}
+
+/// 8 bytes for each command.
 pub fn room_for(list: &[[u8; 4]]) -> usize {
-    let due = |x: &[u8; 4]| match x[0] {
-        REFRESH => 1,
-        _ => usize::from(x[2]) * (1 + usize::from(x[3])),
-    };
-    8 * list.iter().map(due).sum::<usize>()
+    8 * due(list)
 }
 
 /// The schedule of an accepted list, as bytes, and the finishing cycles.

@@ -3,6 +3,8 @@
 use std::fmt::{self, Write};
 use std::str::FromStr;
 
+use model::house::REFRESH_BYTES;
+
 #[derive(Debug, Clone, Copy, PartialEq, Eq)]
 pub enum Call {
     ReadTable,
@@ -86,24 +88,32 @@ impl Call {
     }
 }
 
-/// A controller's numbers: edition, cycle, acts, datas; opened, act, rd, wr of each bank; the last four ACTs; rd, wr.
-pub type State = [u32; 74];
+/// A controller's numbers: edition, cycle, acts, datas; opened, act, rd, wr of each bank; the last four ACTs; rd, wr; the last REF.
+pub type State = [u32; NUMBERS];
+pub const NUMBERS: usize = 75;
 pub const EDITION: usize = 0;
 pub const CYCLE: usize = 1;
 pub const ACTS: usize = 2;
 pub const DATAS: usize = 3;
 pub const BANKS: usize = 4;
 pub const LAST: usize = 68;
+pub const REFRESH: usize = 74;
 
 /// Closed, and "never" throughout.
 pub fn fresh(edition: u32) -> State {
-    let mut s = [u32::MAX; 74];
+    let mut s = [u32::MAX; NUMBERS];
     s[EDITION] = edition;
     s[CYCLE..BANKS].fill(0);
     for opened in s[BANKS..LAST].iter_mut().step_by(4) {
         *opened = 0;
     }
     s
+}
+
+/// Whole records of 4 bytes only.
+pub fn records(bytes: &[u8]) -> Vec<[u8; 4]> {
+    let record = |x: &[u8]| [x[0], x[1], x[2], x[3]];
+    bytes.chunks_exact(4).map(record).collect()
 }
 
 #[derive(Debug, Clone, PartialEq, Eq)]
@@ -144,10 +154,9 @@ impl Case {
         }
     }
 
-    /// The list of a call that takes decoded transactions: whole records only.
+    /// The list of a call that takes decoded transactions.
     pub fn records(&self) -> Vec<[u8; 4]> {
-        let record = |x: &[u8]| [x[0], x[1], x[2], x[3]];
-        self.bytes.chunks_exact(4).map(record).collect()
+        records(&self.bytes)
     }
 
     /// The transactions that the call is given: its list, or the one to be read or written.
@@ -169,6 +178,11 @@ impl Case {
         let over = |x: &&[u8; 4]| u16::from(x[1]) + u16::from(x[2]) > banks;
         let all = |x: &[u8; 4]| u16::from(x[2]) == banks;
         self.given().iter().filter(over).map(all).collect()
+    }
+
+    /// Whether there is a refresh among them.
+    pub fn refreshes(&self) -> bool {
+        self.given().contains(&REFRESH_BYTES)
     }
 
     /// The records of the bytes, for a reader: commands as cycle, kind, bank and number.
@@ -242,7 +256,7 @@ impl fmt::Display for Case {
         write!(f, " values={a},{b},{c},{d}")?;
         write!(f, " room={} slots={}", self.room, self.slots)?;
         let base = fresh(7);
-        let changed = (0..74).filter(|&i| self.state[i] != base[i]);
+        let changed = (0..NUMBERS).filter(|&i| self.state[i] != base[i]);
         let changed: Vec<String> = changed.map(|i| format!("{i}:{}", self.state[i])).collect();
         write!(f, " state={}", changed.join(","))?;
         write!(f, " filling={} lies={}", self.filling, self.lies)
