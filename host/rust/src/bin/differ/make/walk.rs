@@ -89,7 +89,7 @@ fn slack(r: &mut Random) -> i64 {
     }
 }
 
-/// About so many records, with one of them perhaps a cycle early.
+/// About so many records, with one of them perhaps early.
 pub fn records(r: &mut Random, table: &Table, size: usize) -> Vec<[u8; 8]> {
     let mut walk = Walk {
         t: table.map(i64::from),
@@ -119,7 +119,11 @@ pub fn records(r: &mut Random, table: &Table, size: usize) -> Vec<[u8; 8]> {
     let mut put = |walk: &mut Walk, r: &mut Random, kind: u8, bank: usize| {
         let mut cycle = walk.earliest(kind, bank) + slack(r);
         if records.len() == early {
-            cycle = (cycle - 1).max(0);
+            // A cycle early, or by so much that several rules are broken and the first of them is told.
+            cycle = match r.below(3) {
+                0 => walk.cycle + 1,
+                _ => (cycle - 1).max(0),
+            };
         }
         walk.note(cycle, kind, bank);
         records.push(model::house::command(
