@@ -51,9 +51,12 @@ fn refuse(case: &mut Case, number: usize, way: u8) {
     match (number, case.call) {
         (1, Call::WriteTable) => case.room -= 1,
         (1, _) => case.table.truncate(31),
-        // RFC and WTR 1,024, CCD below 2.
-        (2, _) if way > 1 => case.table[if way == 2 { 2 * RFC } else { 28 } + 1] = 4,
-        (2, _) => case.table[6] = 1,
+        // RFC 1,024, the number before it 1,024 or more, CCD below 2.
+        (2, _) => match way {
+            2 => case.table[2 * RFC + 1] = 4,
+            3 => case.table[2 * RFC - 1] = 4,
+            _ => case.table[6] = 1,
+        },
         (3, Call::WriteTransaction) => case.room += 1,
         (3, Call::Schedule | Call::Run | Call::Step) => case.bytes = [0, 0, 1, 1].repeat(257),
         (3 | 7, _) => case.bytes.push(0),

@@ -10,8 +10,9 @@ use crate::numbers::Random;
 
 const LAST_CYCLE: u32 = 100_000_000;
 
-/// A run of more cycles than this is not worth the time.
+/// A run of more cycles than this is not worth the time; one of so few always is.
 const LONG: u32 = 300_000;
+const SHORT: u32 = 20_000;
 
 /// Where the stored cycles stand.
 fn stamps() -> impl Iterator<Item = usize> {
@@ -178,15 +179,17 @@ pub fn run(r: &mut Random, table: &Table, case: &mut Case) {
             make_late(r, &mut case.state);
         }
         if too_long(case) {
-            case.values[0] = r.range(0, 20_000);
+            case.values[0] = r.range(0, SHORT);
         }
     }
 }
 
 /// Whether the run, were the table's edition expected, goes on for more cycles than is worth the time: it's long, or it's stuck.
 pub fn too_long(case: &Case) -> bool {
-    let (count, left) = (case.count(), left(case));
-    if !case.call.runs() || count <= 20_000 || case.room < 8 * left.min(count as usize) {
+    if !case.call.runs() || case.count() <= SHORT {
+        return false;
+    }
+    if case.room < 8 * left(case).min(case.count() as usize) {
         return false;
     }
     let list = transactions(&case.records());
