@@ -9,7 +9,7 @@ static const skv_numbers table_a = {{7, 8, 4, 4, 10, 10, 28, 38, 6, 32, 10, 8, 6
 static const skv_transaction list[2] = {{1, 0, 1, 1}, {0, 0, 1, 1}};
 static const uint8_t list_bytes[8] = {1, 0, 1, 1, 0, 0, 1, 1};
 static const uint16_t expected = 7;
-static const char *const kinds[5] = {"ACT", "RD", "RDA", "WR", "WRA"};
+static const char *const kinds[6] = {"ACT", "RD", "RDA", "WR", "WRA", "REF"};
 
 static int wrong(const char *call) {
     fprintf(stderr, "%s answers something else\n", call);

@@ -7,9 +7,9 @@
 
 #define EDITION 4660
 
-static const skv_numbers numbers = {{EDITION, 16, 4, 5, 11, 12, 28, 41, 6, 155, 13, 10, 7, 14, 3, 0}};
+static const skv_numbers numbers = {{EDITION, 16, 4, 5, 11, 12, 28, 41, 6, 155, 13, 10, 7, 14, 3, 50}};
 static const uint8_t table[32] = {0x34, 0x12, 16, 0, 4,  0, 5,  0, 11, 0, 12, 0, 28, 0, 41, 0,
-                                  6,    0,    155, 0, 13, 0, 10, 0, 7,  0, 14, 0, 3,  0, 0,  0};
+                                  6,    0,    155, 0, 13, 0, 10, 0, 7,  0, 14, 0, 3,  0, 50, 0};
 
 static int wrong;
 
@@ -52,6 +52,10 @@ static void one_record(void) {
     skv_transaction_answer x = skv_read_transaction(four, 4);
     MUST(x.refused == 0 && x.position == 0 && x.edition == 0 && x.kind == 1 && x.start == 2 && x.bi == 3 && x.bc == 4);
     MUST(skv_read_transaction(four, 3).refused == 3);
+    const uint8_t refresh[4] = {2, 0, 0, 0}, not_one[4] = {2, 0, 0, 1};
+    x = skv_read_transaction(refresh, 4);
+    MUST(x.refused == 0 && x.kind == 2 && x.start == 0 && x.bi == 0 && x.bc == 0);
+    MUST(skv_read_transaction(not_one, 4).refused == 4);
 
     uint8_t eight[8];
     put(eight, 0x12345678, 3, 9, 0xabcd);
@@ -90,6 +94,11 @@ static void lists(void) {
     MUST(is(skv_schedule_bytes(EDITION, table, 32, bytes, 12, commands, sizeof commands, finishes, 3), 4, 2, EDITION, 0, 0));
     MUST(is(skv_schedule_bytes(EDITION, table, 32, bytes, 8, commands, 8 * 63 - 1, finishes, 3), 5, 0, EDITION, 0, 0));
     MUST(is(skv_schedule_bytes(EDITION, table, 32, bytes, 8, commands, sizeof commands, finishes, 1), 6, 0, EDITION, 0, 0));
+    /* A refresh finishes RFC after its REF. */
+    const skv_transaction refresh = {.kind = 2, .start = 0, .bi = 0, .bc = 0};
+    MUST(is(skv_schedule(EDITION, table, 32, &refresh, 1, commands, 8, finishes, 1), 0, 0, EDITION, 1, 0));
+    put(start, 0, 5, 0, 0);
+    MUST(same(commands, start, 8) && finishes[0] == 50);
     /* By the second limit of document 01: S + RCD is 155, to which come D + 1 = 40 for each further bank
      * and CCD = 5 for each further burst. */
     MUST(is(skv_bound(EDITION, table, 32, 4, 2), 0, 0, EDITION, 155 + 3 * 40 + 5, 0));
@@ -105,6 +114,15 @@ static void verdicts(void) {
     MUST(says(skv_judge(EDITION, table, 32, schedule, 32), 0, 0, EDITION, 8, 0, 3));
     MUST(says(skv_judge(EDITION, table, 32, schedule, 31), 7, 0, EDITION, 0, 0, 0));
     MUST(says(skv_judge(1, table, 32, schedule, 32), 10, EDITION, EDITION, 0, 0, 0));
+    /* Two REFs a cycle nearer than RFC, and an ACT that is; a REF while a bank is open. */
+    put(schedule, 0, 5, 0, 0);
+    put(schedule + 8, 49, 5, 0, 1);
+    MUST(says(skv_judge(EDITION, table, 32, schedule, 16), 0, 0, EDITION, 12, 0, 1));
+    put(schedule + 8, 49, 0, 0, 1);
+    MUST(says(skv_judge(EDITION, table, 32, schedule, 16), 0, 0, EDITION, 12, 0, 1));
+    put(schedule + 8, 50, 0, 0, 1);
+    put(schedule + 16, 500, 5, 0, 2);
+    MUST(says(skv_judge(EDITION, table, 32, schedule, 24), 0, 0, EDITION, 11, 0, 2));
     for (uint8_t bank = 0; bank < 3; bank++) {
         put(pattern + 8 * bank, 6u * bank, 0, bank, bank);
         put(pattern + 24 + 8 * bank, 17 + 5u * bank, 2, bank, bank);
@@ -115,12 +133,13 @@ static void verdicts(void) {
     MUST(says(skv_judge_pattern(1, table, 32, pattern, 48, 60), 10, EDITION, EDITION, 0, 0, 0));
 }
 
-static const skv_transaction two[2] = {{.kind = 1, .start = 3, .bi = 1, .bc = 2}, {.kind = 0, .start = 9, .bi = 1, .bc = 2}};
-static const uint8_t two_bytes[8] = {1, 3, 1, 2, 0, 9, 1, 2};
+static const skv_transaction three[3] = {
+    {.kind = 1, .start = 3, .bi = 1, .bc = 2}, {.kind = 0, .start = 9, .bi = 1, .bc = 2}, {.kind = 2, .start = 0, .bi = 0, .bc = 0}};
+static const uint8_t three_bytes[12] = {1, 3, 1, 2, 0, 9, 1, 2, 2, 0, 0, 0};
 
-/* All numbers differ. The list's ACTs go to banks 3 and 9, its data commands are WR, WRA to bank 3, RD, RDA to bank 9. */
+/* All numbers differ. The list's ACTs go to banks 3 and 9, its data commands are WR, WRA to bank 3, RD, RDA to bank 9; then comes a REF. */
 static skv_controller running(uint32_t acts, uint32_t datas) {
-    skv_controller c = {.edition = EDITION, .cycle = 1000, .acts = acts, .datas = datas, .rd = 400, .wr = 401};
+    skv_controller c = {.edition = EDITION, .cycle = 1000, .acts = acts, .datas = datas, .rd = 400, .wr = 401, .refresh = 402};
     for (uint32_t k = 0; k < 16; k++) c.banks[k] = (skv_bank){.opened = 500 + k, .act = 100 + 10 * k, .rd = 101 + 10 * k, .wr = 102 + 10 * k};
     for (uint32_t k = 0; k < 4; k++) c.last[k] = 300 + k;
     return c;
@@ -131,24 +150,27 @@ static void goes(skv_controller c, skv_controller want, uint8_t kind, uint8_t ba
     uint8_t room[8], right[8];
     put(right, 1000, kind, bank, number);
     skv_controller lent = c;
-    MUST(is(skv_step(&lent, EDITION, table, 32, two, 2, room, 8), 0, 0, EDITION, 1, 1));
+    MUST(is(skv_step(&lent, EDITION, table, 32, three, 3, room, 8), 0, 0, EDITION, 1, 1));
     MUST(same(&lent, &want, sizeof want) && same(room, right, 8));
     lent = c;
     memset(room, 0, 8);
-    MUST(is(skv_run(&lent, EDITION, table, 32, two, 2, 1, room, 8), 0, 0, EDITION, 1, 1));
+    MUST(is(skv_run(&lent, EDITION, table, 32, three, 3, 1, room, 8), 0, 0, EDITION, 1, 1));
     MUST(same(&lent, &want, sizeof want) && same(room, right, 8));
     memset(room, 0, 8);
-    skv_controller_answer a = skv_run_bytes(c, EDITION, table, 32, two_bytes, 8, 1, room, 8);
+    skv_controller_answer a = skv_run_bytes(c, EDITION, table, 32, three_bytes, 12, 1, room, 8);
     MUST(is(a.answer, 0, 0, EDITION, 1, 1) && same(&a.controller, &want, sizeof want) && same(room, right, 8));
     /* Another edition, and a stored cycle that is not before its own: all stays. */
     c.edition += 65536;
-    a = skv_run_bytes(c, EDITION, table, 32, two_bytes, 8, 1, room, 8);
+    a = skv_run_bytes(c, EDITION, table, 32, three_bytes, 12, 1, room, 8);
+    MUST(is(a.answer, 9, 0, EDITION, 0, 0) && same(&a.controller, &c, sizeof c));
+    c.edition -= 65536, c.refresh = c.cycle;
+    a = skv_run_bytes(c, EDITION, table, 32, three_bytes, 12, 1, room, 8);
     MUST(is(a.answer, 9, 0, EDITION, 0, 0) && same(&a.controller, &c, sizeof c));
 }
 
 static void running_controllers(void) {
     skv_controller_answer fresh = skv_start(EDITION, table, 32);
-    skv_controller c = {.edition = EDITION, .rd = SKV_NEVER, .wr = SKV_NEVER}, want;
+    skv_controller c = {.edition = EDITION, .rd = SKV_NEVER, .wr = SKV_NEVER, .refresh = SKV_NEVER}, want;
     for (int k = 0; k < 16; k++) c.banks[k] = (skv_bank){.opened = 0, .act = SKV_NEVER, .rd = SKV_NEVER, .wr = SKV_NEVER};
     for (int k = 0; k < 4; k++) c.last[k] = SKV_NEVER;
     MUST(is(fresh.answer, 0, 0, EDITION, 0, 0) && same(&fresh.controller, &c, sizeof c));
@@ -173,11 +195,16 @@ static void running_controllers(void) {
     want = c = running(2, 3); /* RDA */
     want.cycle = 1001, want.datas = 4, want.banks[9].opened = 0, want.banks[9].rd = 1000, want.rd = 1000;
     goes(c, want, 2, 9, 1);
+    c = running(2, 4);
+    for (int k = 0; k < 16; k++) c.banks[k].opened = 0;
+    want = c; /* REF */
+    want.cycle = 1001, want.acts = 3, want.refresh = 1000;
+    goes(c, want, 5, 0, 2);
 
     /* Commands and cycles apart: ACT at 0, WR at RCD, and WRA not yet. */
     uint8_t room[24];
     c = fresh.controller;
-    MUST(is(skv_run(&c, EDITION, table, 32, two, 1, 16, room, 24), 0, 0, EDITION, 2, 16));
+    MUST(is(skv_run(&c, EDITION, table, 32, three, 1, 16, room, 24), 0, 0, EDITION, 2, 16));
 }
 
 int main(void) {

@@ -68,6 +68,7 @@ int main(void) {
     FIELD(skv_controller, last);
     FIELD(skv_controller, rd);
     FIELD(skv_controller, wr);
+    FIELD(skv_controller, refresh);
     WHOLE(skv_controller);
     FIELD(skv_controller_answer, controller);
     FIELD(skv_controller_answer, answer);

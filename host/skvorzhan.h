@@ -10,10 +10,10 @@
  * The checks go in the order of the numbers, but for 10, which goes straight after number 2: the first that applies is told. A call makes only
  * the checks that its comment names.
  *
- *   1  table not 32 bytes, or its last number not 0
+ *   1  table not 32 bytes
  *   2  a table number out of range, CCD below 2 or below B
  *   3  transaction bytes not a multiple of 4, or over 256 transactions, or too few places to decode into
- *   4  a transaction out of range; the position is the lowest such transaction's number, from 0
+ *   4  a transaction out of range, a refresh where RFC is 0 among them; the position is the lowest such transaction's number, from 0
  *   5  too little room for commands
  *   6  fewer places for finishing cycles than transactions
  *   7  schedule bytes not a multiple of 8, or over 69,632 records
@@ -34,11 +34,13 @@
  *
  * Numbers in bytes are little-endian.
  *
- *   table, 32 bytes       sixteen 16-bit numbers: edition, banks, B, CCD, RCD, RP, RAS, RC, RRD, FAW, RL, WL, RTP, WR, WTR, and a last that
- *                         is 0. Edition is 1 to 65,535, banks 1 to 16, the others 1 to 255; CCD is at least 2 and at least B
- *   transaction, 4 bytes  type (0 read, 1 write), start bank, BI, BC. BI and BC are 1 to 16; start is below banks and BI is at most banks. Its
- *                         banks are start, start + 1 and so on, BI of them, with bank 0 after the last
- *   command, 8 bytes      cycle (32 bits), kind (0 ACT, 1 RD, 2 RDA, 3 WR, 4 WRA), bank, transaction number (16 bits)
+ *   table, 32 bytes       sixteen 16-bit numbers: edition, banks, B, CCD, RCD, RP, RAS, RC, RRD, FAW, RL, WL, RTP, WR, WTR, RFC. Edition is
+ *                         1 to 65,535, banks 1 to 16, RFC 0 to 1,023, 0 meaning that the table has no refresh, the others 1 to 1,023; CCD is
+ *                         at least 2 and at least B
+ *   transaction, 4 bytes  type (0 read, 1 write, 2 refresh), start bank, BI, BC. BI and BC are 1 to 16; start is below banks and BI is at most
+ *                         banks. Its banks are start, start + 1 and so on, BI of them, with bank 0 after the last. Of a refresh start, BI and
+ *                         BC are 0; a table whose RFC is 0 refuses it
+ *   command, 8 bytes      cycle (32 bits), kind (0 ACT, 1 RD, 2 RDA, 3 WR, 4 WRA, 5 REF), bank (of a REF 0), transaction number (16 bits)
  */
 #ifndef SKVORZHAN_H
 #define SKVORZHAN_H
@@ -64,7 +66,7 @@ typedef struct skv_answer {
     uint32_t cycles;
 } skv_answer;
 
-/* rule: 0 where the schedule or pattern is accepted, else the first broken rule, 1 to 10. copy: the lowest that breaks it, from 1, for a
+/* rule: 0 where the schedule or pattern is accepted, else the first broken rule, 1 to 12. copy: the lowest that breaks it, from 1, for a
  * pattern; 0 for a schedule. record: from 0; for rule 10 the number of records. Where refused or accepted, rule, copy and record are 0. */
 typedef struct skv_verdict_answer {
     uint32_t refused;
@@ -111,7 +113,7 @@ typedef struct skv_numbers {
 } skv_numbers;
 
 typedef struct skv_transaction {
-    uint8_t kind;  /* 0 read, 1 write */
+    uint8_t kind;  /* 0 read, 1 write, 2 refresh; of a refresh the others are 0 */
     uint8_t start; /* the first bank */
     uint8_t bi;    /* how many, with bank 0 after the table's last */
     uint8_t bc;    /* data commands to each */
@@ -128,16 +130,17 @@ typedef struct skv_bank {
 } skv_bank;
 
 /* A running controller. Any bits are one; what number 9 says of them is checked by the calls. Of the banks only the table's are read or
- * changed. No byte lies between the fields: it is 74 numbers in 296 bytes. */
+ * changed. No byte lies between the fields: it is 75 numbers in 300 bytes. */
 typedef struct skv_controller {
     uint32_t edition;
     uint32_t cycle; /* the next to be tried */
-    uint32_t acts;  /* gone from the ACT queue */
+    uint32_t acts;  /* gone from the ACT queue, each REF among them */
     uint32_t datas; /* gone from the data queue */
     skv_bank banks[16];
     uint32_t last[4]; /* the last four ACTs, newest first */
     uint32_t rd;      /* the last RD of all */
     uint32_t wr;      /* the last WR of all */
+    uint32_t refresh; /* the last REF */
 } skv_controller;
 
 typedef struct skv_controller_answer {
@@ -148,10 +151,10 @@ typedef struct skv_controller_answer {
 /* Checks 1, 2. Answers the sixteen numbers and the table's edition. */
 skv_table_answer skv_read_table(const uint8_t *bytes, size_t bytes_len);
 
-/* Checks 1 (out is not 32 bytes, or the last number is not 0), 2. Writes the 32 bytes of the table. The edition is the table's, count is 0. */
+/* Checks 1 (out is not 32 bytes), 2. Writes the 32 bytes of the table. The edition is the table's, count is 0. */
 skv_answer skv_write_table(skv_numbers numbers, uint8_t *out, size_t out_len);
 
-/* Checks 3 (not 4 bytes), 4 (out of range, banks counting as 16; position 0). Answers the four numbers. */
+/* Checks 3 (not 4 bytes), 4 (out of range, banks counting as 16, a refresh accepted; position 0). Answers the four numbers. */
 skv_transaction_answer skv_read_transaction(const uint8_t *bytes, size_t bytes_len);
 
 /* Checks 3 (out is not 4 bytes), 4 (as skv_read_transaction). Writes the 4 bytes of the transaction. count is 0. */
@@ -171,8 +174,9 @@ skv_answer skv_read_transactions(uint16_t expected, const uint8_t *table, size_t
 
 /* Checks 1, 2, 10, 3 (over 256 transactions), 4, 5 (commands_len under 8 x the commands due), 6 (finishes_len under list_len).
  * Writes the schedule that the cycle rule gives, 8 bytes for each command, oldest first, and into finishes, for each transaction, the cycle at
- * which it finishes: a write at its last data command, a read RL + B cycles after its last data command, when its last word has come back; so
- * the finishing cycles need not ascend. Bytes and places beyond stay as they stood. count is the number of commands. */
+ * which it finishes: a write at its last data command, a read RL + B cycles after its last data command, when its last word has come back, a
+ * refresh RFC cycles after its REF; so the finishing cycles need not ascend. Bytes and places beyond stay as they stood. A refresh is one
+ * command due. count is the number of commands. */
 skv_answer skv_schedule(uint16_t expected, const uint8_t *table, size_t table_len, const skv_transaction *list, size_t list_len,
                         uint8_t *commands, size_t commands_len, uint32_t *finishes, size_t finishes_len);
 
@@ -181,7 +185,8 @@ skv_answer skv_schedule_bytes(uint16_t expected, const uint8_t *table, size_t ta
                               uint8_t *commands, size_t commands_len, uint32_t *finishes, size_t finishes_len);
 
 /* Checks 1, 2, 10, 7. Accepts the schedule exactly when every timing rule holds of each record and at the end every bank is closed; otherwise
- * names the first record that breaks a rule, and the first rule that it breaks. The transaction numbers are not looked at. */
+ * names the first record that breaks a rule, and the first rule that it breaks, 11 and 12 being tested after 9. The transaction numbers are not
+ * looked at. A REF is judged where RFC is 0 too. */
 skv_verdict_answer skv_judge(uint16_t expected, const uint8_t *table, size_t table_len, const uint8_t *schedule, size_t schedule_len);
 
 /* Checks 1, 2, 10, 7, 8. Copy n, from 1, has length x (n - 1) added to each cycle, in numbers that never wrap. Accepts the pattern exactly when
@@ -191,8 +196,9 @@ skv_verdict_answer skv_judge_pattern(uint16_t expected, const uint8_t *table, si
                                      uint32_t length);
 
 /* Checks 1, 2, 10, 4 (bi or bc outside 1 to 16, or bi above banks; position 0). count is the bound: the last data command of a transaction of
- * (bi, bc) comes at most so many cycles after that of the one before it, the first's after cycle 0. A write finishes there, a read RL + B cycles
- * later. */
+ * (bi, bc) comes at most so many cycles after that of the one before it, the first's after cycle 0; where the one before is a refresh, after its
+ * finish. A write finishes there, a read RL + B cycles later. A refresh has no bound of (bi, bc): its REF comes within S, document 01's number of
+ * the table, of where its count starts. */
 skv_answer skv_bound(uint16_t expected, const uint8_t *table, size_t table_len, uint8_t bi, uint8_t bc);
 
 /* Checks 1, 2, 10. Answers a fresh controller of the table's edition: cycle 0, all banks closed, "never" throughout. Where refused, one of

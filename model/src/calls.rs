@@ -3,7 +3,7 @@
 use std::fmt::{Display, Write};
 
 use crate::desk::*;
-use crate::house::{bytes_of, TABLE_A, TABLE_T};
+use crate::house::{bytes_of, REFRESHED, TABLE_A, TABLE_T};
 
 struct Case {
     started_as: u16,
@@ -63,6 +63,20 @@ fn cases() -> Vec<Case> {
         case((0, 7), TABLE_T, same, &[0, 0, 1, 1], 5),
         case((7, 9), TABLE_T, same, &[0, 0, 1, 1, 0, 1, 1, 1], 5),
         case((7, 7), [0; 16], same, &[], 5),
+        case(
+            (70, 70),
+            REFRESHED,
+            [[1, 0, 1, 1], [2, 0, 0, 0], [0, 0, 1, 1]],
+            &[2, 0, 0, 0],
+            60,
+        ),
+        case(
+            (7, 7),
+            TABLE_A,
+            [[0, 0, 1, 1], [0, 1, 1, 1], [2, 0, 0, 0]],
+            &[0, 0, 1, 1, 2, 0, 0, 1],
+            5,
+        ),
     ]
 }
 
@@ -246,10 +260,10 @@ fn hex(bytes: &[u8]) -> String {
 }
 
 fn state(s: &Controller) -> String {
-    let head = spaced(&[s.edition.into(), s.cycle, s.acts, s.datas]);
-    let bank = |b: &Bank| format!(" , {}", spaced(&[b.opened.into(), b.act, b.rd, b.wr]));
+    let head = spaced(&[s.edition, s.cycle, s.acts, s.datas]);
+    let bank = |b: &Bank| format!(" , {}", spaced(&[b.opened, b.act, b.rd, b.wr]));
     let banks: String = s.banks.iter().map(bank).collect();
     let [a, b, c, d] = s.last;
-    let last = spaced(&[a, b, c, d, s.rd, s.wr]);
+    let last = spaced(&[a, b, c, d, s.rd, s.wr, s.refresh]);
     format!(", {head}{banks} , {last}")
 }

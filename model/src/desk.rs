@@ -9,6 +9,8 @@ mod editions;
 #[cfg(test)]
 mod laws;
 #[cfg(test)]
+mod refreshes;
+#[cfg(test)]
 mod refusals;
 #[cfg(test)]
 mod table_t;

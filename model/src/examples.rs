@@ -31,6 +31,7 @@ impl Example {
 
 const READ: [u8; 4] = [0, 0, 1, 1];
 const WRITE: [u8; 4] = [1, 0, 1, 1];
+const REFRESH: [u8; 4] = REFRESH_BYTES;
 
 /// Reads and writes of every start bank and every BI that 8 banks allow.
 fn mixed(k: usize) -> [u8; 4] {
@@ -49,6 +50,12 @@ pub fn all() -> Vec<Example> {
         table_title: "house table A",
         table: TABLE_A,
         list: list.to_vec(),
+    };
+    let of_refreshed = |name, title, list: &[[u8; 4]]| Example {
+        expected: 70,
+        table_title: "house table A with edition 70 and RFC 50",
+        table: REFRESHED,
+        ..of_a(name, title, list)
     };
     let every = std::array::from_fn::<_, 256, _>(mixed);
     vec![
@@ -110,6 +117,26 @@ pub fn all() -> Vec<Example> {
             "bad-transaction",
             "start 7, BI 8, which 8 banks allow, and start 7, BI 9, which they don't",
             &[[0, 7, 8, 1], [0, 7, 9, 1]],
+        ),
+        of_refreshed(
+            "refresh-between",
+            "read, refresh, read, all of bank 0: the REF waits for the bank's precharge, the second ACT for RFC",
+            &[READ, REFRESH, READ],
+        ),
+        of_refreshed(
+            "refresh-twice",
+            "a write and two refreshes in a row",
+            &[WRITE, REFRESH, REFRESH],
+        ),
+        of_refreshed(
+            "refresh-all-banks",
+            "a read of banks 6, 7, 0 and 1, a refresh, which waits for every bank, and a write of bank 4, which waits for the refresh",
+            &[[0, 6, 4, 2], REFRESH, [1, 4, 1, 1]],
+        ),
+        of_a(
+            "no-refresh",
+            "a refresh under a table whose RFC is 0, so that it has none",
+            &[READ, REFRESH],
         ),
         Example {
             expected: 8,
@@ -194,6 +221,7 @@ mod tests {
         assert_eq!(of("bad-table"), "refused 2 at 0 edition 0\n");
         assert_eq!(of("bad-transaction"), "refused 4 at 1 edition 7\n");
         assert_eq!(of("other-edition"), "refused 10 at 7 edition 7\n");
+        assert_eq!(of("no-refresh"), "refused 4 at 1 edition 7\n");
     }
 
     #[test]
@@ -206,6 +234,15 @@ mod tests {
             ("example-5", "finish 0 52\n"),
             ("example-6", "finish 0 56\n"),
             ("example-12-wrap", "finish 0 30\n"),
+            (
+                "refresh-between",
+                "finish 0 24\nfinish 1 88\nfinish 2 112\n",
+            ),
+            ("refresh-twice", "finish 0 10\nfinish 1 94\nfinish 2 144\n"),
+            (
+                "refresh-all-banks",
+                "finish 0 52\nfinish 1 107\nfinish 2 117\n",
+            ),
         ] {
             assert!(of(name).ends_with(finish), "{name}");
         }

@@ -2,6 +2,7 @@
 
 mod accepted;
 mod editions;
+mod refreshes;
 mod refused;
 
 use std::fs;
@@ -61,6 +62,7 @@ fn cases() -> Cases {
     accepted::put(&mut cases);
     refused::put(&mut cases);
     editions::put(&mut cases);
+    refreshes::put(&mut cases);
     cases
 }
 

@@ -1,14 +1,15 @@
 //! The house tables, tables in which one number outgrows the others, and what else the cases are made from.
 
 use crate::desk::schedule_bytes;
-use crate::records::{Table, EDITION};
+pub use crate::records::{B, RFC};
+use crate::records::{Table, EDITION, REFRESH};
 
 pub const RC: usize = 7;
 pub const FAW: usize = 9;
 pub const RL: usize = 10;
 pub const RTP: usize = 12;
 
-/// In the order of the record: edition, banks, B, CCD, RCD, RP, RAS, RC, RRD, FAW, RL, WL, RTP, WR, WTR, 0.
+/// In the order of the record: edition, banks, B, CCD, RCD, RP, RAS, RC, RRD, FAW, RL, WL, RTP, WR, WTR, RFC.
 pub const TABLE_A: Table = [7, 8, 4, 4, 10, 10, 28, 38, 6, 32, 10, 8, 6, 12, 6, 0];
 pub const TABLE_B: Table = [7, 8, 4, 4, 10, 10, 28, 38, 6, 155, 10, 8, 6, 12, 6, 0];
 pub const TABLE_C: Table = [7, 8, 4, 4, 10, 10, 28, 38, 6, 32, 10, 8, 2, 12, 6, 0];
@@ -18,26 +19,32 @@ pub const TABLE_T: Table = [9, 6, 4, 5, 11, 12, 26, 40, 7, 33, 13, 10, 8, 14, 3,
 /// Every number the least that is accepted, and every number the greatest.
 pub const LEAST: Table = [1, 16, 1, 2, 1, 1, 1, 1, 1, 1, 1, 1, 1, 1, 1, 0];
 pub const GREATEST: Table = [
-    65535, 16, 255, 255, 255, 255, 255, 255, 255, 255, 255, 255, 255, 255, 255, 0,
+    65535, 16, 1023, 1023, 1023, 1023, 1023, 1023, 1023, 1023, 1023, 1023, 1023, 1023, 1023, 1023,
 ];
 
 /// One number, or one pair of numbers, that stands far out.
 pub const ODD: [Table; 12] = [
     [300, 1, 4, 4, 10, 10, 28, 38, 6, 32, 10, 8, 6, 12, 6, 0],
-    [301, 16, 2, 2, 3, 4, 5, 60, 2, 5, 3, 2, 2, 3, 2, 0],
-    [302, 16, 2, 2, 3, 4, 50, 20, 2, 5, 3, 2, 2, 3, 2, 0],
-    [303, 16, 1, 2, 3, 4, 5, 6, 40, 5, 3, 2, 2, 3, 2, 0],
-    [304, 16, 1, 3, 3, 4, 5, 6, 2, 255, 3, 2, 2, 3, 2, 0],
-    [305, 16, 2, 2, 2, 4, 5, 6, 2, 5, 1, 255, 2, 3, 2, 0],
-    [306, 16, 2, 2, 2, 4, 5, 6, 2, 5, 255, 1, 2, 3, 2, 0],
-    [307, 16, 3, 7, 2, 4, 5, 6, 2, 5, 3, 2, 90, 3, 2, 0],
-    [308, 5, 2, 3, 2, 4, 5, 6, 2, 5, 3, 2, 2, 130, 2, 0],
-    [309, 11, 2, 3, 2, 4, 5, 6, 2, 5, 3, 2, 2, 3, 200, 0],
+    [301, 16, 2, 2, 3, 4, 5, 60, 2, 5, 3, 2, 2, 3, 2, 70],
+    [302, 16, 2, 2, 3, 4, 700, 20, 2, 5, 3, 2, 2, 3, 2, 0],
+    [303, 16, 1, 2, 3, 4, 5, 6, 40, 5, 3, 2, 2, 3, 2, 1],
+    [304, 16, 1, 3, 3, 4, 5, 6, 2, 1023, 3, 2, 2, 3, 2, 0],
+    [305, 16, 2, 2, 2, 4, 5, 6, 2, 5, 1, 255, 2, 3, 2, 1023],
+    [306, 16, 2, 2, 2, 4, 5, 6, 2, 5, 1023, 1, 2, 3, 2, 0],
+    [307, 16, 3, 7, 2, 4, 5, 6, 2, 5, 3, 2, 90, 3, 2, 33],
+    [308, 5, 2, 3, 2, 4, 5, 6, 2, 5, 3, 2, 2, 630, 2, 0],
+    [309, 11, 2, 3, 2, 4, 5, 6, 2, 5, 3, 2, 2, 3, 400, 255],
     [310, 3, 2, 41, 77, 4, 5, 6, 2, 5, 3, 2, 2, 3, 2, 0],
     [
-        311, 13, 5, 11, 13, 17, 19, 23, 29, 31, 37, 41, 43, 47, 53, 0,
+        311, 13, 5, 11, 13, 17, 19, 23, 29, 31, 37, 41, 43, 47, 53, 59,
     ],
 ];
+
+/// Table A with an edition of its own, and a refresh.
+pub const REFRESHED: Table = [70, 8, 4, 4, 10, 10, 28, 38, 6, 32, 10, 8, 6, 12, 6, 50];
+
+/// A refresh, as bytes.
+pub const REFRESH_BYTES: [u8; 4] = [REFRESH, 0, 0, 0];
 
 /// A table's edition and an expected one that differs: 0, a neighbour, the two bytes swapped, one of them alike, the least and the
 /// greatest.
@@ -81,10 +88,23 @@ pub fn split(bytes: &[u8], n: usize) -> Option<(&[u8], &[u8])> {
     (n <= bytes.len()).then(|| bytes.split_at(n))
 }
 
-/// 8 bytes for each ACT and each data command.
+/// What a transaction puts into each queue: its ACTs or its REF, and its data commands.
+pub fn queued(x: &[u8; 4]) -> [usize; 2] {
+    if x[0] == REFRESH {
+        return [1, 0];
+    }
+    let [_, _, bi, bc] = x.map(usize::from);
+    [bi, bi * bc]
+}
+
+/// The commands due.
+pub fn due(list: &[[u8; 4]]) -> usize {
+    list.iter().map(|x| queued(x).iter().sum::<usize>()).sum()
+}
+
+/// 8 bytes for each command.
 pub fn room_for(list: &[[u8; 4]]) -> usize {
-    let due = |x: &[u8; 4]| usize::from(x[2]) * (1 + usize::from(x[3]));
-    8 * list.iter().map(due).sum::<usize>()
+    8 * due(list)
 }
 
 /// The schedule of an accepted list, as bytes, and the finishing cycles.

@@ -59,7 +59,7 @@ pub fn commands(room: &[u8], count: u32) -> Vec<Command> {
 /// One line for each: `CYCLE KIND BANK TRANSACTION`.
 pub fn command_lines(room: &[u8], count: u32) -> String {
     let line = |c: &Command| {
-        let kind = ["ACT", "RD", "RDA", "WR", "WRA"][usize::from(c.kind)];
+        let kind = ["ACT", "RD", "RDA", "WR", "WRA", "REF"][usize::from(c.kind)];
         format!("{} {kind} {} {}\n", c.cycle, c.bank, c.transaction)
     };
     commands(room, count).iter().map(line).collect()

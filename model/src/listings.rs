@@ -4,13 +4,15 @@
 use crate::examples;
 use crate::house::*;
 use crate::listing::listing;
-use crate::records::{Table, BANKS, CCD, EDITION, LAST};
+use crate::records::{Table, BANKS, CCD, EDITION, RFC};
 
 const RCD: usize = 4;
 const RP: usize = 5;
 const RAS: usize = 6;
 
 const READ: [u8; 4] = [0, 0, 1, 1];
+const WRITE: [u8; 4] = [1, 0, 1, 1];
+const REFRESH: [u8; 4] = REFRESH_BYTES;
 
 /// Numbers about the powers of ten, which have one digit more or less than their neighbours.
 const ABOUT_TENS: [u16; 10] = [9, 10, 99, 100, 999, 1000, 9999, 10000, 10001, 65535];
@@ -80,7 +82,7 @@ fn short() -> Vec<Vec<u8>> {
 /// Numbers 1, 2, 10, 3, 4 and 5. Number 6 cannot be met: there are 256 finishing cycles, and number 3 refuses a longer list.
 fn refused() -> Vec<Vec<u8>> {
     let mut inputs = vec![
-        own(&with(&[(LAST, 1)]), &[READ]),
+        own(&with(&[(RFC, 1024)]), &[READ]),
         own(&with(&[(CCD, 1)]), &[READ]),
         own(&with(&[(BANKS, 17)]), &[]),
         own(&with(&[(EDITION, 0)]), &[READ]),
@@ -89,6 +91,10 @@ fn refused() -> Vec<Vec<u8>> {
         // 64 × 128 commands are the 64 KiB; one read more has no room.
         own(&TABLE_A, &[&[[0, 0, 8, 15]; 64][..], &[READ]].concat()),
         own(&GREATEST, &[[1, 0, 16, 16]; 256]),
+        own(&TABLE_A, &[READ, REFRESH]),
+        own(&REFRESHED, &[REFRESH, [2, 0, 0, 1]]),
+        // 8192 commands and a refresh more.
+        own(&REFRESHED, &[&[[0, 0, 8, 15]; 64][..], &[REFRESH]].concat()),
     ];
     for edition in ABOUT_TENS {
         let table = with(&[(EDITION, edition)]);
@@ -112,6 +118,12 @@ fn accepted() -> Vec<Vec<u8>> {
         own(&LEAST, &[[0, 0, 16, 16], [1, 15, 16, 15]]),
         own(&TABLE_B, &[READ; 256]),
         own(&LEAST, &[[1, 3, 16, 15]; 32]),
+        own(&REFRESHED, &[REFRESH, WRITE, REFRESH, REFRESH, READ]),
+        own(&with(&[(RFC, 1023)]), &[REFRESH; 256]),
+        own(
+            &GREATEST,
+            &[[1, 15, 16, 2], REFRESH, [0, 3, 2, 16], REFRESH],
+        ),
     ];
     inputs.extend(ABOUT_TENS.map(|edition| own(&with(&[(EDITION, edition)]), &[])));
     for cycle in CYCLES {
@@ -142,7 +154,7 @@ mod tests {
             let start = format!("refused {number} at ");
             assert_eq!(met(&|l| l.starts_with(&start)), number <= 5 || number == 10);
         }
-        for kind in ["ACT", "RD", "RDA", "WR", "WRA"] {
+        for kind in ["ACT", "RD", "RDA", "WR", "WRA", "REF"] {
             let word = format!(" {kind} ");
             assert!(met(&|l| l.contains(&word)), "{kind}");
         }

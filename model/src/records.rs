@@ -30,21 +30,25 @@ fn refused<T>(number: u8) -> Result<T, Refusal> {
     })
 }
 
-/// Edition, banks, B, CCD, RCD, RP, RAS, RC, RRD, FAW, RL, WL, RTP, WR, WTR, and a last that is 0.
+/// Edition, banks, B, CCD, RCD, RP, RAS, RC, RRD, FAW, RL, WL, RTP, WR, WTR, and as request 5 has it, RFC.
 pub type Table = [u16; 16];
 
 pub const EDITION: usize = 0;
 pub const BANKS: usize = 1;
 pub const B: usize = 2;
 pub const CCD: usize = 3;
-pub const LAST: usize = 15;
+pub const RFC: usize = 15;
 
-/// "Edition is 1 to 65,535, banks 1 to 16, the others 1 to 255; CCD is at least 2 and at least B."
+/// "The ceiling of 255 for the timing numbers goes to 1,023."
+const CEILING: u16 = 1023;
+
+/// "Edition is 1 to 65,535, banks 1 to 16, the others 1 to" request 5's 1,023; "CCD is at least 2 and at least B." RFC is "0 to 1,023",
+/// and "number 1 no longer looks at it".
 fn check_table(size: usize, t: &Table) -> Result<(), Refusal> {
-    if size != 32 || t[LAST] != 0 {
+    if size != 32 {
         return refused(1);
     }
-    let others = t[B..LAST].iter().all(|n| (1..=255).contains(n));
+    let others = t[B..RFC].iter().all(|n| (1..=CEILING).contains(n)) && t[RFC] <= CEILING;
     if t[EDITION] == 0 || !(1..=16).contains(&t[BANKS]) || !others || t[CCD] < 2 || t[CCD] < t[B] {
         return refused(2);
     }
@@ -71,27 +75,39 @@ pub fn write_table(t: Table, room: &mut [u8]) -> Result<u16, Refusal> {
 
 #[derive(Debug, Clone, Copy, PartialEq, Eq)]
 pub struct Transaction {
-    /// The paper's type: 0 read, 1 write.
+    /// The paper's type: 0 read, 1 write, 2 refresh.
     pub kind: u8,
     pub start: u8,
     pub bi: u8,
     pub bc: u8,
 }
 
-/// "Where no table is given, banks counts as 16."
-const BANKS_WITHOUT_TABLE: u16 = 16;
+/// The type of a refresh.
+pub const REFRESH: u8 = 2;
 
-/// "BI and BC are 1 to 16", and as request 2 has it, "start must be below banks and BI at most banks".
-pub fn in_range(x: &Transaction, banks: u16) -> bool {
+/// "Where no table is given, banks counts as 16", and a refresh is "accepted where no table is given".
+const WITHOUT_TABLE: (u16, bool) = (16, true);
+
+/// "BI and BC are 1 to 16", and as request 2 has it, "start must be below banks and BI at most banks". A refresh has "the other three
+/// bytes 0".
+fn in_range(x: &Transaction, (banks, refreshes): (u16, bool)) -> bool {
+    if x.kind == REFRESH {
+        return refreshes && [x.start, x.bi, x.bc] == [0; 3];
+    }
     let counts = (1..=16).contains(&x.bi) && (1..=16).contains(&x.bc);
     x.kind <= 1 && counts && u16::from(x.start) < banks && u16::from(x.bi) <= banks
+}
+
+/// A refresh is "refused by number 4 when RFC is 0", which means "that the table has no refresh".
+pub fn accepts(table: &Table, x: &Transaction) -> bool {
+    in_range(x, (table[BANKS], table[RFC] != 0))
 }
 
 fn check_transaction(size: usize, x: &Transaction) -> Result<(), Refusal> {
     if size != 4 {
         return refused(3);
     }
-    if !in_range(x, BANKS_WITHOUT_TABLE) {
+    if !in_range(x, WITHOUT_TABLE) {
         return refused(4);
     }
     Ok(())
@@ -134,7 +150,7 @@ pub fn write_transaction(
 #[derive(Debug, Clone, Copy, PartialEq, Eq)]
 pub struct Command {
     pub cycle: u32,
-    /// 0 ACT, 1 RD, 2 RDA, 3 WR, 4 WRA; "any 8 bytes are a readable command", so any other number too.
+    /// 0 ACT, 1 RD, 2 RDA, 3 WR, 4 WRA, 5 REF; "any 8 bytes are a readable command", so any other number too.
     pub kind: u8,
     pub bank: u8,
     pub transaction: u16,

@@ -7,6 +7,7 @@ pub const RD: u8 = 1;
 pub const RDA: u8 = 2;
 pub const WR: u8 = 3;
 pub const WRA: u8 = 4;
+pub const REF: u8 = 5;
 
 /// "Over 69,632 records."
 pub const MOST_RECORDS: usize = 69_632;
@@ -14,8 +15,9 @@ pub const MOST_RECORDS: usize = 69_632;
 /// Five copies decide. The model tries more, so that it doesn't rest on this.
 const COPIES: u64 = 12;
 
-/// A table's timing numbers, in a width in which no sum wraps.
+/// A table's numbers, in a width in which no sum wraps.
 pub struct Times {
+    pub banks: u64,
     pub b: u64,
     pub ccd: u64,
     pub rcd: u64,
@@ -29,12 +31,15 @@ pub struct Times {
     pub rtp: u64,
     pub wr: u64,
     pub wtr: u64,
+    pub rfc: u64,
 }
 
 impl Times {
     pub fn of(t: &Table) -> Times {
-        let [_, _, b, ccd, rcd, rp, ras, rc, rrd, faw, rl, wl, rtp, wr, wtr, _] = t.map(u64::from);
+        let [_, banks, b, ccd, rcd, rp, ras, rc, rrd, faw, rl, wl, rtp, wr, wtr, rfc] =
+            t.map(u64::from);
         Times {
+            banks,
             b,
             ccd,
             rcd,
@@ -48,6 +53,7 @@ impl Times {
             rtp,
             wr,
             wtr,
+            rfc,
         }
     }
 
@@ -84,14 +90,23 @@ impl Record {
         self.kind == WR || self.kind == WRA
     }
 
+    pub fn refreshes(&self) -> bool {
+        self.kind == REF
+    }
+
     fn is_data(&self) -> bool {
         self.reads() || self.writes()
+    }
+
+    /// A REF names bank 0 and is a command to no bank: it opens nothing and closes nothing.
+    fn is_to(&self, bank: u8) -> bool {
+        self.bank == bank && !self.refreshes()
     }
 }
 
 /// The last command to the bank tells: auto precharge closes it, every other leaves it open.
 fn is_open(before: &[Record], bank: u8) -> bool {
-    let last = before.iter().rfind(|r| r.bank == bank);
+    let last = before.iter().rfind(|r| r.is_to(bank));
     last.map_or(false, |r| r.kind != RDA && r.kind != WRA)
 }
 
@@ -102,7 +117,7 @@ fn last_act(before: &[Record], bank: u8) -> Option<usize> {
 /// "The greatest of: its ACT + RAS, each RD since that ACT + RTP, each WR since that ACT + WL + B + WR."
 fn precharge_start(t: &Times, before: &[Record], bank: u8) -> Option<u64> {
     let act = last_act(before, bank)?;
-    let since = before[act..].iter().filter(|r| r.bank == bank);
+    let since = before[act..].iter().filter(|r| r.is_to(bank));
     since
         .map(|r| {
             let delay = if r.acts() {
@@ -117,18 +132,30 @@ fn precharge_start(t: &Times, before: &[Record], bank: u8) -> Option<u64> {
         .max()
 }
 
-/// Whether the record breaks one of the rules 1 to 9, the others left aside.
+/// "Before precharge start + RP of its bank."
+fn is_before_precharged(t: &Times, before: &[Record], bank: u8, cycle: u64) -> bool {
+    precharge_start(t, before, bank).map_or(false, |start| cycle < start + t.rp)
+}
+
+fn banks(table: &Table) -> impl Iterator<Item = u8> {
+    0..table[BANKS] as u8
+}
+
+/// The rules of one record, in the order in which they are tested. Rule 10 is of the whole schedule.
+pub const RULES: [u8; 11] = [1, 2, 3, 4, 5, 6, 7, 8, 9, 11, 12];
+
+/// Whether the record breaks one of these rules, the others left aside.
 pub fn breaks(rule: u8, table: &Table, before: &[Record], r: &Record) -> bool {
     let t = &Times::of(table);
     let own_act = || last_act(before, r.bank).map(|place| before[place].cycle);
     match rule {
+        // "Rule 1 admits kind 5 with bank 0 only."
+        1 if r.refreshes() => r.bank != 0,
         1 => r.kind > WRA || u16::from(r.bank) >= table[BANKS],
         2 => before.last().map_or(false, |last| r.cycle <= last.cycle),
         3 if r.acts() => is_open(before, r.bank),
         3 => r.is_data() && !is_open(before, r.bank),
-        4 if r.acts() => {
-            precharge_start(t, before, r.bank).map_or(false, |start| r.cycle < start + t.rp)
-        }
+        4 if r.acts() => is_before_precharged(t, before, r.bank, r.cycle),
         5 if r.acts() => own_act().map_or(false, |act| r.cycle < act + t.rc),
         6 if r.acts() => before.iter().any(|e| e.acts() && r.cycle < e.cycle + t.rrd),
         7 if r.acts() => {
@@ -139,17 +166,26 @@ pub fn breaks(rule: u8, table: &Table, before: &[Record], r: &Record) -> bool {
         9 if r.is_data() => before
             .iter()
             .any(|e| e.is_data() && r.cycle < e.cycle + t.distance(e.reads(), r.reads())),
+        // "A REF with a bank open or before a bank's precharge start + RP."
+        11 if r.refreshes() => banks(table)
+            .any(|bank| is_open(before, bank) || is_before_precharged(t, before, bank, r.cycle)),
+        // "An ACT or REF less than RFC after a REF."
+        12 if r.acts() || r.refreshes() => before
+            .iter()
+            .any(|e| e.refreshes() && r.cycle < e.cycle + t.rfc),
         _ => false,
     }
 }
 
-/// The first of the rules 1 to 9 that the record breaks.
+/// The first of the rules that the record breaks.
 pub fn first_broken(table: &Table, before: &[Record], r: &Record) -> Option<u8> {
-    (1..=9).find(|&rule| breaks(rule, table, before, r))
+    RULES
+        .into_iter()
+        .find(|&rule| breaks(rule, table, before, r))
 }
 
 fn leaves_open(table: &Table, records: &[Record]) -> bool {
-    (0..table[BANKS]).any(|bank| is_open(records, bank as u8))
+    banks(table).any(|bank| is_open(records, bank))
 }
 
 fn read_schedule(table: &Table, bytes: &[u8]) -> Result<Vec<Record>, Refusal> {

@@ -5,7 +5,7 @@ mod state;
 pub use state::{run, Bank, State, NEVER};
 
 use crate::records::*;
-use crate::rules::{first_broken, Record, Times, ACT, RD, RDA, WR, WRA};
+use crate::rules::{first_broken, Record, Times, ACT, RD, RDA, REF, WR, WRA};
 
 /// "At most 256 transactions."
 pub const MOST_TRANSACTIONS: usize = 256;
@@ -37,7 +37,7 @@ pub fn check_list(table: &Table, list: &[Transaction], places: usize) -> Result<
     if list.len() > MOST_TRANSACTIONS || list.len() > places {
         return refused(table, 3, 0);
     }
-    match list.iter().position(|x| !in_range(x, table[BANKS])) {
+    match list.iter().position(|x| !accepts(table, x)) {
         Some(place) => refused(table, 4, place as u32),
         None => Ok(()),
     }
@@ -49,7 +49,7 @@ struct Waiting {
     kind: u8,
     bank: u8,
     transaction: u16,
-    /// The place of its bank's ACT in the ACT queue.
+    /// The place of its bank's ACT in the ACT queue, or its own where it stands there.
     act: usize,
 }
 
@@ -81,13 +81,23 @@ impl Queues {
     fn of(table: &Table, list: &[Transaction]) -> Queues {
         let mut acts = Vec::new();
         let mut datas = Vec::new();
-        for (transaction, x) in list.iter().enumerate() {
+        for (transaction, x) in (0..).zip(list) {
+            if x.kind == REFRESH {
+                // "It stands in the ACT queue as one command of kind 5 (REF, bank 0)."
+                acts.push(Waiting {
+                    kind: REF,
+                    bank: 0,
+                    transaction,
+                    act: acts.len(),
+                });
+                continue;
+            }
             let (open, closing) = if x.kind == 0 { (RD, RDA) } else { (WR, WRA) };
             for bank in banks_of(table, x) {
                 let waits = |kind| Waiting {
                     kind,
                     bank,
-                    transaction: transaction as u16,
+                    transaction,
                     act: acts.len(),
                 };
                 datas.extend((1..x.bc).map(|_| waits(open)));
@@ -128,18 +138,26 @@ pub fn build(
         .map(|(number, x)| {
             let of_it = |c: &&Command| c.kind != ACT && usize::from(c.transaction) == number;
             let last = commands.iter().rfind(of_it);
-            finish(table, x, last.expect("each has a data command").cycle)
+            finish(
+                table,
+                x,
+                last.expect("each has a command to finish by").cycle,
+            )
         })
         .collect();
     Ok(Built { commands, finishes })
 }
 
-/// From the cycle of its last data command. As request 4 has it, "a read finishes at its last data command + RL + B, a write as
-/// before", at that command itself.
+/// From the cycle of its last data command, or of its REF. As request 4 has it, "a read finishes at its last data command + RL + B, a
+/// write as before", at that command itself; and as request 5 has it, "a refresh finishes at its cycle + RFC".
 fn finish(table: &Table, x: &Transaction, last: u32) -> u32 {
     let t = Times::of(table);
-    let data_back = if x.kind == 0 { t.rl + t.b } else { 0 };
-    let cycle = u64::from(last) + data_back;
+    let after = match x.kind {
+        0 => t.rl + t.b,
+        REFRESH => t.rfc,
+        _ => 0,
+    };
+    let cycle = u64::from(last) + after;
     cycle
         .try_into()
         .expect("a list is served long before the last of the 32-bit cycles")
@@ -163,7 +181,7 @@ fn from_fresh_start(table: &Table, queues: &Queues) -> Vec<Command> {
             .filter(goes)
             .or_else(|| queues.acts.get(acts).filter(goes));
         if let Some(w) = next {
-            if w.kind == ACT {
+            if w.kind == ACT || w.kind == REF {
                 acts += 1;
             } else {
                 datas += 1;
@@ -176,15 +194,9 @@ fn from_fresh_start(table: &Table, queues: &Queues) -> Vec<Command> {
     commands
 }
 
-pub fn bound(table: &Table, bi: u8, bc: u8) -> Result<u64, Refusal> {
-    let counts = (1..=16).contains(&bi) && (1..=16).contains(&bc);
-    if !counts || u16::from(bi) > table[BANKS] {
-        return refused(table, 4, 0);
-    }
-    let t = Times::of(table);
-    let (bi, bc) = (u64::from(bi), u64::from(bc));
-    let n = bi * bc;
-    let s = [
+/// S of the bound. "A REF itself comes within S of where its count starts."
+pub fn longest_wait(t: &Times) -> u64 {
+    [
         1,
         t.ras.saturating_sub(t.rcd) + t.rp,
         t.rc.saturating_sub(t.rcd),
@@ -194,7 +206,18 @@ pub fn bound(table: &Table, bi: u8, bc: u8) -> Result<u64, Refusal> {
         t.faw.saturating_sub(t.rcd),
     ]
     .into_iter()
-    .fold(0, u64::max);
+    .fold(0, u64::max)
+}
+
+pub fn bound(table: &Table, bi: u8, bc: u8) -> Result<u64, Refusal> {
+    let counts = (1..=16).contains(&bi) && (1..=16).contains(&bc);
+    if !counts || u16::from(bi) > table[BANKS] {
+        return refused(table, 4, 0);
+    }
+    let t = Times::of(table);
+    let (bi, bc) = (u64::from(bi), u64::from(bc));
+    let n = bi * bc;
+    let s = longest_wait(&t);
     let d = t.rrd.max((t.faw + 3) / 4);
     let x = t
         .ccd

@@ -80,7 +80,7 @@ pub struct Controller {
     pub edition: u32,
     /// The next to be tried.
     pub cycle: u32,
-    /// How many commands have left each queue.
+    /// How many commands have left each queue; a REF leaves the ACT queue.
     pub acts: u32,
     pub datas: u32,
     pub banks: [HostBank; 16],
@@ -88,12 +88,14 @@ pub struct Controller {
     pub last: [u32; 4],
     pub rd: u32,
     pub wr: u32,
+    /// The last REF.
+    pub refresh: u32,
 }
 
 #[repr(C)]
 #[derive(Debug, Clone, Copy, PartialEq, Eq)]
 pub struct Transaction {
-    /// 0 read, 1 write.
+    /// 0 read, 1 write, 2 refresh; of a refresh the others are 0.
     pub kind: u8,
     /// The first bank.
     pub start: u8,

@@ -3,7 +3,7 @@
 use crate::raw::*;
 use crate::{told, Refusal};
 
-/// Edition, banks, B, CCD, RCD, RP, RAS, RC, RRD, FAW, RL, WL, RTP, WR, WTR, and a last that is 0.
+/// Edition, banks, B, CCD, RCD, RP, RAS, RC, RRD, FAW, RL, WL, RTP, WR, WTR, RFC.
 pub type Table = [u16; 16];
 
 /// Refused with 1 and 2.
@@ -40,7 +40,7 @@ pub fn write_transaction(x: Transaction, out: &mut [u8]) -> Result<(), Refusal> 
 #[derive(Debug, Clone, Copy, PartialEq, Eq)]
 pub struct Command {
     pub cycle: u32,
-    /// 0 ACT, 1 RD, 2 RDA, 3 WR, 4 WRA, or any other number.
+    /// 0 ACT, 1 RD, 2 RDA, 3 WR, 4 WRA, 5 REF, or any other number.
     pub kind: u8,
     pub bank: u8,
     /// The transaction's.

@@ -39,7 +39,8 @@ pub struct Scheduled {
     pub commands: u32,
 }
 
-/// Refused with 1, 2, 10, and 3 to 6. A write finishes at its last data command, a read RL + B cycles after its own.
+/// Refused with 1, 2, 10, and 3 to 6. A write finishes at its last data command, a read RL + B cycles after its own, a refresh RFC cycles
+/// after its REF.
 pub fn schedule(
     expected: u16,
     table: &[u8],
@@ -144,7 +145,8 @@ pub fn judge_pattern(
     })
 }
 
-/// Refused with 1, 2, 10 and 4. Answers the edition and the bound, which counts from last data command to last data command.
+/// Refused with 1, 2, 10 and 4. Answers the edition and the bound, which counts from last data command to last data command, or from the finish
+/// of a refresh.
 pub fn bound(expected: u16, table: &[u8], bi: u8, bc: u8) -> Result<(u32, u32), Refusal> {
     let a = unsafe { skv_bound(expected, table.as_ptr(), table.len(), bi, bc) };
     a.told((a.edition, a.count))

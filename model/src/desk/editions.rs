@@ -3,7 +3,7 @@
 use super::refusals::{bad, bytes, told, two, Told, ROOM};
 use crate::desk::*;
 use crate::house::*;
-use crate::records::{BANKS, CCD, LAST};
+use crate::records::{BANKS, CCD, RFC};
 
 /// Expected editions and tables that differ, and tables that 1 or 2 refuses whatever is expected; with what must be told of each
 /// before anything else is looked at.
@@ -17,7 +17,7 @@ fn tables() -> Vec<(u16, Vec<u8>, Told)> {
         let short = bytes_of(&with(&[(BANKS, 0)]))[..31].to_vec();
         all.push((expected, vec![], (1, 0, 0)));
         all.push((expected, short, (1, 0, 0)));
-        let faults = [((LAST, 1), 1), ((CCD, 1), 2), ((EDITION, 0), 2)];
+        let faults = [((RFC, 1024), 2), ((CCD, 1), 2), ((EDITION, 0), 2)];
         for (fault, number) in faults {
             all.push((expected, bytes_of(&with(&[fault])), (number, 0, 0)));
         }

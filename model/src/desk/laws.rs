@@ -3,17 +3,22 @@
 use crate::desk::*;
 use crate::house::*;
 use crate::listing::commands;
-use crate::records::{B, BANKS, EDITION};
-use crate::rules::ACT;
+use crate::records::{BANKS, EDITION, REFRESH, RFC};
+use crate::rules::{Times, ACT};
+use crate::scheduler::longest_wait;
 
-/// Lists of every shape, each under every table; one of them takes all its banks, twice, and runs over the last one.
+/// Lists of every shape, each under every table, with refreshes where the table has them; one of them takes all its banks, twice, and
+/// runs over the last one.
 fn lists_and_tables() -> Vec<(Table, Vec<[u8; 4]>)> {
     let mut numbers = Numbers(3);
     let mut all = Vec::new();
-    let tables = [TABLE_A, TABLE_B, TABLE_C, LEAST, GREATEST];
+    let tables = [TABLE_A, TABLE_B, TABLE_C, LEAST, GREATEST, REFRESHED];
     for table in tables.iter().chain(&ODD) {
         for size in [0, 1, 2, 3, 5] {
             let list = (0..size).map(|_| {
+                if table[RFC] != 0 && numbers.below(3) == 0 {
+                    return REFRESH_BYTES;
+                }
                 let bi = 1 + numbers.below(table[BANKS].min(4).into()) as u8;
                 let start = numbers.below(table[BANKS].into()) as u8;
                 [numbers.byte() % 2, start, bi, 1 + numbers.byte() % 3]
@@ -21,10 +26,12 @@ fn lists_and_tables() -> Vec<(Table, Vec<[u8; 4]>)> {
             all.push((*table, list.collect()));
         }
         let banks = table[BANKS] as u8;
-        all.push((
-            *table,
-            vec![[1, banks - 1, banks, 2], [0, banks / 2, banks, 1]],
-        ));
+        let (first, then) = ([1, banks - 1, banks, 2], [0, banks / 2, banks, 1]);
+        all.push((*table, vec![first, then]));
+        if table[RFC] != 0 {
+            all.push((*table, vec![first, REFRESH_BYTES, REFRESH_BYTES, then]));
+            all.push((*table, vec![REFRESH_BYTES; 6]));
+        }
     }
     all
 }
@@ -53,7 +60,7 @@ fn ran(c: &mut Controller, table: &[u8], list: &[Transaction], count: u32) -> (R
     (told, room)
 }
 
-/// The cycle of each transaction's last data command.
+/// The cycle of each transaction's last data command, or of its REF.
 fn last_datas(room: &[u8], size: usize) -> Vec<u64> {
     let mut last = vec![0; size];
     for c in commands(room, u32::MAX).iter().filter(|c| c.kind != ACT) {
@@ -62,43 +69,61 @@ fn last_datas(room: &[u8], size: usize) -> Vec<u64> {
     last
 }
 
-/// "The bound still counts from last command to last command; the promised finish of a read is that limit + RL + B."
+/// "The bound still counts from last command to last command; the promised finish of a read is that limit + RL + B." With refreshes,
+/// "the promise counts from that finish where the predecessor is a refresh. A REF itself comes within S of where its count starts". The
+/// judge accepts what is built. Answers which types met their limit exactly.
+pub fn passes_and_meets_the_bound(table: &Table, list: &[[u8; 4]]) -> Vec<u8> {
+    let (room, finishes) = built(table, list);
+    let times = Times::of(table);
+    let (edition, table) = (table[EDITION], bytes_of(table));
+    let (_, verdict) = judge(edition, &table, &room).expect("whole records");
+    assert_eq!(verdict, Verdict::Accepted);
+    let mut start = 0;
+    let mut exact = Vec::new();
+    let lasts = last_datas(&room, list.len());
+    for ((&[kind, _, bi, bc], finish), last) in list.iter().zip(finishes).zip(lasts) {
+        let (cycles, after) = if kind == REFRESH {
+            (longest_wait(&times), times.rfc)
+        } else {
+            let (_, cycles) = bound(edition, &table, bi, bc).expect("it's in the list");
+            (cycles, [times.rl + times.b, 0][usize::from(kind)])
+        };
+        let limit = start + cycles;
+        assert!(last <= limit);
+        assert_eq!(u64::from(finish), last + after);
+        if last == limit {
+            exact.push(kind);
+        }
+        start = if kind == REFRESH { finish.into() } else { last };
+    }
+    exact
+}
+
 #[test]
 fn built_schedules_pass_and_meet_the_bound() {
     for (table, list) in lists_and_tables() {
-        let (room, finishes) = built(&table, &list);
-        let data_back = u64::from(table[RL]) + u64::from(table[B]);
-        let (edition, table) = (table[EDITION], bytes_of(&table));
-        let (_, verdict) = judge(edition, &table, &room).expect("whole records");
-        assert_eq!(verdict, Verdict::Accepted);
-        let mut before = 0;
-        let lasts = last_datas(&room, list.len());
-        for ((x, finish), last) in list.iter().zip(finishes).zip(lasts) {
-            let (_, cycles) = bound(edition, &table, x[2], x[3]).expect("it's in the list");
-            let limit = before + cycles;
-            let after = if x[0] == 0 { data_back } else { 0 };
-            assert!(last <= limit);
-            assert_eq!(u64::from(finish), last + after);
-            assert!(u64::from(finish) <= limit + after);
-            before = last;
-        }
+        passes_and_meets_the_bound(&table, &list);
     }
 }
 
-/// No bound is above 66,300: S is at most 4 × 255, and with RCD and 255 times CCD it gives the greatest table's. So 256 bounds and a
-/// read's RL + B fit 32 bits. The longest list there is ends within them.
+/// No bound is above 265,980: S is at most 4 × 1,023, and with RCD and 255 times CCD it gives the greatest table's. A refresh takes no
+/// more than S and RFC. So 256 bounds and a read's RL + B fit 32 bits, and all commands go before cycle 100,000,000. The longest list
+/// there is ends within them.
 #[test]
 fn finishing_cycles_fit() {
-    let most = 256 * 66_300 + 2 * 255;
-    assert!(u32::try_from(most).is_ok());
+    let most = 256 * 265_980 + 2 * 1023;
+    assert!(most < 100_000_000);
     for table in [TABLE_A, TABLE_B, TABLE_C, LEAST, GREATEST]
         .iter()
         .chain(&ODD)
     {
         let (edition, banks) = (table[EDITION], table[BANKS] as u8);
         let (_, cycles) = bound(edition, &bytes_of(table), banks, 16).expect("it's in range");
-        assert!(cycles <= 66_300);
-        assert_eq!(cycles == 66_300, *table == GREATEST);
+        assert!(cycles <= 265_980);
+        assert_eq!(cycles == 265_980, *table == GREATEST);
+        let refresh = longest_wait(&Times::of(table)) + u64::from(table[RFC]);
+        assert!(refresh <= 5_115);
+        assert_eq!(refresh == 5_115, *table == GREATEST);
     }
     let table = bytes_of(&GREATEST);
     let (_, mut c) = start(65535, &table);
@@ -106,7 +131,23 @@ fn finishing_cycles_fit() {
     let list = [transaction(0, 15, 16, 16); 256];
     let told = run(&mut c, 65535, &table, &list, u32::MAX, &mut room).expect("it's accepted");
     assert_eq!(told.commands, 69_632);
-    assert!(u64::from(told.cycles) - 1 + 2 * 255 <= most);
+    assert!(u64::from(told.cycles) - 1 + 2 * 1023 <= most);
+}
+
+/// "Transactions added at the end move no command of the earlier ones by a cycle", nor their finishes.
+#[test]
+fn what_is_added_at_the_end_moves_nothing() {
+    for (table, list) in lists_and_tables() {
+        let (room, finishes) = built(&table, &list);
+        let whole = commands(&room, u32::MAX);
+        for size in 0..list.len() {
+            let (room, of_start) = built(&table, &list[..size]);
+            let of_them = |c: &&Command| usize::from(c.transaction) < size;
+            let cut: Vec<Command> = whole.iter().filter(of_them).copied().collect();
+            assert_eq!(commands(&room, u32::MAX), cut);
+            assert_eq!(of_start, finishes[..size]);
+        }
+    }
 }
 
 #[test]
@@ -156,7 +197,7 @@ fn so_is_a_run_of_256_transactions() {
     assert!(commands == schedule);
 }
 
-/// "n cycles and then m give the commands and state of n + m at once."
+/// "n cycles and then m give the commands and state of n + m at once": right after each command, and at cycles all along.
 #[test]
 fn a_run_cut_in_two_gives_the_whole() {
     for (table, list) in lists_and_tables() {
@@ -164,7 +205,9 @@ fn a_run_cut_in_two_gives_the_whole() {
         let list = decoded(edition, &table, &list);
         let (_, mut at_once) = start(edition, &table);
         let (whole, all) = ran(&mut at_once, &table, &list, u32::MAX);
-        for count in 0..=whole.cycles {
+        let all_along = (0..=whole.cycles).step_by(1 + whole.cycles as usize / 300);
+        let gone = commands(&all, u32::MAX);
+        for count in all_along.chain(gone.iter().map(|c| c.cycle + 1)) {
             let (_, mut c) = start(edition, &table);
             let (first, start) = ran(&mut c, &table, &list, count);
             let (then, end) = ran(&mut c, &table, &list, u32::MAX - count);

@@ -3,7 +3,7 @@
 use super::laws::transaction;
 use crate::desk::*;
 use crate::house::*;
-use crate::records::{BANKS, CCD, LAST};
+use crate::records::{BANKS, CCD, RFC};
 
 /// Number, position, edition.
 pub type Told = (u8, u32, u16);
@@ -13,12 +13,12 @@ pub fn told<T>(answer: Result<T, Refusal>) -> Told {
     (r.number, r.position, r.edition)
 }
 
-/// Numbers 1 and 2 at once, in two ways, 2 alone, and none; with what must be told of each before anything else is looked at.
+/// Numbers 1 and 2 at once, 2 alone, in two ways, and none; with what must be told of each before anything else is looked at.
 fn tables() -> [(Vec<u8>, Option<Told>); 4] {
     let short = bytes_of(&with(&[(BANKS, 0)]))[..31].to_vec();
     [
         (short, Some((1, 0, 0))),
-        (bytes_of(&with(&[(LAST, 1), (CCD, 1)])), Some((1, 0, 0))),
+        (bytes_of(&with(&[(RFC, 1024)])), Some((2, 0, 0))),
         (bytes_of(&with(&[(CCD, 1)])), Some((2, 0, 0))),
         (bytes_of(&TABLE_A), None),
     ]

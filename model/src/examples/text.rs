@@ -3,6 +3,7 @@
 use std::fmt::Write;
 
 use super::Example;
+use crate::house::REFRESH_BYTES;
 use crate::listing::listing;
 
 /// Of a listing with more lines than this, only so many from each end stand in the text.
@@ -12,6 +13,9 @@ const FROM_EACH_END: usize = 12;
 /// Stands under a listing that has finishing cycles.
 const FINISHES: &str = "A write finishes at its last data command, a read RL + B cycles later, when its last word has come back.\n";
 
+/// And under one that has a refresh too.
+const REFRESH_FINISHES: &str = "A refresh finishes RFC cycles after its REF.\n";
+
 /// Each number of the table and what document 01 has it for.
 const FIELDS: [(&str, &str); 16] = [
     ("edition", "the table's own number, 1 to 65535"),
@@ -19,7 +23,7 @@ const FIELDS: [(&str, &str); 16] = [
     ("B", "the cycles one burst takes; in a read's finish"),
     ("CCD", "RD to RD and WR to WR"),
     ("RCD", "ACT to a data command of its bank"),
-    ("RP", "precharge start to the bank's next ACT"),
+    ("RP", "precharge start to the bank's next ACT, and to a REF"),
     ("RAS", "ACT to its bank's precharge start"),
     ("RC", "ACT to the next ACT of its bank"),
     ("RRD", "ACT to any later ACT"),
@@ -32,7 +36,10 @@ const FIELDS: [(&str, &str); 16] = [
     ("RTP", "RD to its bank's precharge start"),
     ("WR", "in WR to its bank's precharge start: WL + B + WR"),
     ("WTR", "in WR to RD: the greater of CCD and WL + B + WTR"),
-    ("last", "always 0"),
+    (
+        "RFC",
+        "REF to any later ACT or REF, and to its finish; 0: the table has no refresh",
+    ),
 ];
 
 impl Example {
@@ -48,7 +55,9 @@ impl Example {
             format!("The listing prints:\n\n{}", printed_text(&printed)),
         ];
         if printed.contains("finish") {
-            parts.push(FINISHES.to_string());
+            let refreshes = self.list.contains(&REFRESH_BYTES);
+            let of_refreshes = if refreshes { REFRESH_FINISHES } else { "" };
+            parts.push(FINISHES.to_string() + of_refreshes);
         }
         parts.join("\n")
     }
@@ -79,7 +88,7 @@ impl Example {
                 format!("transactions {first} to {last}, each")
             };
             let [kind, start, bi, bc] = rest[0];
-            let word = if kind == 0 { "read" } else { "write" };
+            let word = ["read", "write", "refresh"][usize::from(kind)];
             writeln!(
                 out,
                 "    {which}: type {kind} ({word}), start bank {start}, BI {bi}, BC {bc}"

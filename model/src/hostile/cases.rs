@@ -2,7 +2,7 @@
 
 use super::*;
 use crate::house::*;
-use crate::records::{B, BANKS, CCD, EDITION, LAST};
+use crate::records::{B, BANKS, CCD, EDITION, RFC};
 
 struct Cases(Vec<u8>);
 
@@ -88,17 +88,16 @@ fn tables(cases: &mut Cases) {
         [0; 16],
         [65535; 16],
     ];
-    for i in EDITION..=LAST {
+    for i in EDITION..=RFC {
         // With table A's CCD, B is at most 4.
         let greatest = match i {
             EDITION => 65535,
             BANKS => 16,
             B => 4,
-            LAST => 0,
-            _ => 255,
+            _ => 1023,
         };
         let over = if i == EDITION { 256 } else { greatest + 1 };
-        tables.extend([0, 1, greatest, over, 65535].map(|n| with(&[(i, n)])));
+        tables.extend([0, 1, 255, 256, greatest, over, 65535].map(|n| with(&[(i, n)])));
     }
     tables.extend([1, 2, 3, 4, 5].map(|ccd| with(&[(CCD, ccd)])));
     for (b, ccd) in [
@@ -108,15 +107,18 @@ fn tables(cases: &mut Cases) {
         (3, 2),
         (5, 4),
         (255, 254),
-        (255, 255),
-        (255, 256),
         (256, 256),
+        (1023, 1022),
+        (1023, 1023),
+        (1023, 1024),
+        (1024, 1024),
     ] {
         tables.push(with(&[(B, b), (CCD, ccd)]));
     }
-    for last in [1, 65535] {
-        for fault in [(EDITION, 0), (BANKS, 17), (CCD, 1), (FAW, 256)] {
-            tables.push(with(&[fault, (LAST, last)]));
+    // RFC that is accepted doesn't hide another fault, nor the other way round.
+    for rfc in [1, 1024] {
+        for fault in [(EDITION, 0), (BANKS, 17), (CCD, 1), (FAW, 1024)] {
+            tables.push(with(&[fault, (RFC, rfc)]));
         }
     }
     for t in &tables {
@@ -125,8 +127,8 @@ fn tables(cases: &mut Cases) {
     for t in [
         TABLE_A,
         with(&[(BANKS, 0)]),
-        with(&[(LAST, 1)]),
-        with(&[(CCD, 1), (LAST, 1)]),
+        with(&[(RFC, 1)]),
+        with(&[(RFC, 1024)]),
     ] {
         cases.put_rooms(WRITE_TABLE, &bytes_of(&t));
     }
@@ -140,6 +142,14 @@ fn transactions(cases: &mut Cases) {
     let edges = [0, 1, 2, 15, 16, 17, 255];
     for kind in [0, 1, 2, 3, 255] {
         cases.put_both(READ_TRANSACTION, &[kind, 0, 1, 1]);
+    }
+    // "A transaction of type 2, with the other three bytes 0, is a refresh .. accepted where no table is given."
+    for place in 0..4 {
+        for n in [0, 1, 2, 3, 16, 255] {
+            let mut x = REFRESH_BYTES;
+            x[place] = n;
+            cases.put_both(READ_TRANSACTION, &x);
+        }
     }
     for start in edges {
         for bi in edges {
@@ -176,6 +186,8 @@ fn transactions(cases: &mut Cases) {
         [1, 0, 0, 1],
         [1, 0, 1, 17],
         [255; 4],
+        REFRESH_BYTES,
+        [2, 0, 0, 1],
     ] {
         cases.put_rooms(WRITE_TRANSACTION, &x);
     }

@@ -4,7 +4,7 @@ use super::{Cases, EXAMPLE_3, EXAMPLE_5};
 use crate::examples;
 use crate::house::*;
 use crate::listing::ROOM;
-use crate::records::{Table, B, BANKS, CCD, EDITION, LAST};
+use crate::records::{Table, B, BANKS, CCD, EDITION, RFC};
 
 pub fn put(cases: &mut Cases) {
     let mut numbers = Numbers(21);
@@ -19,8 +19,8 @@ pub fn put(cases: &mut Cases) {
     any(cases, &mut numbers);
 }
 
-/// A list of so many transactions that the table accepts.
-fn any_list(
+/// A list of so many transactions that the table accepts, refreshes among them where it has any.
+pub fn any_list(
     table: &Table,
     size: usize,
     most: (usize, usize),
@@ -28,6 +28,9 @@ fn any_list(
 ) -> Vec<[u8; 4]> {
     let banks = usize::from(table[BANKS]);
     let mut one = || {
+        if table[RFC] != 0 && numbers.below(5) == 0 {
+            return REFRESH_BYTES;
+        }
         let bi = 1 + numbers.below(banks.min(most.0));
         let start = numbers.below(banks);
         let bc = 1 + numbers.below(most.1);
@@ -73,7 +76,7 @@ fn over_the_last_bank(cases: &mut Cases) {
 /// "256 transactions accepted, 257: number 3."
 fn most(cases: &mut Cases, numbers: &mut Numbers) {
     cases.group("255, 256 and 257 transactions");
-    for table in [TABLE_A, LEAST, ODD[8]] {
+    for table in [TABLE_A, LEAST, ODD[8], REFRESHED] {
         let list = any_list(&table, 257, (3, 3), numbers);
         for size in [255, 256, 257] {
             cases.list(&table, &list[..size]);
@@ -121,9 +124,9 @@ fn any_table(numbers: &mut Numbers) -> Table {
     t[CCD] = t[B].max(2) + numbers.below(4) as u16;
     for _ in 0..numbers.below(4) {
         let place = 4 + numbers.below(11);
-        t[place] = 1 + u16::from(numbers.byte()) % 255;
+        t[place] = 1 + 4 * (u16::from(numbers.byte()) % 255);
     }
-    t[LAST] = 0;
+    t[RFC] = numbers.of(&[0, 1, 40, 255, 1023]);
     t
 }
 
@@ -136,7 +139,7 @@ fn any(cases: &mut Cases, numbers: &mut Numbers) {
     }
     cases.group("examples 3 and 5 with one number of the table changed within its range");
     for place in 4..15 {
-        for n in [1, 255] {
+        for n in [1, 1023] {
             cases.list(&with(&[(place, n)]), &EXAMPLE_3);
             cases.list(&with(&[(place, n)]), &EXAMPLE_5);
         }

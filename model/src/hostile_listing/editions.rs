@@ -2,7 +2,7 @@
 
 use super::{Cases, EXAMPLE_3, EXAMPLE_5};
 use crate::house::*;
-use crate::records::{BANKS, CCD, EDITION, LAST};
+use crate::records::{BANKS, CCD, EDITION, RFC};
 
 pub fn put(cases: &mut Cases) {
     fewer_than_two(cases);
@@ -53,8 +53,8 @@ fn flipped(cases: &mut Cases) {
 fn faults(cases: &mut Cases) {
     cases.group("another edition together with faults of the table, of the list and of the room");
     let tables = [
-        with(&[(LAST, 1)]),
-        with(&[(LAST, 1), (CCD, 1)]),
+        with(&[(RFC, 1024)]),
+        with(&[(RFC, 1024), (CCD, 1)]),
         with(&[(CCD, 1)]),
         with(&[(BANKS, 17)]),
         with(&[(EDITION, 0)]),

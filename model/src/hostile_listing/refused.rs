@@ -2,7 +2,7 @@
 
 use super::{Cases, EXAMPLE_3, EXAMPLE_5};
 use crate::house::*;
-use crate::records::{B, BANKS, CCD, EDITION, LAST};
+use crate::records::{B, BANKS, CCD, EDITION, RFC};
 
 pub fn put(cases: &mut Cases) {
     let mut numbers = Numbers(22);
@@ -30,26 +30,26 @@ fn short(cases: &mut Cases, numbers: &mut Numbers) {
 
 fn tables(cases: &mut Cases) {
     cases.group("each number of the table below and above its range, and at its ends");
-    for place in EDITION..=LAST {
+    for place in EDITION..=RFC {
         // With table A's CCD, B is at most 4.
         let edges: &[u16] = match place {
             EDITION => &[0, 1, 65535],
             BANKS => &[0, 1, 16, 17, 65535],
-            B => &[0, 1, 4, 5, 255, 256, 65535],
-            CCD => &[0, 1, 2, 3, 4, 255, 256, 65535],
-            LAST => &[1, 256, 65535],
-            _ => &[0, 256, 65535],
+            B => &[0, 1, 4, 5, 1023, 1024, 65535],
+            CCD => &[0, 1, 2, 3, 4, 1023, 1024, 65535],
+            RFC => &[1, 1023, 1024, 65535],
+            _ => &[0, 1024, 65535],
         };
         for &n in edges {
             cases.list(&with(&[(place, n)]), &EXAMPLE_3);
         }
     }
-    for (b, ccd) in [(1, 1), (1, 2), (2, 2), (3, 2), (255, 254), (255, 255)] {
+    for (b, ccd) in [(1, 1), (1, 2), (2, 2), (3, 2), (1023, 1022), (1023, 1023)] {
         cases.list(&with(&[(B, b), (CCD, ccd)]), &EXAMPLE_3);
     }
     cases.group("several faults at once: the lowest number is told");
     for table in [
-        with(&[(LAST, 1), (CCD, 1)]),
+        with(&[(RFC, 1024), (CCD, 1)]),
         with(&[(CCD, 1)]),
         with(&[(BANKS, 1)]),
     ] {

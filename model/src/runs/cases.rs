@@ -2,10 +2,11 @@
 //! not expected.
 
 use super::editions::editions;
+use super::refreshes::refreshes;
 use super::states::*;
 use super::*;
 use crate::house::*;
-use crate::records::{BANKS, CCD, EDITION, LAST};
+use crate::records::{BANKS, CCD, EDITION, RFC};
 
 pub struct Cases(Vec<u8>);
 
@@ -38,7 +39,7 @@ impl Cases {
     }
 
     /// With the room and the slots that are just enough.
-    fn build_all(&mut self, table: &Table, list: &[[u8; 4]]) {
+    pub fn build_all(&mut self, table: &Table, list: &[[u8; 4]]) {
         self.build(table, room_for(list), list.len(), &list.concat());
     }
 
@@ -66,6 +67,7 @@ pub fn cases() -> Vec<u8> {
     rooms(&mut cases);
     lists(&mut cases);
     cuts(&mut cases);
+    refreshes(&mut cases);
     hand_made(&mut cases);
     any_states(&mut cases, &mut numbers);
     bounds(&mut cases);
@@ -98,10 +100,13 @@ fn worked(cases: &mut Cases) {
     }
 }
 
-/// A list of so many transactions, of few banks and bursts each.
+/// A list of so many transactions, of few banks and bursts each, with refreshes where the table has them.
 pub fn any_list(table: &Table, size: usize, numbers: &mut Numbers) -> Vec<[u8; 4]> {
     let banks = usize::from(table[BANKS]);
     let mut one = || {
+        if table[RFC] != 0 && numbers.below(4) == 0 {
+            return REFRESH_BYTES;
+        }
         let bi = 1 + numbers.below(banks.min(5));
         let start = numbers.below(banks);
         let kind = numbers.byte() % 2;
@@ -217,15 +222,15 @@ fn lists(cases: &mut Cases) {
     cases.build(&LEAST, 65_535, 1, &[0, 16, 1, 1]);
 }
 
-/// Example 4 run to the counts just before and just after each of its commands, and another list, whose transactions both run over
-/// the last bank, to every second count.
+/// Example 4 run to the counts just before and just after some of its commands, and another list, whose transactions run over the last
+/// bank with a refresh between them, to every fifth count.
 fn cuts(cases: &mut Cases) {
     let example_4 = [[0, 0, 1, 1], [1, 1, 1, 1]];
-    cut(cases, &TABLE_A, &example_4, [1, 6, 7, 10, 11, 18, 19]);
-    let small = [20, 3, 2, 2, 3, 3, 5, 7, 2, 9, 3, 2, 2, 2, 2, 0];
-    let list = [[1, 2, 2, 2], [0, 1, 3, 1]];
+    cut(cases, &TABLE_A, &example_4, [1, 6, 7, 18, 19]);
+    let small = [20, 3, 2, 2, 3, 3, 5, 7, 2, 9, 3, 2, 2, 2, 2, 5];
+    let list = [[1, 2, 2, 2], REFRESH_BYTES, [0, 1, 3, 1]];
     let (whole, _, _) = ran(&Controller::fresh(&small), &small, &list, u32::MAX);
-    cut(cases, &small, &list, (1..=whole.cycles).step_by(2));
+    cut(cases, &small, &list, (1..=whole.cycles).step_by(5));
 }
 
 /// A fresh run to each count, and on from there to the end.
@@ -257,7 +262,7 @@ fn bounds(cases: &mut Cases) {
 /// The table is refused before anything else is looked at.
 fn refused_tables(cases: &mut Cases) {
     for table in [
-        with(&[(LAST, 1), (BANKS, 0)]),
+        with(&[(RFC, 1024), (BANKS, 0)]),
         with(&[(CCD, 1)]),
         with(&[(BANKS, 17)]),
         with(&[(EDITION, 0)]),
@@ -267,7 +272,7 @@ fn refused_tables(cases: &mut Cases) {
         cases.bound(&table, 0, 0);
         cases.bound(&table, 1, 1);
     }
-    for table in [with(&[(LAST, 1)]), with(&[(FAW, 0)])] {
+    for table in [with(&[(RFC, 1024)]), with(&[(FAW, 0)])] {
         cases.run(&table, 1, 0, &Controller::fresh(&table), &[0, 0, 1, 1]);
     }
 }

@@ -15,7 +15,8 @@ pub fn bytes_of_state(s: &Controller) -> Vec<u8> {
         bytes.push(u8::try_from(bank.opened).expect("a case has 8 bits of it"));
         bytes.extend([bank.act, bank.rd, bank.wr].into_iter().flat_map(four));
     }
-    bytes.extend(s.last.into_iter().chain([s.rd, s.wr]).flat_map(four));
+    let of_all = [s.rd, s.wr, s.refresh];
+    bytes.extend(s.last.into_iter().chain(of_all).flat_map(four));
     bytes
 }
 
@@ -62,7 +63,6 @@ pub fn hand_made(cases: &mut Cases) {
     put(40, &|s| s.banks[1].opened = 0);
     put(60, &|s| s.banks[0].opened = 7);
     put(40, &|s| s.banks[1].opened = 7);
-    put(4, &|s| s.banks[1].opened = 255);
     put(60, &|s| s.last = [0, 1, 2, 14]);
     put(60, &|s| s.last = [14, NEVER, NEVER, NEVER]);
     put(60, &|s| s.last = [NEVER, 14, 14, 14]);
@@ -102,8 +102,9 @@ pub fn hand_made(cases: &mut Cases) {
     for stored in [own - 1, own, NEVER - 1] {
         put(5, &|s| s.banks[0].act = stored);
         put(5, &|s| s.banks[7].rd = stored);
-        put(5, &|s| s.rd = stored);
     }
+    put(5, &|s| s.rd = own - 1);
+    put(5, &|s| s.rd = own);
     put(5, &|s| s.banks[3].wr = own);
     put(5, &|s| s.last[0] = own);
     put(5, &|s| s.last[3] = own);
@@ -152,6 +153,9 @@ fn run_rooms(cases: &mut Cases) {
         let left = 8 * (ACTS.saturating_sub(state.acts) + DATAS - state.datas) as usize;
         cases.run(&TABLE_A, u32::MAX, left, state, &list);
         cases.run(&TABLE_A, u32::MAX, left - 1, state, &list);
+        if state.acts > ACTS {
+            continue;
+        }
         cases.run(&TABLE_A, 3, 24, state, &list);
         cases.run(&TABLE_A, 3, 23, state, &list);
         cases.run(&TABLE_A, 0, 0, state, &list);
@@ -164,7 +168,7 @@ fn run_rooms(cases: &mut Cases) {
 
 /// States as runs leave them, but for the stored cycles, which may be any that are not refused.
 pub fn any_states(cases: &mut Cases, numbers: &mut Numbers) {
-    for round in 0..18 {
+    for round in 0..16 {
         let table: &Table = &ODD[(round + 1) % ODD.len()];
         let list = any_list(table, 2 + round % 3, numbers);
         let mut state = Controller::fresh(table);
@@ -185,6 +189,7 @@ pub fn any_states(cases: &mut Cases, numbers: &mut Numbers) {
         }
         state.last = [(); 4].map(|()| stored());
         (state.rd, state.wr) = (stored(), stored());
+        state.refresh = stored();
         for bank in &mut state.banks {
             bank.opened *= numbers.of(&[1, 7]);
         }

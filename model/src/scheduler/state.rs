@@ -2,7 +2,7 @@
 
 use super::{check_list, refused, Queues, Waiting, MOST_TRANSACTIONS};
 use crate::records::{Command, Refusal, Table, Transaction, BANKS, EDITION};
-use crate::rules::{Times, ACT, RD, RDA, WR};
+use crate::rules::{Times, ACT, RD, RDA, REF, WR};
 
 /// A stored cycle of this value stands for "never".
 pub const NEVER: u32 = u32::MAX;
@@ -33,6 +33,8 @@ pub struct State {
     pub last: [u32; 4],
     pub rd: u32,
     pub wr: u32,
+    /// The last REF's cycle.
+    pub refresh: u32,
 }
 
 /// Whether a command may go at the cycle if the stored one must be so far before it.
@@ -57,19 +59,30 @@ impl State {
             last: [NEVER; 4],
             rd: NEVER,
             wr: NEVER,
+            refresh: NEVER,
         }
     }
 
     fn act_goes(&self, t: &Times, w: &Waiting) -> bool {
         let bank = &self.banks[usize::from(w.bank)];
-        let precharged = far(bank.act, t.ras + t.rp, self.cycle)
-            && far(bank.rd, t.rtp + t.rp, self.cycle)
-            && far(bank.wr, t.wl + t.b + t.wr + t.rp, self.cycle);
-        bank.opened == 0
-            && precharged
+        self.precharged(t, bank)
             && far(bank.act, t.rc, self.cycle)
             && far(self.last[0], t.rrd, self.cycle)
             && far(self.last[3], t.faw, self.cycle)
+            && far(self.refresh, t.rfc, self.cycle)
+    }
+
+    /// Closed, and at its precharge start + RP or after it.
+    fn precharged(&self, t: &Times, bank: &Bank) -> bool {
+        bank.opened == 0
+            && far(bank.act, t.ras + t.rp, self.cycle)
+            && far(bank.rd, t.rtp + t.rp, self.cycle)
+            && far(bank.wr, t.wl + t.b + t.wr + t.rp, self.cycle)
+    }
+
+    fn refresh_goes(&self, t: &Times) -> bool {
+        let mut banks = self.banks[..t.banks as usize].iter();
+        banks.all(|bank| self.precharged(t, bank)) && far(self.refresh, t.rfc, self.cycle)
     }
 
     fn data_goes(&self, t: &Times, w: &Waiting) -> bool {
@@ -82,6 +95,11 @@ impl State {
     }
 
     fn note(&mut self, w: &Waiting) {
+        if w.kind == REF {
+            self.refresh = self.cycle;
+            self.acts += 1;
+            return;
+        }
         let bank = &mut self.banks[usize::from(w.bank)];
         bank.opened = (w.kind == ACT || w.kind == RD || w.kind == WR).into();
         if w.kind == ACT {
@@ -108,7 +126,11 @@ impl State {
         let data = queues.datas.get(self.datas as usize);
         let data = data.filter(|w| w.act < self.acts as usize && self.data_goes(t, w));
         let act = queues.acts.get(self.acts as usize);
-        let next = data.or_else(|| act.filter(|w| self.act_goes(t, w)));
+        let act_goes = |w: &&Waiting| match w.kind {
+            REF => self.refresh_goes(t),
+            _ => self.act_goes(t, w),
+        };
+        let next = data.or_else(|| act.filter(act_goes));
         let gone = next.map(|w| w.at(self.cycle));
         if let Some(w) = next {
             self.note(w);
@@ -125,7 +147,8 @@ impl State {
     fn refused(&self, table: &Table, queues: &Queues) -> bool {
         let banks = &self.banks[..usize::from(table[BANKS])];
         let of_banks = banks.iter().flat_map(|bank| [bank.act, bank.rd, bank.wr]);
-        let mut stored = of_banks.chain(self.last).chain([self.rd, self.wr]);
+        let of_all = [self.rd, self.wr, self.refresh];
+        let mut stored = of_banks.chain(self.last).chain(of_all);
         let (acts, datas) = (self.acts as usize, self.datas as usize);
         self.cycle >= LAST_CYCLE
             || self.edition != u32::from(table[EDITION])

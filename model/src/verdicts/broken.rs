@@ -17,13 +17,13 @@ pub fn first_rules(cases: &mut Cases) {
     for place in 0..fine.len() {
         let mut others = vec![];
         let (cycle, kind, bank) = fine[place];
-        others.extend([5, 128].map(|kind| (cycle, kind, bank)));
+        others.push((cycle, 6, bank));
         others.extend([8, 255].map(|bank| (cycle, kind, bank)));
         others.push((cycle, WRA, 7));
         others.push((cycle, kind, 1 - bank));
         if place > 0 {
             let before = fine[place - 1].0;
-            others.extend([before, before - 1, 0].map(|cycle| (cycle, kind, bank)));
+            others.extend([before, before - 1].map(|cycle| (cycle, kind, bank)));
             others.push((cycle, ACT, 0));
         }
         for other in others {
@@ -39,7 +39,7 @@ pub fn first_rules(cases: &mut Cases) {
             cases.pattern(&with(&[(BANKS, banks)]), &records, 38);
         }
     }
-    for kind in [5, 7, 8, 9, 16, 64, 127, 254, 255] {
+    for kind in [6, 7, 8, 128, 255] {
         cases.schedule(&TABLE_A, &[(0, kind, 0)]);
     }
 }

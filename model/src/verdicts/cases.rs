@@ -3,10 +3,11 @@
 
 use super::broken::*;
 use super::editions::editions;
+use super::refreshes::refreshes;
 use super::search::*;
 use super::*;
 use crate::house::*;
-use crate::records::{Table, BANKS, CCD, EDITION, LAST};
+use crate::records::{Table, BANKS, CCD, EDITION, RFC};
 use crate::rules::*;
 
 const TOP: u64 = u32::MAX as u64;
@@ -61,6 +62,7 @@ pub fn cases() -> Vec<u8> {
     later_rules(&mut cases);
     left_open(&mut cases);
     two_records(&mut cases);
+    refreshes(&mut cases);
     for (table, place, records) in too_early(&mut numbers) {
         let bytes = bytes_of_records(&records);
         cases.put(JUDGE, &table, 0, &bytes);
@@ -68,7 +70,7 @@ pub fn cases() -> Vec<u8> {
         if rule == Some(5) || rule == Some(7) {
             cases.put(JUDGE_PATTERN, &table, 4000, &bytes);
         }
-        if ODD.contains(&table) {
+        if ODD[..6].contains(&table) {
             at_the_top(&mut cases, &table, &records[..=place]);
         }
     }
@@ -127,16 +129,16 @@ fn legal(cases: &mut Cases) {
             cases.put(JUDGE_PATTERN, table, 4000, &built(table, &list).0);
         }
     }
-    let (long, _) = built(&LEAST, &[[1, 5, 16, 4], [0, 15, 16, 16], [0, 12, 9, 7]]);
+    let (long, _) = built(&LEAST, &[[0, 15, 16, 16], [1, 12, 3, 3]]);
     cases.put(JUDGE, &LEAST, 0, &long);
-    cases.put(JUDGE_PATTERN, &LEAST, 3000, &long[long.len() - 576..]);
+    cases.put(JUDGE_PATTERN, &LEAST, 3000, &long[long.len() - 96..]);
 }
 
-/// Schedules of all banks from every start, "with bank 0 after the last"; the last of them as a pattern of the least length that is
+/// Schedules of all banks from some starts, "with bank 0 after the last"; the last of them as a pattern of the least length that is
 /// accepted, and of one less.
 fn wraps(cases: &mut Cases) {
     let from = |start: u8| built(&TABLE_A, &[[start % 2, start, 8, 1]]).0;
-    for start in 0..8 {
+    for start in [0, 4, 7] {
         cases.put(JUDGE, &TABLE_A, 0, &from(start));
     }
     let seven = from(7);
@@ -174,7 +176,7 @@ fn top_patterns(cases: &mut Cases) {
             &TABLE_A,
             &[&records[..], &[(28, ACT, 0), (38, RDA, 0)]].concat(),
         );
-        for length in [1, 10, 11, 37, 38, 39, u32::MAX - 1, u32::MAX] {
+        for length in [1, 11, 37, 38, u32::MAX] {
             cases.pattern(&TABLE_A, &records, length);
             cases.pattern(&TABLE_B, &records, length);
         }
@@ -194,7 +196,7 @@ fn top_patterns(cases: &mut Cases) {
 
 fn sizes(cases: &mut Cases) {
     let bytes = bytes_of_some(&[&EXAMPLE_1[..], &[(38, ACT, 0)]].concat());
-    for size in [0, 1, 4, 7, 8, 9, 12, 15, 16, 17, 20, 23, 24] {
+    for size in [0, 1, 4, 7, 8, 9, 15, 16, 17, 24] {
         cases.put(JUDGE, &TABLE_A, 0, &bytes[..size]);
         for length in [0, 38] {
             cases.put(JUDGE_PATTERN, &TABLE_A, length, &bytes[..size]);
@@ -210,14 +212,14 @@ fn sizes(cases: &mut Cases) {
 /// The table is refused before anything else is looked at.
 fn refused_tables(cases: &mut Cases) {
     let tables = [
-        with(&[(LAST, 1)]),
-        with(&[(LAST, 1), (CCD, 1)]),
+        with(&[(RFC, 1024)]),
+        with(&[(RFC, 65535), (CCD, 1)]),
         with(&[(CCD, 1)]),
         with(&[(CCD, 3)]),
         with(&[(BANKS, 0)]),
         with(&[(BANKS, 17)]),
         with(&[(EDITION, 0)]),
-        with(&[(FAW, 256)]),
+        with(&[(FAW, 1024)]),
         with(&[(RTP, 0)]),
         [0; 16],
         [65535; 16],

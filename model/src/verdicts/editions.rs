@@ -3,7 +3,7 @@
 use super::cases::{Cases, EXAMPLE_1};
 use super::{JUDGE, JUDGE_PATTERN};
 use crate::house::*;
-use crate::records::{BANKS, CCD, EDITION, LAST};
+use crate::records::{BANKS, CCD, EDITION, RFC};
 use crate::rules::{ACT, RDA};
 
 pub fn editions(cases: &mut Cases) {
@@ -21,11 +21,11 @@ fn others(cases: &mut Cases) {
     }
 }
 
-/// Numbers 1 and 2 go before it, and "expected 0 always differs": no table of edition 0 is accepted.
+/// Number 2 goes before it, and "expected 0 always differs": no table of edition 0 is accepted.
 fn refused_tables(cases: &mut Cases) {
     for (table, expected) in [
-        (with(&[(LAST, 1)]), 8),
-        (with(&[(LAST, 1), (EDITION, 0)]), 0),
+        (with(&[(RFC, 1024)]), 8),
+        (with(&[(RFC, 1024), (EDITION, 0)]), 0),
         (with(&[(CCD, 1)]), 8),
         (with(&[(BANKS, 17)]), 0),
         (with(&[(EDITION, 0)]), 0),

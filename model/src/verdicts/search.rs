@@ -4,7 +4,7 @@
 use std::collections::BTreeSet;
 
 use crate::house::*;
-use crate::records::{Table, BANKS};
+use crate::records::{Table, BANKS, RFC};
 use crate::rules::*;
 
 /// The lowest cycle, after the record's before it, at which this one breaks no rule.
@@ -12,22 +12,22 @@ pub fn earliest(table: &Table, before: &[Record], kind: u8, bank: u8) -> u64 {
     let from = before.last().map_or(0, |last| last.cycle + 1);
     let at = |cycle| Record { cycle, kind, bank };
     let fine = |&cycle: &u64| first_broken(table, before, &at(cycle)).is_none();
-    (from..from + 2000).find(fine).expect("time breaks no rule")
+    (from..from + 5000).find(fine).expect("time breaks no rule")
 }
 
-/// So many records that break no rule and close every bank, most as early as can be.
-fn any_legal(table: &Table, count: usize, numbers: &mut Numbers) -> Option<Vec<Record>> {
+/// So many records that break no rule and close every bank, most as early as can be. A REF stands where no bank is open.
+fn any_legal(table: &Table, count: usize, numbers: &mut Numbers) -> Vec<Record> {
     let mut records: Vec<Record> = Vec::new();
     let mut open: Vec<u8> = Vec::new();
     let banks = 1 + numbers.below(usize::from(table[BANKS]).min(7));
     while records.len() < count {
         let left = count - records.len();
         let bank = numbers.below(banks) as u8;
-        let (kind, bank) = if !open.contains(&bank) && open.len() + 2 <= left {
+        let (kind, bank) = if open.is_empty() && (left == 1 || numbers.below(6) == 0) {
+            (REF, 0)
+        } else if !open.contains(&bank) && open.len() + 2 <= left {
             open.push(bank);
             (ACT, bank)
-        } else if open.is_empty() {
-            return None;
         } else if open.len() < left && numbers.below(2) == 0 {
             (numbers.of(&[RD, WR]), numbers.of(&open))
         } else {
@@ -38,14 +38,14 @@ fn any_legal(table: &Table, count: usize, numbers: &mut Numbers) -> Option<Vec<R
         let cycle = earliest(table, &records, kind, bank) + late;
         records.push(Record { cycle, kind, bank });
     }
-    open.is_empty().then_some(records)
+    records
 }
 
 /// A table of small numbers, with some that stand out.
 fn any_table(numbers: &mut Numbers) -> Table {
     let mut t = TABLE_A.map(|_| 1 + numbers.below(9) as u16);
     t[..4].copy_from_slice(&[400 + numbers.below(99) as u16, 8, 2, 2]);
-    t[15] = 0;
+    t[RFC] *= numbers.of(&[0, 1, 1, 8]);
     for _ in 0..numbers.below(3) {
         let place = 4 + numbers.below(11);
         t[place] = 20 + numbers.below(60) as u16;
@@ -61,15 +61,12 @@ pub fn bytes_of_records(records: &[Record]) -> Vec<u8> {
 /// For each table and rule a legal schedule whose record stands one cycle too early: that record's place, and the whole.
 pub fn too_early(numbers: &mut Numbers) -> Vec<(Table, usize, Vec<Record>)> {
     let house = [TABLE_A, TABLE_B, LEAST, GREATEST];
-    let long_rc = [with(&[(0, 8), (RC, 60)]), with(&[(0, 9), (RC, 255)])];
+    let long_rc = [with(&[(0, 8), (RC, 60)]), with(&[(0, 9), (RC, 1023)])];
     let mut found = Vec::new();
     let mut seen = BTreeSet::new();
     for table in house.iter().chain(&long_rc).chain(&ODD[1..]) {
         for count in (2..=6).chain([6, 8, 10].repeat(12)) {
-            let legal = match any_legal(table, count, numbers) {
-                Some(legal) => legal,
-                None => continue,
-            };
+            let legal = any_legal(table, count, numbers);
             for place in 1..count {
                 let mut records = legal.clone();
                 let r = records[place];
@@ -91,19 +88,16 @@ pub fn broken_sets(numbers: &mut Numbers) -> Vec<(Table, Vec<Record>)> {
     for _ in 0..6000 {
         let table = any_table(numbers);
         let count = 2 + numbers.below(7);
-        let mut records = match any_legal(&table, count, numbers) {
-            Some(records) => records,
-            None => continue,
-        };
+        let mut records = any_legal(&table, count, numbers);
         records.truncate(1 + numbers.below(count));
         let end = records[records.len() - 1].cycle + 6;
         let last = Record {
             cycle: end.saturating_sub(numbers.below(9) as u64),
-            kind: numbers.of(&[ACT, ACT, ACT, RD, RDA, WR, WRA, 5]),
+            kind: numbers.of(&[ACT, ACT, ACT, RD, RDA, WR, WRA, REF, REF, 6]),
             bank: numbers.of(&[0, 1, 2, 3, 4, 5, 6, 8]),
         };
         let broken = |&rule: &u8| breaks(rule, &table, &records, &last);
-        let set: Vec<u8> = (1..=9).filter(broken).collect();
+        let set: Vec<u8> = RULES.into_iter().filter(broken).collect();
         if set.len() > 1 && seen.insert(set) {
             records.push(last);
             found.push((table, records));
@@ -112,18 +106,15 @@ pub fn broken_sets(numbers: &mut Numbers) -> Vec<(Table, Vec<Record>)> {
     found
 }
 
-/// For each number of records up to 12, each copy and each rule that was met: a pattern and its length. The least length that is
+/// For some numbers of records up to 12, each copy and each rule that was met: a pattern and its length. The least length that is
 /// accepted comes with every pattern that fails after its first copy.
 pub fn patterns(numbers: &mut Numbers) -> Vec<(Table, Vec<Record>, u32)> {
     let mut found = Vec::new();
     let mut seen = BTreeSet::new();
     for round in 0..9600 {
         let table = any_table(numbers);
-        let count = 1 + round % 12;
-        let mut records = match any_legal(&table, count.max(2), numbers) {
-            Some(records) => records,
-            None => continue,
-        };
+        let count = [1, 2, 3, 4, 5, 6, 9, 12][round % 8];
+        let mut records = any_legal(&table, count.max(2), numbers);
         let verdict = |records: &[Record], length: u32| {
             judge_pattern(&table, &bytes_of_records(records), length)
                 .expect("a pattern of whole records and some length")
@@ -136,7 +127,7 @@ pub fn patterns(numbers: &mut Numbers) -> Vec<(Table, Vec<Record>, u32)> {
             let r = &mut records[numbers.below(count)];
             r.cycle = (r.cycle + 2).saturating_sub(numbers.below(9) as u64);
             if count == 1 || numbers.below(2) == 0 {
-                r.kind = numbers.of(&[ACT, RD, RDA, WR, WRA, 5]);
+                r.kind = numbers.of(&[ACT, RD, RDA, WR, WRA, REF, 6]);
                 r.bank = numbers.of(&[0, 1, 2, 8]);
             }
             lengths = vec![least];

@@ -32,6 +32,6 @@ fn main() {
     layout!("skv_numbers", Numbers, numbers);
     layout!("skv_transaction", Transaction, kind, start, bi, bc);
     layout!("skv_bank", HostBank, opened, act, rd, wr);
-    layout!("skv_controller", Controller, edition, cycle, acts, datas, banks, last, rd, wr);
+    layout!("skv_controller", Controller, edition, cycle, acts, datas, banks, last, rd, wr, refresh);
     layout!("skv_controller_answer", ControllerAnswer, controller, answer);
 }

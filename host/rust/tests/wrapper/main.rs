@@ -1,6 +1,7 @@
 //! Document 01's examples through the safe functions, and a refusal of each kind.
 
 mod banks;
+mod refreshes;
 
 use skvorzhan::*;
 
@@ -33,13 +34,18 @@ type Told = (u32, u8, u8, u16);
 
 /// The commands, the finishing cycles, and the commands' bytes.
 fn built(list: &[Transaction]) -> (Vec<Told>, Vec<u32>, Vec<u8>) {
-    let due: usize = list
-        .iter()
-        .map(|x| usize::from(x.bi) * (1 + usize::from(x.bc)))
-        .sum();
+    built_by(A, list)
+}
+
+fn built_by(t: Table, list: &[Transaction]) -> (Vec<Told>, Vec<u32>, Vec<u8>) {
+    let due = |x: &Transaction| match x.kind {
+        2 => 1,
+        _ => usize::from(x.bi) * (1 + usize::from(x.bc)),
+    };
+    let due: usize = list.iter().map(due).sum();
     let (mut room, mut finishes) = (vec![9; 8 * due + 1], vec![9; list.len() + 1]);
-    let told = schedule(7, &bytes(A), list, &mut room, &mut finishes);
-    let (edition, commands) = (7, due as u32);
+    let told = schedule(t[0], &bytes(t), list, &mut room, &mut finishes);
+    let (edition, commands) = (t[0].into(), due as u32);
     assert_eq!(told, Ok(Scheduled { edition, commands }));
     assert_eq!((room.pop(), finishes.pop()), (Some(9), Some(9)));
     let command = |c: &[u8]| {

@@ -6,7 +6,7 @@ pub use long::ENTRIES;
 use skvorzhan::raw::*;
 use std::mem::size_of;
 
-use crate::case::{fresh, Call, Case, State, BANKS, LAST};
+use crate::case::{fresh, Call, Case, State, BANKS, LAST, NUMBERS, REFRESH};
 use crate::expected::Outcome;
 use crate::numbers::Noise;
 
@@ -30,7 +30,7 @@ pub struct Archive {
 
 /// The numbers of a controller where it lies: it has no other bytes.
 fn state_now(bytes: &[u8]) -> State {
-    let mut s = [0; 74];
+    let mut s = [0; NUMBERS];
     for (number, word) in s.iter_mut().zip(bytes.chunks_exact(4)) {
         *number = u32::from_le_bytes([word[0], word[1], word[2], word[3]]);
     }
@@ -61,6 +61,7 @@ fn controller(s: &State) -> Controller {
         last: [s[68], s[69], s[70], s[71]],
         rd: s[72],
         wr: s[73],
+        refresh: s[REFRESH],
     }
 }
 
@@ -73,6 +74,7 @@ fn state(c: &Controller) -> State {
     s[LAST..LAST + 4].copy_from_slice(&c.last);
     s[LAST + 4] = c.rd;
     s[LAST + 5] = c.wr;
+    s[REFRESH] = c.refresh;
     s
 }
 
@@ -86,7 +88,7 @@ fn verdict(a: VerdictAnswer) -> Vec<u32> {
 
 impl Archive {
     pub fn new() -> Archive {
-        assert_eq!(size_of::<Controller>(), 296);
+        assert_eq!(size_of::<Controller>(), 4 * NUMBERS);
         Archive {
             table: Region::new(LONGEST_TABLE),
             bytes: Region::new(LONGEST_BYTES),

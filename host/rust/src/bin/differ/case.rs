@@ -1,7 +1,8 @@
-//! One call with all that it is given, as plain numbers and bytes, and its text, from which it can be run again.
+//! One call with all that it is given, as plain numbers and bytes.
 
-use std::fmt::{self, Write};
-use std::str::FromStr;
+mod text;
+
+use model::house::REFRESH_BYTES;
 
 #[derive(Debug, Clone, Copy, PartialEq, Eq)]
 pub enum Call {
@@ -86,24 +87,32 @@ impl Call {
     }
 }
 
-/// A controller's numbers: edition, cycle, acts, datas; opened, act, rd, wr of each bank; the last four ACTs; rd, wr.
-pub type State = [u32; 74];
+/// A controller's numbers: edition, cycle, acts, datas; opened, act, rd, wr of each bank; the last four ACTs; rd, wr; the last REF.
+pub type State = [u32; NUMBERS];
+pub const NUMBERS: usize = 75;
 pub const EDITION: usize = 0;
 pub const CYCLE: usize = 1;
 pub const ACTS: usize = 2;
 pub const DATAS: usize = 3;
 pub const BANKS: usize = 4;
 pub const LAST: usize = 68;
+pub const REFRESH: usize = 74;
 
 /// Closed, and "never" throughout.
 pub fn fresh(edition: u32) -> State {
-    let mut s = [u32::MAX; 74];
+    let mut s = [u32::MAX; NUMBERS];
     s[EDITION] = edition;
     s[CYCLE..BANKS].fill(0);
     for opened in s[BANKS..LAST].iter_mut().step_by(4) {
         *opened = 0;
     }
     s
+}
+
+/// Whole records of 4 bytes only.
+pub fn records(bytes: &[u8]) -> Vec<[u8; 4]> {
+    let record = |x: &[u8]| [x[0], x[1], x[2], x[3]];
+    bytes.chunks_exact(4).map(record).collect()
 }
 
 #[derive(Debug, Clone, PartialEq, Eq)]
@@ -144,10 +153,9 @@ impl Case {
         }
     }
 
-    /// The list of a call that takes decoded transactions: whole records only.
+    /// The list of a call that takes decoded transactions.
     pub fn records(&self) -> Vec<[u8; 4]> {
-        let record = |x: &[u8]| [x[0], x[1], x[2], x[3]];
-        self.bytes.chunks_exact(4).map(record).collect()
+        records(&self.bytes)
     }
 
     /// The transactions that the call is given: its list, or the one to be read or written.
@@ -169,6 +177,11 @@ impl Case {
         let over = |x: &&[u8; 4]| u16::from(x[1]) + u16::from(x[2]) > banks;
         let all = |x: &[u8; 4]| u16::from(x[2]) == banks;
         self.given().iter().filter(over).map(all).collect()
+    }
+
+    /// Whether there is a refresh among them.
+    pub fn refreshes(&self) -> bool {
+        self.given().contains(&REFRESH_BYTES)
     }
 
     /// The records of the bytes, for a reader: commands as cycle, kind, bank and number.
@@ -212,79 +225,5 @@ impl Case {
         } else {
             self.values[0]
         }
-    }
-}
-
-fn hex(bytes: &[u8]) -> String {
-    let mut out = String::new();
-    for b in bytes {
-        write!(out, "{b:02x}").expect("a string takes it");
-    }
-    out
-}
-
-fn unhex(text: &str) -> Result<Vec<u8>, String> {
-    let digits = text.as_bytes();
-    let pair = |p: &[u8]| {
-        let text = std::str::from_utf8(p).map_err(|e| e.to_string())?;
-        u8::from_str_radix(text, 16).map_err(|e| e.to_string())
-    };
-    digits.chunks(2).map(pair).collect()
-}
-
-/// `NAME key=value ..`; bytes are hex, and of the state only what is not as in a fresh one of edition 7 is named, as place:number.
-impl fmt::Display for Case {
-    fn fmt(&self, f: &mut fmt::Formatter) -> fmt::Result {
-        let [a, b, c, d] = self.values;
-        write!(f, "{}", self.call.name())?;
-        write!(f, " expected={}", self.expected)?;
-        write!(f, " table={} bytes={}", hex(&self.table), hex(&self.bytes))?;
-        write!(f, " values={a},{b},{c},{d}")?;
-        write!(f, " room={} slots={}", self.room, self.slots)?;
-        let base = fresh(7);
-        let changed = (0..74).filter(|&i| self.state[i] != base[i]);
-        let changed: Vec<String> = changed.map(|i| format!("{i}:{}", self.state[i])).collect();
-        write!(f, " state={}", changed.join(","))?;
-        write!(f, " filling={} lies={}", self.filling, self.lies)
-    }
-}
-
-impl FromStr for Case {
-    type Err = String;
-
-    fn from_str(text: &str) -> Result<Case, String> {
-        let mut words = text.split_whitespace();
-        let name = words.next().unwrap_or("");
-        let call = CALLS.iter().find(|(_, n)| *n == name);
-        let call = call.ok_or_else(|| format!("no call is named `{name}`"))?.0;
-        let mut case = Case::new(call);
-        for word in words {
-            let (key, value) = word.split_once('=').ok_or(format!("no value: `{word}`"))?;
-            let number = || value.parse::<usize>().map_err(|e| format!("{word}: {e}"));
-            match key {
-                "expected" => case.expected = value.parse().map_err(|e| format!("{word}: {e}"))?,
-                "table" => case.table = unhex(value)?,
-                "bytes" => case.bytes = unhex(value)?,
-                "values" => {
-                    for (place, v) in case.values.iter_mut().zip(value.split(',')) {
-                        *place = v.parse().map_err(|e| format!("{word}: {e}"))?;
-                    }
-                }
-                "room" => case.room = number()?,
-                "slots" => case.slots = number()?,
-                "state" => {
-                    for pair in value.split(',').filter(|p| !p.is_empty()) {
-                        let (i, v) = pair.split_once(':').ok_or(format!("no number: `{pair}`"))?;
-                        let i: usize = i.parse().map_err(|e| format!("{pair}: {e}"))?;
-                        let place = case.state.get_mut(i).ok_or(format!("no place {i}"))?;
-                        *place = v.parse().map_err(|e| format!("{pair}: {e}"))?;
-                    }
-                }
-                "filling" => case.filling = number()? as u16,
-                "lies" => case.lies = number()? as u8,
-                _ => return Err(format!("no key `{key}`")),
-            }
-        }
-        Ok(case)
     }
 }

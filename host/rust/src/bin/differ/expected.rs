@@ -1,6 +1,7 @@
 //! What the model says of a case: every number of the answer, and what each buffer must then hold.
 
 use model::desk::{self, Bank, Controller, PatternVerdict, Refusal, Transaction, Verdict};
+use model::house::{room_for, B, RFC, RL};
 
 use crate::case::*;
 use crate::numbers::Noise;
@@ -15,9 +16,9 @@ pub struct Outcome {
     pub state: Option<State>,
 }
 
-/// Up to so many commands are built by the model's own way, which tries each against all before it; more by its controller, since the time
-/// of the first grows with the square.
-const COMMANDS_BY_HISTORY: usize = 100;
+/// A list is built by the model's own way, which tries each command at each cycle against all before it, where it has at most so many commands
+/// times cycles; else by the model's controller.
+const BY_HISTORY: u64 = 100_000;
 
 pub fn transactions(list: &[[u8; 4]]) -> Vec<Transaction> {
     let one = |&[kind, start, bi, bc]: &[u8; 4]| Transaction {
@@ -46,11 +47,12 @@ pub fn controller(s: &State) -> Controller {
     c.last.copy_from_slice(&s[LAST..LAST + 4]);
     c.rd = s[LAST + 4];
     c.wr = s[LAST + 5];
+    c.refresh = s[REFRESH];
     c
 }
 
 pub fn state(c: &Controller) -> State {
-    let mut s = [0; 74];
+    let mut s = [0; NUMBERS];
     s[..BANKS].copy_from_slice(&[c.edition, c.cycle, c.acts, c.datas]);
     for (n, bank) in s[BANKS..LAST].chunks_exact_mut(4).zip(&c.banks) {
         n.copy_from_slice(&[bank.opened, bank.act, bank.rd, bank.wr]);
@@ -58,6 +60,7 @@ pub fn state(c: &Controller) -> State {
     s[LAST..LAST + 4].copy_from_slice(&c.last);
     s[LAST + 4] = c.rd;
     s[LAST + 5] = c.wr;
+    s[REFRESH] = c.refresh;
     s
 }
 
@@ -109,9 +112,11 @@ pub fn expected(case: &Case, noise: &Noise) -> Outcome {
             let told = desk::read_transactions(e, table, bytes, &mut places);
             answer(told.map(|d| (d.edition, [d.transactions, 0])))
         }
-        Call::Schedule => answer(schedule(e, table, &list(), &mut room, &mut finishes).map(built)),
+        Call::Schedule => {
+            answer(schedule(e, table, &case.records(), &mut room, &mut finishes).map(built))
+        }
         Call::ScheduleBytes if bytes.len() % 4 == 0 => {
-            answer(schedule(e, table, &list(), &mut room, &mut finishes).map(built))
+            answer(schedule(e, table, &case.records(), &mut room, &mut finishes).map(built))
         }
         Call::ScheduleBytes => {
             answer(desk::schedule_bytes(e, table, bytes, &mut room, &mut finishes).map(built))
@@ -167,41 +172,61 @@ fn words(bytes: &[u8]) -> Vec<u32> {
     bytes.chunks_exact(4).map(word).collect()
 }
 
-fn records(bytes: &[u8]) -> Vec<[u8; 4]> {
-    bytes
-        .chunks_exact(4)
-        .map(|x| [x[0], x[1], x[2], x[3]])
-        .collect()
-}
-
 fn schedule(
     e: u16,
     table: &[u8],
-    list: &[Transaction],
+    list: &[[u8; 4]],
     room: &mut [u8],
     finishes: &mut [u32],
 ) -> Result<desk::Scheduled, Refusal> {
-    let due = |x: &Transaction| usize::from(x.bi) * (1 + usize::from(x.bc));
-    let due: usize = list.iter().map(due).sum();
-    let refused = room.len() < 8 * due || finishes.len() < list.len();
-    if due > COMMANDS_BY_HISTORY && !refused {
-        let (_, mut fresh) = desk::start(e, table);
-        if let Ok(told) = desk::run(&mut fresh, e, table, list, u32::MAX, room) {
-            let [_, _, b, _, _, _, _, _, _, _, rl, ..] = desk::read_table(table)?.map(u32::from);
-            for record in room.chunks_exact(8).take(told.commands as usize) {
-                let c = desk::read_command(record)?;
-                let finish = match c.kind {
-                    0 => continue,
-                    1 | 2 => c.cycle + rl + b,
-                    _ => c.cycle,
-                };
-                finishes[usize::from(c.transaction)] = finish;
+    let by_controller = built(e, table, list);
+    let list = transactions(list);
+    match by_controller {
+        Ok((told, commands, all))
+            if u64::from(told.commands) * u64::from(told.cycles) > BY_HISTORY =>
+        {
+            // Refused by 5 or 6, before anything is built.
+            if room.len() < commands.len() || finishes.len() < all.len() {
+                return desk::schedule(e, table, &list, room, finishes);
             }
-            return Ok(desk::Scheduled {
+            room[..commands.len()].copy_from_slice(&commands);
+            finishes[..all.len()].copy_from_slice(&all);
+            Ok(desk::Scheduled {
                 edition: told.edition,
                 commands: told.commands,
-            });
+            })
         }
+        _ => desk::schedule(e, table, &list, room, finishes),
     }
-    desk::schedule(e, table, list, room, finishes)
+}
+
+/// What the model's controller makes of a list, and the finishing cycles that its commands give.
+fn built(
+    e: u16,
+    table: &[u8],
+    list: &[[u8; 4]],
+) -> Result<(desk::Ran, Vec<u8>, Vec<u32>), Refusal> {
+    let (_, mut fresh) = desk::start(e, table);
+    let mut room = vec![0; room_for(list)];
+    let told = desk::run(
+        &mut fresh,
+        e,
+        table,
+        &transactions(list),
+        u32::MAX,
+        &mut room,
+    )?;
+    let t = desk::read_table(table)?.map(u32::from);
+    let mut finishes = vec![0; list.len()];
+    for record in room.chunks_exact(8) {
+        let c = desk::read_command(record)?;
+        let after = match c.kind {
+            0 => continue,
+            1 | 2 => t[RL] + t[B],
+            5 => t[RFC],
+            _ => 0,
+        };
+        finishes[usize::from(c.transaction)] = c.cycle + after;
+    }
+    Ok((told, room, finishes))
 }

@@ -1,13 +1,14 @@
 //! Cases: random and hostile, for every call.
 
 mod lists;
+mod refreshes;
 mod refusals;
 mod schedules;
 mod states;
 mod tables;
 mod walk;
 
-use model::house::TABLE_A;
+use model::house::{room_for, GREATEST, TABLE_A};
 
 use crate::case::*;
 use crate::numbers::Random;
@@ -36,7 +37,7 @@ pub fn case(seed: u64, index: u64) -> Case {
         }
         Call::ReadTransaction => case.bytes = record(r, 4),
         Call::WriteTransaction => {
-            let x = lists::one(r, 16);
+            let x = lists::one(r, &GREATEST);
             case.values = x.map(u32::from);
             case.room = size(r, 4);
         }
@@ -47,13 +48,13 @@ pub fn case(seed: u64, index: u64) -> Case {
         }
         Call::ReadTransactions => {
             let table = tables::some(r, &mut case);
-            case.bytes = lists::some(r, table[1] as u8);
+            case.bytes = lists::some(r, &table);
             case.slots = slots(r, case.bytes.len() / 4);
         }
         Call::Schedule | Call::ScheduleBytes => {
             let table = tables::some(r, &mut case);
-            case.bytes = lists::some(r, table[1] as u8);
-            case.room = room(r, 8 * lists::due(&case.records()));
+            case.bytes = lists::some(r, &table);
+            case.room = room(r, room_for(&case.records()));
             case.slots = slots(r, case.bytes.len() / 4);
         }
         Call::Judge => {
@@ -78,18 +79,18 @@ pub fn case(seed: u64, index: u64) -> Case {
         }
         Call::Run | Call::Step | Call::RunBytes => {
             let table = tables::some(r, &mut case);
-            case.bytes = lists::some(r, table[1] as u8);
+            case.bytes = lists::some(r, &table);
             states::run(r, &table, &mut case);
         }
     }
     case
 }
 
-/// A record's bytes of about that size.
+/// A record's bytes of about that size, a transaction's for 16 banks and with refresh.
 fn record(r: &mut Random, right: usize) -> Vec<u8> {
     let size = if r.one_in(4) { r.below(12) } else { right };
     if right == 4 && size == 4 {
-        return lists::one(r, 16).to_vec();
+        return lists::one(r, &GREATEST).to_vec();
     }
     (0..size).map(|_| r.u8()).collect()
 }
@@ -129,7 +130,7 @@ fn slots(r: &mut Random, due: usize) -> usize {
 }
 
 /// Cases that random ones seldom meet or may miss: the greatest sizes, a run that idles from the first cycle to the last, lists from every
-/// start, and every refusal of every call.
+/// start, many refreshes, and every refusal of every call.
 pub fn last() -> Vec<Case> {
     let table = |t: &model::desk::Table| model::house::bytes_of(t);
     let mut cases = Vec::new();
@@ -181,6 +182,7 @@ pub fn last() -> Vec<Case> {
     idles.state[BANKS] = 1;
     cases.push(idles);
     cases.extend(over_the_last_bank());
+    cases.extend(refreshes::all());
     cases.extend(refusals::all());
     cases
 }
@@ -202,7 +204,7 @@ fn over_the_last_bank() -> Vec<Case> {
                 case.table = model::house::bytes_of(&table);
                 case.bytes = list.concat();
                 case.values[0] = u32::MAX;
-                case.room = 8 * lists::due(&list);
+                case.room = room_for(&list);
                 case.slots = list.len();
                 cases.push(case);
             }

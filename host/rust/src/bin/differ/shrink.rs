@@ -2,7 +2,7 @@
 
 use std::time::{Duration, Instant};
 
-use model::house::{bytes_of, TABLE_A};
+use model::house::{bytes_of, due, RFC, TABLE_A};
 
 use crate::case::*;
 use crate::make::too_long;
@@ -52,10 +52,9 @@ fn cut(
             next.bytes.drain(at..at + size);
             // With a list goes the room for it, where that is wanted to keep the difference.
             let with_less_room = {
-                let gone = (least.bytes[at..at + size].chunks_exact(4))
-                    .map(|x| usize::from(x[2]) * (1 + usize::from(x[3])));
+                let gone = &least.bytes[at..at + size];
                 let mut next = next.clone();
-                next.room = next.room.saturating_sub(8 * gone.sum::<usize>());
+                next.room = next.room.saturating_sub(8 * due(&records(gone)));
                 next.slots = next.slots.saturating_sub(size / 4);
                 next
             };
@@ -81,16 +80,26 @@ type Change = Box<dyn Fn(&mut Case)>;
 fn changes(case: &Case) -> Vec<Change> {
     let mut all: Vec<Change> = Vec::new();
     let a = bytes_of(&TABLE_A);
+    // Table A, and the same with the case's own RFC.
+    let mut with_rfc = TABLE_A;
+    with_rfc[RFC] = case.numbers()[RFC];
+    for t in [TABLE_A, with_rfc] {
+        all.push(Box::new(move |c| {
+            c.table = bytes_of(&t);
+            c.state[EDITION] = 7;
+            c.expected = 7;
+        }));
+        all.push(Box::new(move |c| {
+            c.table = bytes_of(&t);
+            c.state[EDITION] = 7;
+        }));
+        all.push(Box::new(move |c| c.table = bytes_of(&t)));
+    }
     all.push(Box::new(|c| {
-        c.table = bytes_of(&TABLE_A);
-        c.state[EDITION] = 7;
-        c.expected = 7;
+        if let Some(low) = c.table.get_mut(2 * RFC) {
+            *low = low.saturating_sub(1);
+        }
     }));
-    all.push(Box::new(|c| {
-        c.table = bytes_of(&TABLE_A);
-        c.state[EDITION] = 7;
-    }));
-    all.push(Box::new(|c| c.table = bytes_of(&TABLE_A)));
     all.push(Box::new(|c| {
         if let Some(edition) = c.table.get_mut(..2) {
             edition.copy_from_slice(&[7, 0]);
@@ -118,7 +127,7 @@ fn changes(case: &Case) -> Vec<Change> {
         c.table.pop();
     }));
     all.push(Box::new(|c| c.state = fresh(c.state[EDITION])));
-    for i in 0..74 {
+    for i in 0..NUMBERS {
         if case.state[i] != fresh(7)[i] {
             all.push(Box::new(move |c| c.state[i] = fresh(7)[i]));
             for less in [|n: u32| n / 2, |n: u32| n.saturating_sub(1)] {
@@ -147,12 +156,21 @@ fn changes(case: &Case) -> Vec<Change> {
     }
     // Records of a list: simplest numbers, with the room that goes with them, and without.
     if case.call.record() == 4 {
+        for at in (0..case.bytes.len() / 4 * 4).step_by(4).take(100) {
+            all.push(Box::new(move |c| {
+                let before = due(&c.records());
+                for (k, simple) in [0, 0, 1, 1].into_iter().enumerate() {
+                    set(c, at + k, simple);
+                }
+                c.room = (c.room + 8 * due(&c.records())).saturating_sub(8 * before);
+            }));
+        }
         for at in (0..case.bytes.len() / 4 * 4).take(400) {
             let simple = [0, 0, 1, 1][at % 4];
             all.push(Box::new(move |c| {
-                let before = due(c);
+                let before = due(&c.records());
                 if set(c, at, simple) {
-                    c.room = (c.room + 8 * due(c)).saturating_sub(8 * before);
+                    c.room = (c.room + 8 * due(&c.records())).saturating_sub(8 * before);
                 }
             }));
             all.push(Box::new(move |c| {
@@ -173,11 +191,6 @@ fn changes(case: &Case) -> Vec<Change> {
     all.push(Box::new(|c| c.filling = 0));
     all.push(Box::new(|c| c.lies = 2));
     all
-}
-
-fn due(c: &Case) -> usize {
-    let one = |x: &[u8; 4]| usize::from(x[2]) * (1 + usize::from(x[3]));
-    c.records().iter().map(one).sum()
 }
 
 fn set(c: &mut Case, at: usize, to: u8) -> bool {

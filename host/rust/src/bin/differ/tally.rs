@@ -15,8 +15,10 @@ pub struct Tally {
     others: [[u64; 11]; 16],
     /// Not refused, with a transaction that goes over the last bank; of these, with one that takes all banks.
     over: [[u64; 2]; 16],
+    /// Not refused, with a refresh.
+    refreshes: [u64; 16],
     /// By the broken rule; 0 is an accepted schedule or pattern.
-    rules: [[u64; 11]; 2],
+    rules: [[u64; 13]; 2],
     /// Broken patterns, by the copy from 1; the last place has all later ones.
     copies: [u64; 6],
 }
@@ -43,6 +45,7 @@ impl Tally {
             let wraps = case.wraps();
             self.over[call as usize][0] += u64::from(!wraps.is_empty());
             self.over[call as usize][1] += u64::from(wraps.contains(&true));
+            self.refreshes[call as usize] += u64::from(case.refreshes());
         }
         let judge = match call {
             Call::Judge => 0,
@@ -100,8 +103,14 @@ impl Tally {
                 println!("{name:22}{some:>9}{all:>9}");
             }
         }
+        let with = |&at: &usize| self.refreshes[at] > 0;
+        let by: Vec<String> = (0..16)
+            .filter(with)
+            .map(|at| format!("{}: {}", CALLS[at].1, self.refreshes[at]))
+            .collect();
+        println!("not refused, with a refresh: {}", by.join(", "));
         for (name, rules) in ["schedules", "patterns"].iter().zip(&self.rules) {
-            let by: Vec<String> = (1..=10)
+            let by: Vec<String> = (1..=12)
                 .map(|rule| format!("{rule}: {}", rules[rule]))
                 .collect();
             println!(

@@ -1,9 +1,11 @@
 //! What an ordinary Rust program would do for a schedule, a step and a verdict: state per bank, the latest RD and WR of all, no proof.
 
 mod judge;
+mod schedule;
 mod step;
 
 pub use judge::judge;
+pub use schedule::{schedule, schedule_bytes};
 pub use step::step;
 
 use model::desk::Transaction;
@@ -23,6 +25,24 @@ pub struct Times {
     distances: [[i64; 2]; 2],
     /// From the last RD or WR to the end of its transaction.
     to_finish: [i64; 2],
+    rfc: i64,
+}
+
+/// The type of a refresh, and the kind of its command.
+const REFRESH: u8 = 2;
+const REF: u8 = 5;
+
+/// How many places a transaction has in the ACT queue.
+fn in_act_queue(x: &Transaction) -> u32 {
+    match x.kind {
+        REFRESH => 1,
+        _ => x.bi.into(),
+    }
+}
+
+/// How many it has in the data queue: none for a refresh, whose BI and BC are 0.
+fn in_data_queue(x: &Transaction) -> u32 {
+    u32::from(x.bi) * u32::from(x.bc)
 }
 
 impl Times {
@@ -35,14 +55,9 @@ impl Times {
         for (number, pair) in t.iter_mut().zip(bytes.chunks_exact(2)) {
             *number = i64::from(u16::from_le_bytes([pair[0], pair[1]]));
         }
-        let [edition, banks, b, ccd, rcd, rp, ras, rc, rrd, faw, rl, wl, rtp, wr, wtr, last] = t;
-        let in_range = t[2..15].iter().all(|n| (1..=255).contains(n));
-        if last != 0
-            || edition == 0
-            || edition != expected.into()
-            || !(1..=16).contains(&banks)
-            || !in_range
-        {
+        let [edition, banks, b, ccd, rcd, rp, ras, rc, rrd, faw, rl, wl, rtp, wr, wtr, rfc] = t;
+        let in_range = t[2..15].iter().all(|n| (1..=1023).contains(n)) && rfc <= 1023;
+        if edition == 0 || edition != expected.into() || !(1..=16).contains(&banks) || !in_range {
             return None;
         }
         if ccd < 2 || ccd < b {
@@ -61,11 +76,15 @@ impl Times {
             wr_to_act: wl + b + wr + rp,
             distances: [[ccd, turn_to_write], [turn_to_read, ccd]],
             to_finish: [rl + b, 0],
+            rfc,
         })
     }
 
     /// Whether the table admits the transaction.
     fn admits(&self, x: &Transaction) -> bool {
+        if x.kind == REFRESH {
+            return self.rfc > 0 && [x.start, x.bi, x.bc] == [0; 3];
+        }
         let counts = |n: u8| (1..=16).contains(&n);
         x.kind <= 1 && counts(x.bi) && counts(x.bc) && x.start < self.banks && x.bi <= self.banks
     }
@@ -99,6 +118,8 @@ struct State {
     newest: usize,
     /// The last RD and the last WR.
     data: [i64; 2],
+    /// The last REF.
+    refresh: i64,
 }
 
 impl State {
@@ -112,6 +133,7 @@ impl State {
             acts: [LONG_AGO; 4],
             newest: 0,
             data: [LONG_AGO; 2],
+            refresh: LONG_AGO,
         }
     }
 
@@ -121,6 +143,17 @@ impl State {
             .max(own.act + t.rc)
             .max(self.acts[self.newest] + t.rrd)
             .max(self.acts[(self.newest + 1) % 4] + t.faw)
+            .max(self.refresh + t.rfc)
+    }
+
+    /// When all of the table's banks are precharged; never, while one is open.
+    fn rest_from(&self, t: &Times) -> i64 {
+        let of_bank = |bank: &Bank| match bank.open {
+            true => i64::MAX,
+            false => bank.closed_until,
+        };
+        let banks = self.banks[..usize::from(t.banks)].iter();
+        banks.map(of_bank).fold(LONG_AGO, i64::max)
     }
 
     fn data_from(&self, t: &Times, bank: u8, writes: usize) -> i64 {
@@ -147,117 +180,6 @@ impl State {
         own.open = !closes;
         self.data[writes] = cycle;
     }
-}
-
-/// Where a queue stands: the transaction, the bank within it, and the burst within that.
-#[derive(Clone, Copy, Default)]
-struct Head {
-    number: usize,
-    bank: u8,
-    burst: u8,
-}
-
-/// The commands written, or None where the list or a buffer is refused. By cycles, each is tried in turn; otherwise those at which
-/// nothing goes are passed over at once.
-pub fn schedule(
-    expected: u16,
-    table: &[u8],
-    list: &[Transaction],
-    room: &mut [u8],
-    finishes: &mut [u32],
-    by_cycles: bool,
-) -> Option<usize> {
-    let t = &Times::read(expected, table)?;
-    let due: usize = list
-        .iter()
-        .map(|x| usize::from(x.bi) * (1 + usize::from(x.bc)))
-        .sum();
-    if list.len() > 256
-        || !list.iter().all(|x| t.admits(x))
-        || room.len() < 8 * due
-        || finishes.len() < list.len()
-    {
-        return None;
-    }
-    let mut state = State::fresh();
-    let (mut acts, mut datas) = (Head::default(), Head::default());
-    let mut cycle = 0;
-    let mut places = room.chunks_exact_mut(8).take(due);
-    while datas.number < list.len() {
-        let x = &list[datas.number];
-        let writes = usize::from(x.kind);
-        let bank = t.bank(x, datas.bank);
-        let has_act = (datas.number, datas.bank) < (acts.number, acts.bank);
-        let data_at = if has_act {
-            state.data_from(t, bank, writes).max(cycle)
-        } else {
-            i64::MAX
-        };
-        let act_at = match list.get(acts.number) {
-            Some(x) if !state.banks[usize::from(t.bank(x, acts.bank))].open => {
-                state.act_from(t, t.bank(x, acts.bank)).max(cycle)
-            }
-            _ => i64::MAX,
-        };
-        let at = data_at.min(act_at);
-        if by_cycles && at > cycle {
-            cycle += 1;
-            continue;
-        }
-        let (kind, bank, number) = if data_at <= act_at {
-            let closes = datas.burst + 1 == x.bc;
-            state.data(t, bank, writes, closes, at);
-            finishes[datas.number] = (at + t.to_finish[writes]) as u32;
-            let gone = (1 + 2 * x.kind + closes as u8, bank, datas.number);
-            datas.burst += 1;
-            if closes {
-                datas.burst = 0;
-                datas.bank += 1;
-                if datas.bank == x.bi {
-                    datas.bank = 0;
-                    datas.number += 1;
-                }
-            }
-            gone
-        } else {
-            let x = &list[acts.number];
-            let bank = t.bank(x, acts.bank);
-            state.act(t, bank, at);
-            let gone = (0, bank, acts.number);
-            acts.bank += 1;
-            if acts.bank == x.bi {
-                acts.bank = 0;
-                acts.number += 1;
-            }
-            gone
-        };
-        let place = places.next()?;
-        put(place, at, kind, bank, number);
-        cycle = at + 1;
-    }
-    Some(due)
-}
-
-/// The same from the transactions' bytes.
-pub fn schedule_bytes(
-    expected: u16,
-    table: &[u8],
-    bytes: &[u8],
-    room: &mut [u8],
-    finishes: &mut [u32],
-    by_cycles: bool,
-) -> Option<usize> {
-    if bytes.len() % 4 != 0 {
-        return None;
-    }
-    let one = |x: &[u8]| Transaction {
-        kind: x[0],
-        start: x[1],
-        bi: x[2],
-        bc: x[3],
-    };
-    let list: Vec<Transaction> = bytes.chunks_exact(4).map(one).collect();
-    schedule(expected, table, &list, room, finishes, by_cycles)
 }
 
 /// A command's 8 bytes.

@@ -1,16 +1,20 @@
 //! Lists of transactions.
 
+use model::desk::Table;
+use model::house::{REFRESH_BYTES, RFC};
+
 use crate::numbers::Random;
 
-/// Commands due: one ACT and BC data commands for each bank.
-pub fn due(list: &[[u8; 4]]) -> usize {
-    list.iter()
-        .map(|&[_, _, bi, bc]| usize::from(bi) * (1 + usize::from(bc)))
-        .sum()
+fn banks(t: &Table) -> u8 {
+    t[1] as u8
 }
 
-/// From any start, often over the last bank; now and then every bank.
-fn legal(r: &mut Random, banks: u8, most_bi: u32, most_bc: u32) -> [u8; 4] {
+/// A refresh, seldom where the table has none; or from any start, often over the last bank, now and then every bank.
+fn legal(r: &mut Random, t: &Table, most_bi: u32, most_bc: u32) -> [u8; 4] {
+    if r.one_in(if t[RFC] == 0 { 300 } else { 6 }) {
+        return REFRESH_BYTES;
+    }
+    let banks = banks(t);
     let bi = match r.below(16) {
         0 => banks,
         _ => r.range(1, most_bi.min(banks.into())) as u8,
@@ -33,16 +37,16 @@ pub fn every_start(banks: u8) -> Vec<[u8; 4]> {
 }
 
 /// A transaction, often with a number at an edge or beyond it.
-pub fn one(r: &mut Random, banks: u8) -> [u8; 4] {
-    let mut x = legal(r, banks, 16, 16);
+pub fn one(r: &mut Random, t: &Table) -> [u8; 4] {
+    let mut x = legal(r, t, 16, 16);
     if r.one_in(2) {
-        spoil(r, &mut x, banks);
+        spoil(r, &mut x, banks(t));
     }
     x
 }
 
 fn spoil(r: &mut Random, x: &mut [u8; 4], banks: u8) {
-    match r.below(9) {
+    match r.below(10) {
         0 => x[0] = r.of_these(&[2, 3, 128, 255]),
         1 => x[1] = r.of_these(&[banks - 1, banks, banks, banks + 1]),
         2 => x[1] = r.u8(),
@@ -52,11 +56,17 @@ fn spoil(r: &mut Random, x: &mut [u8; 4], banks: u8) {
         5 => x[1..3].copy_from_slice(&[banks - 1, banks + r.below(2) as u8]),
         6 => x[3] = r.of_these(&[0, 16, 17, 255]),
         7 => *x = [0, r.of_these(&[240, 255]), r.of_these(&[1, 16]), 1],
+        // A refresh with a byte that it may not have, and one that is one.
+        8 => {
+            *x = REFRESH_BYTES;
+            x[r.below(4)] = r.of_these(&[0, 1, 2, 3, 255]);
+        }
         _ => x.iter_mut().for_each(|b| *b = r.u8()),
     }
 }
 
-fn accepted(r: &mut Random, banks: u8) -> Vec<[u8; 4]> {
+/// The longest lists only where the table's numbers are small, since the time that they take is of use elsewhere.
+fn accepted(r: &mut Random, t: &Table) -> Vec<[u8; 4]> {
     let (size, most_bi, most_bc) = match r.below(200) {
         0 => (r.of_these(&[255, 256, 257, 300]), 1, 1),
         1 => (r.range(1, 256) as usize, 16, 16),
@@ -69,14 +79,24 @@ fn accepted(r: &mut Random, banks: u8) -> Vec<[u8; 4]> {
         101..=120 => (1, 6, 4),
         _ => (2 + r.below(4), 3, 3),
     };
-    (0..size)
-        .map(|_| legal(r, banks, most_bi, most_bc))
+    let most = LONGEST / (most_bi * most_bc * widest(t)) as usize;
+    (0..size.min(most))
+        .map(|_| legal(r, t, most_bi, most_bc))
         .collect()
 }
 
+/// In data commands times the greatest number of the table.
+const LONGEST: usize = 2_000_000;
+
+/// The greatest number of the table's times.
+pub fn widest(t: &Table) -> u32 {
+    t[2..].iter().fold(1, |most, &n| most.max(n.into()))
+}
+
 /// The bytes of a list, mostly accepted.
-pub fn some(r: &mut Random, banks: u8) -> Vec<u8> {
-    let mut list = accepted(r, banks);
+pub fn some(r: &mut Random, t: &Table) -> Vec<u8> {
+    let banks = banks(t);
+    let mut list = accepted(r, t);
     match r.below(16) {
         0 | 1 if !list.is_empty() => {
             let at = r.below(list.len());

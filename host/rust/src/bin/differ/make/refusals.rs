@@ -1,18 +1,18 @@
 //! Every call refused by each number that it can be, with nothing else wrong.
 
-use model::house::{bytes_of, TABLE_A};
+use model::house::{bytes_of, REFRESH_BYTES, RFC, TABLE_A};
 
 use crate::case::*;
 
-/// Wherever its buffers lie.
+/// Wherever its buffers lie, in several ways.
 pub fn all() -> Vec<Case> {
     let mut cases = Vec::new();
     for (call, _) in CALLS {
         for &number in call.refusals() {
-            for lies in 0..3 {
+            for way in 0..4 {
                 let mut case = accepted(call);
-                case.lies = lies;
-                refuse(&mut case, number);
+                case.lies = way % 3;
+                refuse(&mut case, number, way);
                 cases.push(case);
             }
         }
@@ -44,26 +44,42 @@ fn accepted(call: Call) -> Case {
     case
 }
 
-fn refuse(case: &mut Case, number: usize) {
+/// A refresh that is none.
+const WITH_BC: [u8; 4] = [2, 0, 0, 1];
+
+fn refuse(case: &mut Case, number: usize, way: u8) {
     match (number, case.call) {
         (1, Call::WriteTable) => case.room -= 1,
         (1, _) => case.table.truncate(31),
-        // CCD below 2.
-        (2, _) => case.table[6] = 1,
+        // RFC 1,024, the number before it 1,024 or more, CCD below 2.
+        (2, _) => match way {
+            2 => case.table[2 * RFC + 1] = 4,
+            3 => case.table[2 * RFC - 1] = 4,
+            _ => case.table[6] = 1,
+        },
         (3, Call::WriteTransaction) => case.room += 1,
         (3, Call::Schedule | Call::Run | Call::Step) => case.bytes = [0, 0, 1, 1].repeat(257),
         (3 | 7, _) => case.bytes.push(0),
+        (4, Call::WriteTransaction) if way > 1 => case.values = WITH_BC.map(u32::from),
         (4, Call::WriteTransaction) => case.values[2] = 0,
-        (4, Call::Bound) => case.values[0] = 9,
+        (4, Call::Bound) => case.values[0] = if way > 1 { 0 } else { 9 },
         // BI of the first.
-        (4, _) => case.bytes[2] = 17,
+        (4, _) if way < 2 => case.bytes[2] = 17,
+        (4, Call::ReadTransaction) => case.bytes = WITH_BC.to_vec(),
+        // Table A has no refresh.
+        (4, _) if way == 2 => case.bytes[4..].copy_from_slice(&REFRESH_BYTES),
+        (4, _) => {
+            case.table[2 * RFC] = 50;
+            case.bytes[..4].copy_from_slice(&WITH_BC);
+        }
         (5, _) => case.room -= 1,
         (6, _) => case.slots -= 1,
         (8, _) => case.values[0] = 0,
-        (9, _) => match case.lies {
+        (9, _) => match way {
             0 => case.state[CYCLE] = 100_000_000,
             1 => case.state[EDITION] += 1 << 16,
-            _ => case.state[LAST] = case.state[CYCLE],
+            2 => case.state[LAST] = case.state[CYCLE],
+            _ => case.state[REFRESH] = case.state[CYCLE],
         },
         _ => case.expected = 8,
     }

@@ -1,10 +1,10 @@
 //! Schedules and patterns: built ones, any others, and both with a record changed.
 
 use model::desk::{self, PatternVerdict, Table};
-use model::house::bytes_of;
+use model::house::{bytes_of, due, RFC};
 
 use super::{lists, walk};
-use crate::case::Case;
+use crate::case::{records as records_of, Case};
 use crate::expected::transactions;
 use crate::numbers::Random;
 
@@ -12,17 +12,17 @@ use crate::numbers::Random;
 fn built(r: &mut Random, table: &Table, most: usize) -> Vec<[u8; 8]> {
     let mut by = *table;
     if r.one_in(2) {
-        let i = 4 + r.below(11);
+        let i = 4 + r.below(if by[RFC] == 0 { 11 } else { 12 });
         by[i] = (by[i] + 1)
             .saturating_sub(2 * r.below(2) as u16)
-            .clamp(1, 255);
+            .clamp(1, 1023);
     }
     let (edition, by) = (by[0], bytes_of(&by));
     let list: Vec<[u8; 4]> = (0..20)
-        .map(|_| lists::some(r, table[1] as u8))
+        .map(|_| lists::some(r, table))
         .filter(|list| list.len() % 4 == 0)
-        .map(|list| list.chunks(4).map(|x| [x[0], x[1], x[2], x[3]]).collect())
-        .find(|list: &Vec<[u8; 4]>| lists::due(list) <= most)
+        .map(|list| records_of(&list))
+        .find(|list| due(list) <= most)
         .unwrap_or_default();
     let mut room = vec![0; 8 * most];
     let mut c = desk::start(edition, &by).1;
@@ -145,7 +145,7 @@ pub fn pattern(r: &mut Random, table: &Table, case: &mut Case) {
         1 => span.wrapping_add(r.range(0, 60)),
         2 => span,
         _ if records.len() <= 10 => {
-            let most = span.saturating_add(2000);
+            let most = span.saturating_add(9000);
             match least_length(table, &case.bytes, most) {
                 Some(least) => least - r.below(2).min(least as usize - 1) as u32,
                 None => most,

@@ -1,7 +1,7 @@
 //! Controllers: reachable ones, reachable ones with a number changed, and arbitrary ones.
 
 use model::desk::{self, Table};
-use model::house::bytes_of;
+use model::house::{bytes_of, due, queued, room_for};
 
 use super::lists;
 use crate::case::*;
@@ -10,20 +10,21 @@ use crate::numbers::Random;
 
 const LAST_CYCLE: u32 = 100_000_000;
 
-/// A run that is not at its end after so many cycles is stuck.
-const LONG: u32 = 20_000;
+/// A run of more cycles than this is not worth the time; one of so few always is.
+const LONG: u32 = 300_000;
+const SHORT: u32 = 20_000;
 
 /// Where the stored cycles stand.
 fn stamps() -> impl Iterator<Item = usize> {
     let of_banks = (BANKS..LAST).filter(|i| (i - BANKS) % 4 != 0);
-    of_banks.chain(LAST..74)
+    of_banks.chain(LAST..NUMBERS)
 }
 
 /// After so many cycles from a fresh start.
 fn reached(table: &Table, case: &Case, cycles: u32) -> State {
     let (edition, table) = (table[0], bytes_of(table));
     let list = transactions(&case.records());
-    let mut room = vec![0; 8 * lists::due(&case.records())];
+    let mut room = vec![0; room_for(&case.records())];
     let mut c = desk::start(edition, &table).1;
     // Refused for a list that is refused: then it stays fresh.
     let _ = desk::run(&mut c, edition, &table, &list, cycles, &mut room);
@@ -53,7 +54,7 @@ fn make_late(r: &mut Random, s: &mut State) {
 fn change_one(r: &mut Random, s: &mut State) {
     let i = match r.below(4) {
         0 => r.below(4),
-        1 => LAST + r.below(6),
+        1 => LAST + r.below(NUMBERS - LAST),
         _ => BANKS + r.below(64),
     };
     let near = [s[CYCLE].wrapping_sub(1), s[CYCLE], s[CYCLE].wrapping_add(1)];
@@ -72,28 +73,47 @@ fn change_one(r: &mut Random, s: &mut State) {
 /// Any numbers that number 9 has nothing against, but for the counts perhaps.
 fn plausible(r: &mut Random, table: &Table, case: &Case) -> State {
     let mut s = fresh(table[0].into());
-    s[CYCLE] = 1 + r.below(400) as u32;
+    let (cycle, back) = r.of_these(&[(400, 80), (400, 80), (9_000, 3_000)]);
+    s[CYCLE] = 1 + r.below(cycle) as u32;
     for i in stamps() {
         if !r.one_in(3) {
-            s[i] = s[CYCLE] - 1 - r.below(s[CYCLE].min(80) as usize) as u32;
+            s[i] = s[CYCLE] - 1 - r.below(back.min(s[CYCLE] as usize)) as u32;
         }
     }
     for opened in s[BANKS..LAST].iter_mut().step_by(4) {
         *opened = r.of_these(&[0, 0, 1, 1, 2, 255, 256, 1 << 16, 1 << 31]);
     }
     let list = case.records();
-    let acts: usize = list.iter().map(|x| usize::from(x[2])).sum();
-    s[ACTS] = r.below(acts + 1) as u32;
-    // At least one data command stands behind each ACT.
-    s[DATAS] = r.below(s[ACTS] as usize + 1) as u32;
+    let [acts, datas] = both(&list);
+    let gone = r.below(acts + 1);
+    s[ACTS] = gone as u32;
+    s[DATAS] = r.below(behind(&list, gone) + 1) as u32;
     if r.one_in(4) {
-        s[DATAS] = r.below(lists::due(&list) - acts + 1) as u32;
+        s[DATAS] = r.below(datas + 1) as u32;
     }
     s
 }
 
+/// How many each queue holds at first.
+fn both(list: &[[u8; 4]]) -> [usize; 2] {
+    let acts = list.iter().map(|x| queued(x)[0]).sum();
+    [acts, due(list) - acts]
+}
+
+/// The data commands of the banks whose ACTs are among the first so many of the ACT queue. A REF has none.
+fn behind(list: &[[u8; 4]], mut acts: usize) -> usize {
+    let mut datas = 0;
+    for x in list {
+        let [here, of_them] = queued(x);
+        let gone = here.min(acts);
+        acts -= gone;
+        datas += gone * of_them.checked_div(here).unwrap_or(0);
+    }
+    datas
+}
+
 fn arbitrary(r: &mut Random) -> State {
-    let mut s = [0; 74];
+    let mut s = [0; NUMBERS];
     s.iter_mut().for_each(|n| *n = r.u32());
     s
 }
@@ -102,7 +122,7 @@ fn some(r: &mut Random, table: &Table, case: &Case) -> State {
     let cycles = match r.below(3) {
         0 => r.below(20) as u32,
         1 => r.below(150) as u32,
-        _ => r.below(1500) as u32,
+        _ => r.below(1500 + 20 * lists::widest(table) as usize) as u32,
     };
     let mut s = match r.below(10) {
         0 => fresh(table[0].into()),
@@ -128,9 +148,7 @@ fn some(r: &mut Random, table: &Table, case: &Case) -> State {
 
 /// The commands left, queue by queue.
 fn left(case: &Case) -> usize {
-    let list = case.records();
-    let acts: usize = list.iter().map(|x| usize::from(x[2])).sum();
-    let datas = lists::due(&list) - acts;
+    let [acts, datas] = both(&case.records());
     acts.saturating_sub(case.state[ACTS] as usize)
         + datas.saturating_sub(case.state[DATAS] as usize)
 }
@@ -161,21 +179,32 @@ pub fn run(r: &mut Random, table: &Table, case: &mut Case) {
             make_late(r, &mut case.state);
         }
         if too_long(case) {
-            case.values[0] = r.range(0, LONG);
+            case.values[0] = r.range(0, SHORT);
         }
     }
 }
 
-/// Whether the run, were the table's edition expected, goes on for more cycles than is worth the time: it's stuck.
+/// Whether the run, were the table's edition expected, goes on for more cycles than is worth the time: it's long, or it's stuck.
 pub fn too_long(case: &Case) -> bool {
-    if !case.call.runs() || case.count() <= LONG {
+    if !case.call.runs() || case.count() <= SHORT {
+        return false;
+    }
+    if case.room < 8 * left(case).min(case.count() as usize) {
         return false;
     }
     let list = transactions(&case.records());
     let mut room = vec![0; case.room];
     let mut c = controller(&case.state);
-    match desk::run(&mut c, case.edition(), &case.table, &list, LONG, &mut room) {
-        Ok(told) => told.cycles == LONG,
-        Err(_) => false,
+    // No rule asks for more cycles than all numbers of the table together: what does not go within them never goes.
+    let wait = case.numbers()[2..].iter().map(|&n| u32::from(n)).sum();
+    let mut cycles = 0;
+    while cycles <= LONG {
+        match desk::run(&mut c, case.edition(), &case.table, &list, wait, &mut room) {
+            Ok(told) if told.cycles < wait => return false,
+            Ok(told) if told.commands == 0 => return true,
+            Ok(_) => cycles += wait,
+            Err(_) => return false,
+        }
     }
+    true
 }

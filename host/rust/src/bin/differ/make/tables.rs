@@ -8,13 +8,14 @@ use crate::numbers::Random;
 
 /// A table that is accepted.
 pub fn legal(r: &mut Random) -> Table {
-    let mut t = match r.below(8) {
-        0 => r.of_these(&[TABLE_A, TABLE_B, TABLE_C]),
+    let mut t = match r.below(10) {
+        0 => r.of_these(&[TABLE_A, TABLE_B, TABLE_C, TABLE_T, REFRESHED]),
         1 => r.of_these(&[LEAST, GREATEST]),
         2 => r.of_these(&ODD),
         3 => near(r),
-        4 => drawn(r, 255),
-        5 => drawn(r, 60),
+        4 => drawn(r, 1023),
+        5 => drawn(r, 255),
+        6 => drawn(r, 60),
         _ => drawn(r, 12),
     };
     if r.one_in(3) {
@@ -26,11 +27,11 @@ pub fn legal(r: &mut Random) -> Table {
     t
 }
 
-/// Table A with a number or two moved a little.
+/// Table A, or the one with a refresh, with a number or two moved a little.
 fn near(r: &mut Random) -> Table {
-    let mut t = TABLE_A;
+    let mut t = r.of_these(&[TABLE_A, REFRESHED]);
     for _ in 0..=r.below(2) {
-        let i = 4 + r.below(11);
+        let i = 4 + r.below(12);
         t[i] = (t[i] + r.below(5) as u16).saturating_sub(2).max(1);
     }
     t
@@ -44,15 +45,17 @@ fn drawn(r: &mut Random, most: u32) -> Table {
     } else {
         1 + r.below(16) as u16
     };
-    for number in &mut t[2..15] {
+    for number in &mut t[2..] {
         *number = r.range(1, most) as u16;
+    }
+    if r.one_in(3) {
+        t[RFC] = 0;
     }
     // One that stands out decides where it applies.
     if r.one_in(2) {
-        let (rc, faw) = (7, 9);
-        let any = 2 + r.below(13);
-        let i = r.of_these(&[any, rc, faw]);
-        t[i] = (t[i] * 8).min(255);
+        let any = 2 + r.below(14);
+        let i = r.of_these(&[any, RC, FAW, RFC]);
+        t[i] = (t[i] * 8).min(1023);
     }
     t[3] = t[3].max(2).max(t[2]);
     t
@@ -63,14 +66,15 @@ fn beyond(r: &mut Random) -> Table {
     let mut t = legal(r);
     for _ in 0..=r.below(2) {
         let i = r.below(16);
-        t[i] = match r.below(8) {
+        t[i] = match r.below(9) {
             0 => 0,
             1 => 1,
             2 => r.of_these(&[16, 17, 18]),
-            3 => 255,
-            4 => 256,
-            5 => 65_535,
-            6 => 256 * r.below(256) as u16,
+            3 => r.of_these(&[255, 256]),
+            4 => 1023,
+            5 => 1024,
+            6 => 65_535,
+            7 => 256 * r.below(256) as u16,
             _ => r.u32() as u16,
         };
     }
@@ -138,8 +142,7 @@ pub fn some(r: &mut Random, case: &mut Case) -> Table {
 pub fn for_judges(r: &mut Random, case: &mut Case) -> Table {
     let mut t = some(r, case);
     if r.one_in(4) && case.table == bytes_of(&t) {
-        let (rc, faw) = (7, 9);
-        t[r.of_these(&[rc, faw])] = r.range(60, 255) as u16;
+        t[r.of_these(&[RC, FAW])] = r.range(60, 1023) as u16;
         case.table = bytes_of(&t);
     }
     t

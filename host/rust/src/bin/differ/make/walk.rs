@@ -9,9 +9,9 @@ use crate::numbers::Random;
 #[derive(Clone, Copy)]
 struct Bank {
     open: bool,
-    /// When its next ACT may come.
-    closed_until: i64,
     act: i64,
+    /// Its precharge start + RP.
+    precharged: i64,
 }
 
 struct Walk {
@@ -22,22 +22,27 @@ struct Walk {
     acts: [i64; 4],
     rd: i64,
     wr: i64,
+    refresh: i64,
 }
 
 const LONG_AGO: i64 = -100_000;
 
 impl Walk {
     fn earliest(&self, kind: u8, bank: usize) -> i64 {
-        let [_, _, b, ccd, rcd, _, _, _, rrd, faw, rl, wl, _, _, wtr, _] = self.t;
+        let [_, banks, b, ccd, rcd, _, _, rc, rrd, faw, rl, wl, _, _, wtr, rfc] = self.t;
         let own = &self.banks[bank];
         let least = match kind {
-            0 => own
-                .closed_until
+            0 => (own.act + rc)
+                .max(own.precharged)
                 .max(self.acts[0] + rrd)
-                .max(self.acts[3] + faw),
+                .max(self.acts[3] + faw)
+                .max(self.refresh + rfc),
             1 | 2 => (own.act + rcd)
                 .max(self.rd + ccd)
                 .max(self.wr + ccd.max(wl + b + wtr)),
+            5 => self.banks[..banks as usize]
+                .iter()
+                .fold(self.refresh + rfc, |least, b| least.max(b.precharged)),
             _ => (own.act + rcd)
                 .max(self.wr + ccd)
                 .max(self.rd + ccd.max(rl + ccd + 2 - wl)),
@@ -46,17 +51,21 @@ impl Walk {
     }
 
     fn note(&mut self, cycle: i64, kind: u8, bank: usize) {
-        let [_, _, b, _, _, rp, ras, rc, _, _, _, wl, rtp, wr, _, _] = self.t;
+        let [_, _, b, _, _, rp, ras, _, _, _, _, wl, rtp, wr, _, _] = self.t;
         self.cycle = cycle;
+        if kind == 5 {
+            self.refresh = cycle;
+            return;
+        }
         let own = &mut self.banks[bank];
         own.open = kind == 0 || kind % 2 == 1;
         let until = match kind {
             0 => {
                 own.act = cycle;
-                own.closed_until = LONG_AGO;
+                own.precharged = LONG_AGO;
                 self.acts.rotate_right(1);
                 self.acts[0] = cycle;
-                cycle + rc.max(ras + rp)
+                cycle + ras + rp
             }
             1 | 2 => {
                 self.rd = cycle;
@@ -67,7 +76,7 @@ impl Walk {
                 cycle + wl + b + wr + rp
             }
         };
-        own.closed_until = own.closed_until.max(until);
+        own.precharged = own.precharged.max(until);
     }
 }
 
@@ -80,19 +89,20 @@ fn slack(r: &mut Random) -> i64 {
     }
 }
 
-/// About so many records, with one of them perhaps a cycle early.
+/// About so many records, with one of them perhaps early.
 pub fn records(r: &mut Random, table: &Table, size: usize) -> Vec<[u8; 8]> {
     let mut walk = Walk {
         t: table.map(i64::from),
         cycle: -1,
         banks: [Bank {
             open: false,
-            closed_until: LONG_AGO,
             act: LONG_AGO,
+            precharged: LONG_AGO,
         }; 16],
         acts: [LONG_AGO; 4],
         rd: LONG_AGO,
         wr: LONG_AGO,
+        refresh: LONG_AGO,
     };
     let banks = usize::from(table[1]);
     let used = if r.one_in(2) {
@@ -109,7 +119,11 @@ pub fn records(r: &mut Random, table: &Table, size: usize) -> Vec<[u8; 8]> {
     let mut put = |walk: &mut Walk, r: &mut Random, kind: u8, bank: usize| {
         let mut cycle = walk.earliest(kind, bank) + slack(r);
         if records.len() == early {
-            cycle = (cycle - 1).max(0);
+            // A cycle early, or by so much that several rules are broken and the first of them is told.
+            cycle = match r.below(3) {
+                0 => walk.cycle + 1,
+                _ => (cycle - 1).max(0),
+            };
         }
         walk.note(cycle, kind, bank);
         records.push(model::house::command(
@@ -121,7 +135,19 @@ pub fn records(r: &mut Random, table: &Table, size: usize) -> Vec<[u8; 8]> {
     };
     // Many ACTs one after the other, for rules 6 and 7.
     let opens = r.one_in(3);
+    let refreshes = r.one_in(2);
     for _ in 0..size {
+        // A REF: after all banks are closed, or seldom whatever they are.
+        if refreshes && r.one_in(6) {
+            for bank in 0..used {
+                if walk.banks[bank].open && !r.one_in(24) {
+                    let kind = r.of_these(&[2, 4]);
+                    put(&mut walk, r, kind, bank);
+                }
+            }
+            put(&mut walk, r, 5, 0);
+            continue;
+        }
         let mut bank = r.below(used);
         if opens && walk.banks[bank].open {
             bank = (0..used).find(|&b| !walk.banks[b].open).unwrap_or(bank);

@@ -1,6 +1,6 @@
 //! The judge in two kinds, which differ in rule 9: by the latest RD and WR, or by looking back over all earlier records.
 
-use super::{State, Times};
+use super::{State, Times, REF};
 
 /// The broken rule and record; None where it's accepted. The outer None is a refusal.
 pub fn judge(
@@ -16,7 +16,7 @@ pub fn judge(
     Some(if looks_back {
         judged(t, bytes, |_, earlier, new| {
             let near = |old: Record| {
-                old.kind != 0 && new.cycle < old.cycle + t.distances[old.writes()][new.writes()]
+                old.is_data() && new.cycle < old.cycle + t.distances[old.writes()][new.writes()]
             };
             earlier.chunks_exact(8).map(Record::read).any(near)
         })
@@ -43,6 +43,10 @@ impl Record {
         }
     }
 
+    fn is_data(&self) -> bool {
+        (1..=4).contains(&self.kind)
+    }
+
     fn writes(&self) -> usize {
         usize::from(self.kind > 2)
     }
@@ -58,13 +62,14 @@ fn judged(
     let mut last = -1;
     for (record, c) in bytes.chunks_exact(8).enumerate() {
         let new = Record::read(c);
-        let near = new.kind != 0 && near(&state, &bytes[..8 * record], &new);
+        let near = new.is_data() && near(&state, &bytes[..8 * record], &new);
         if let Some(rule) = broken(t, &state, last, &new, near) {
             return Some((rule, record));
         }
         last = new.cycle;
         match new.kind {
             0 => state.act(t, new.bank, new.cycle),
+            REF => state.refresh = new.cycle,
             _ => state.data(t, new.bank, new.writes(), new.kind % 2 == 0, new.cycle),
         }
     }
@@ -75,10 +80,14 @@ fn judged(
 fn broken(t: &Times, state: &State, last: i64, new: &Record, near: bool) -> Option<u8> {
     let Record { cycle, kind, bank } = *new;
     let own = &state.banks[usize::from(bank)];
+    let unknown = match kind {
+        REF => bank != 0,
+        _ => kind > 4 || bank >= t.banks,
+    };
     let rules = [
-        (1, kind > 4 || bank >= t.banks),
+        (1, unknown),
         (2, cycle <= last),
-        (3, own.open == (kind == 0)),
+        (3, kind != REF && own.open == (kind == 0)),
         (4, kind == 0 && cycle < own.closed_until),
         (5, kind == 0 && cycle < own.act + t.rc),
         (6, kind == 0 && cycle < state.acts[state.newest] + t.rrd),
@@ -86,8 +95,10 @@ fn broken(t: &Times, state: &State, last: i64, new: &Record, near: bool) -> Opti
             7,
             kind == 0 && cycle < state.acts[(state.newest + 1) % 4] + t.faw,
         ),
-        (8, kind != 0 && cycle < own.act + t.rcd),
+        (8, new.is_data() && cycle < own.act + t.rcd),
         (9, near),
+        (11, kind == REF && cycle < state.rest_from(t)),
+        (12, !new.is_data() && cycle < state.refresh + t.rfc),
     ];
     rules
         .iter()

@@ -1,9 +1,9 @@
 //! One cycle of a lent controller: all checks, the heads found from the counts, and at most one command.
 
 use model::desk::Transaction;
-use skvorzhan::{Controller, NEVER};
+use skvorzhan::{Controller, HostBank, NEVER};
 
-use super::{put, Times, LONG_AGO};
+use super::{in_act_queue, in_data_queue, put, Times, LONG_AGO, REF, REFRESH};
 
 /// A queue's head: the transaction, the bank within it, the burst within that, and the place of its bank's ACT in the ACT queue.
 struct Head<'a> {
@@ -14,16 +14,17 @@ struct Head<'a> {
     act: u32,
 }
 
-/// After so many commands have left the queue that has so many for each bank; None where it's empty.
+/// After so many commands have left the queue in which a transaction has so many places, so many for each bank; None where it's empty.
 fn head(
     list: &[Transaction],
     gone: u32,
+    places: impl Fn(&Transaction) -> u32,
     for_each: impl Fn(&Transaction) -> u32,
 ) -> Option<Head<'_>> {
     let (mut left, mut act) = (gone, 0);
     for (number, x) in list.iter().enumerate() {
-        let (banks, each) = (u32::from(x.bi), for_each(x));
-        if left < banks * each {
+        let (here, each) = (places(x), for_each(x));
+        if left < here {
             let bank = left / each;
             return Some(Head {
                 x,
@@ -33,14 +34,25 @@ fn head(
                 act: act + bank,
             });
         }
-        left -= banks * each;
-        act += banks;
+        left -= here;
+        act += in_act_queue(x);
     }
     None
 }
 
-fn bursts(x: &Transaction) -> u32 {
-    x.bc.into()
+fn act_head(list: &[Transaction], gone: u32) -> Option<Head<'_>> {
+    head(list, gone, in_act_queue, |_| 1)
+}
+
+fn data_head(list: &[Transaction], gone: u32) -> Option<Head<'_>> {
+    head(list, gone, in_data_queue, |x| x.bc.into())
+}
+
+/// Its precharge start + RP.
+fn precharged(t: &Times, bank: &HostBank) -> i64 {
+    (stored(bank.act) + t.act_to_act)
+        .max(stored(bank.rd) + t.rd_to_act)
+        .max(stored(bank.wr) + t.wr_to_act)
 }
 
 fn stored(cycle: u32) -> i64 {
@@ -63,8 +75,8 @@ pub fn step(
     if list.len() > 256 || !list.iter().all(|x| t.admits(x)) {
         return None;
     }
-    let acts: u32 = list.iter().map(|x| u32::from(x.bi)).sum();
-    let datas: u32 = list.iter().map(|x| u32::from(x.bi) * bursts(x)).sum();
+    let acts: u32 = list.iter().map(in_act_queue).sum();
+    let datas: u32 = list.iter().map(in_data_queue).sum();
     let left = acts.saturating_sub(c.acts) + datas.saturating_sub(c.datas);
     if left > 0 && room.len() < 8 {
         return None;
@@ -76,12 +88,13 @@ pub fn step(
         .all(|b| early(b.act) && early(b.rd) && early(b.wr))
         && c.last.iter().all(|&act| early(act))
         && early(c.rd)
-        && early(c.wr);
+        && early(c.wr)
+        && early(c.refresh);
     let counts = c.acts <= acts && c.datas <= datas;
     if c.cycle >= 100_000_000 || c.edition != expected.into() || !stamps || !counts {
         return None;
     }
-    if c.datas > 0 && head(list, c.datas - 1, bursts)?.act >= c.acts {
+    if c.datas > 0 && data_head(list, c.datas - 1)?.act >= c.acts {
         return None;
     }
     if left == 0 {
@@ -89,7 +102,7 @@ pub fn step(
     }
     let now = i64::from(c.cycle);
     c.cycle += 1;
-    if let Some(h) = head(list, c.datas, bursts).filter(|h| h.act < c.acts) {
+    if let Some(h) = data_head(list, c.datas).filter(|h| h.act < c.acts) {
         let (bank, writes) = (t.bank(h.x, h.bank), usize::from(h.x.kind));
         let own = &mut c.banks[usize::from(bank)];
         let from = (stored(own.act) + t.rcd)
@@ -110,23 +123,34 @@ pub fn step(
             return Some(1);
         }
     }
-    if let Some(h) = head(list, c.acts, |_| 1) {
-        let bank = t.bank(h.x, h.bank);
-        let own = &mut c.banks[usize::from(bank)];
-        let from = (stored(own.act) + t.act_to_act.max(t.rc))
-            .max(stored(own.rd) + t.rd_to_act)
-            .max(stored(own.wr) + t.wr_to_act)
-            .max(stored(c.last[0]) + t.rrd)
-            .max(stored(c.last[3]) + t.faw);
-        if own.opened == 0 && from <= now {
-            own.opened = 1;
-            own.act = now as u32;
-            (own.rd, own.wr) = (NEVER, NEVER);
-            c.last = [now as u32, c.last[0], c.last[1], c.last[2]];
-            c.acts += 1;
-            put(&mut room[..8], now, 0, bank, h.number);
-            return Some(1);
+    let h = match act_head(list, c.acts) {
+        Some(h) if stored(c.refresh) + t.rfc <= now => h,
+        _ => return Some(0),
+    };
+    if h.x.kind == REFRESH {
+        let mut banks = c.banks[..usize::from(t.banks)].iter();
+        if !banks.all(|b| b.opened == 0 && precharged(t, b) <= now) {
+            return Some(0);
         }
+        c.refresh = now as u32;
+        c.acts += 1;
+        put(&mut room[..8], now, REF, 0, h.number);
+        return Some(1);
     }
-    Some(0)
+    let bank = t.bank(h.x, h.bank);
+    let own = &mut c.banks[usize::from(bank)];
+    let from = (precharged(t, own))
+        .max(stored(own.act) + t.rc)
+        .max(stored(c.last[0]) + t.rrd)
+        .max(stored(c.last[3]) + t.faw);
+    if own.opened != 0 || from > now {
+        return Some(0);
+    }
+    own.opened = 1;
+    own.act = now as u32;
+    (own.rd, own.wr) = (NEVER, NEVER);
+    c.last = [now as u32, c.last[0], c.last[1], c.last[2]];
+    c.acts += 1;
+    put(&mut room[..8], now, 0, bank, h.number);
+    Some(1)
 }

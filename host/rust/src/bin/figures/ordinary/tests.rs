@@ -4,9 +4,20 @@ use super::*;
 use model::desk;
 use model::house::*;
 
-/// From any start, over the last bank too; now and then all banks, and now and then one beyond a limit.
-fn list(numbers: &mut Numbers, banks: usize, size: usize) -> Vec<Transaction> {
+/// From any start, over the last bank too; now and then all banks, and now and then one beyond a limit. Refreshes where the table has them, and
+/// seldom where it has none.
+fn list(numbers: &mut Numbers, t: &desk::Table, size: usize) -> Vec<Transaction> {
+    let banks = usize::from(t[1]);
     let mut one = || {
+        if numbers.below(if t[RFC] > 0 { 5 } else { 100 }) == 0 {
+            let bc = (numbers.below(20) == 0).into();
+            return Transaction {
+                kind: REFRESH,
+                start: 0,
+                bi: 0,
+                bc,
+            };
+        }
         let (start, bi, bc) = match numbers.below(24) {
             0 => (numbers.below(banks), banks, 1),
             1 if numbers.below(4) == 0 => (banks, 1, 1),
@@ -39,6 +50,7 @@ fn plain(c: &desk::Controller) -> skvorzhan::Controller {
         last: c.last,
         rd: c.rd,
         wr: c.wr,
+        refresh: c.refresh,
     }
 }
 
@@ -46,13 +58,13 @@ fn plain(c: &desk::Controller) -> skvorzhan::Controller {
 #[test]
 fn steps_as_the_model_says() {
     let mut numbers = Numbers(5);
-    let mut tables = vec![TABLE_A, TABLE_B, TABLE_C, LEAST, GREATEST];
+    let mut tables = vec![TABLE_A, TABLE_B, TABLE_C, LEAST, GREATEST, REFRESHED];
     tables.extend(ODD);
-    let mut told = [0; 3];
+    let (mut told, mut refs) = ([0; 3], 0);
     for round in 0..300 {
         let t = tables[round % tables.len()];
         let (edition, table) = (t[0], bytes_of(&t));
-        let list = list(&mut numbers, t[1].into(), round % 6);
+        let list = list(&mut numbers, &t, round % 6);
         let (_, mut right) = desk::start(edition, &table);
         for _ in 0..numbers.below(300) {
             let bank = numbers.below(16);
@@ -63,6 +75,8 @@ fn steps_as_the_model_says() {
                 3 => right.banks[bank].opened ^= 256,
                 4 => right.last[3] = right.cycle.saturating_sub(1),
                 5 => right.edition ^= 1 << 16,
+                6 => right.refresh = right.cycle.saturating_sub(1),
+                7 => right.refresh = right.cycle,
                 _ => (),
             }
             let mut own = plain(&right);
@@ -74,30 +88,32 @@ fn steps_as_the_model_says() {
             assert_eq!((own_answer, &own), (commands, &plain(&right)));
             assert_eq!(own_room, room);
             told[commands.unwrap_or(2)] += 1;
+            refs += u32::from(room[4] == REF);
             if commands.is_none() {
                 break;
             }
         }
     }
-    assert!(told.iter().all(|&n| n > 50), "{told:?}");
+    assert!(
+        told.iter().all(|&n| n > 50) && refs > 20,
+        "{told:?}, {refs}"
+    );
 }
 
 /// Built schedules, and judged ones with a byte changed.
 #[test]
 fn as_the_model_says() {
     let mut numbers = Numbers(3);
-    let mut tables = vec![TABLE_A, TABLE_B, TABLE_C, LEAST, GREATEST];
+    let mut tables = vec![TABLE_A, TABLE_B, TABLE_C, LEAST, GREATEST, REFRESHED];
     tables.extend(ODD);
-    let mut verdicts = [0; 11];
+    let mut verdicts = [0; 13];
     let (mut over, mut refused) = (0, 0);
     for round in 0..600 {
         let t = tables[round % tables.len()];
         let (edition, table) = (t[0], bytes_of(&t));
-        let list = list(&mut numbers, t[1].into(), round % 7);
-        let due: usize = list
-            .iter()
-            .map(|x| usize::from(x.bi) * (1 + usize::from(x.bc)))
-            .sum();
+        let list = list(&mut numbers, &t, round % 7);
+        let due = |x: &Transaction| in_act_queue(x) + in_data_queue(x);
+        let due = list.iter().map(due).sum::<u32>() as usize;
         let mut right = (vec![9; 8 * due + 3], vec![9; list.len() + 1]);
         let told =
             desk::schedule(edition, &table, &list, &mut right.0, &mut right.1).map(|s| s.commands);
@@ -130,7 +146,7 @@ fn as_the_model_says() {
                 bytes[at] = match numbers.below(4) {
                     0 => bytes[at].wrapping_add(1),
                     1 => bytes[at].wrapping_sub(1 + numbers.byte() % 4),
-                    2 => numbers.byte() % 5,
+                    2 => numbers.byte() % 7,
                     _ => bytes[at].wrapping_sub(1),
                 };
             }
