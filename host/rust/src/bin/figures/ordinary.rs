@@ -147,6 +147,7 @@ impl State {
     }
 
     /// When all of the table's banks are precharged; never, while one is open.
+    #[cold]
     fn rest_from(&self, t: &Times) -> i64 {
         let of_bank = |bank: &Bank| match bank.open {
             true => i64::MAX,

@@ -79,29 +79,33 @@ fn judged(
 
 fn broken(t: &Times, state: &State, last: i64, new: &Record, near: bool) -> Option<u8> {
     let Record { cycle, kind, bank } = *new;
-    let own = &state.banks[usize::from(bank)];
-    let unknown = match kind {
-        REF => bank != 0,
-        _ => kind > 4 || bank >= t.banks,
+    let known = match kind {
+        REF => bank == 0,
+        _ => kind < REF && bank < t.banks,
     };
-    let rules = [
-        (1, unknown),
-        (2, cycle <= last),
-        (3, kind != REF && own.open == (kind == 0)),
-        (4, kind == 0 && cycle < own.closed_until),
-        (5, kind == 0 && cycle < own.act + t.rc),
-        (6, kind == 0 && cycle < state.acts[state.newest] + t.rrd),
-        (
-            7,
-            kind == 0 && cycle < state.acts[(state.newest + 1) % 4] + t.faw,
-        ),
-        (8, new.is_data() && cycle < own.act + t.rcd),
-        (9, near),
-        (11, kind == REF && cycle < state.rest_from(t)),
-        (12, !new.is_data() && cycle < state.refresh + t.rfc),
-    ];
-    rules
-        .iter()
-        .find(|(_, broken)| *broken)
-        .map(|(rule, _)| *rule)
+    if !known {
+        return Some(1);
+    }
+    if cycle <= last {
+        return Some(2);
+    }
+    let own = &state.banks[usize::from(bank)];
+    let in_refresh = (12, cycle < state.refresh + t.rfc);
+    match kind {
+        0 => first(&[
+            (3, own.open),
+            (4, cycle < own.closed_until),
+            (5, cycle < own.act + t.rc),
+            (6, cycle < state.acts[state.newest] + t.rrd),
+            (7, cycle < state.acts[(state.newest + 1) % 4] + t.faw),
+            in_refresh,
+        ]),
+        REF => first(&[(11, cycle < state.rest_from(t)), in_refresh]),
+        _ => first(&[(3, !own.open), (8, cycle < own.act + t.rcd), (9, near)]),
+    }
+}
+
+fn first(rules: &[(u8, bool)]) -> Option<u8> {
+    let broken = rules.iter().find(|(_, broken)| *broken);
+    broken.map(|(rule, _)| *rule)
 }
