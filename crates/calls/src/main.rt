@@ -94,6 +94,24 @@ fn main() {
         &[],
         5,
     );
+    // A refresh between two transactions, and alone
+    case(
+        70,
+        70,
+        [70, 8, 4, 4, 10, 10, 28, 38, 6, 32, 10, 8, 6, 12, 6, 50],
+        [of(1, 0, 1, 1), of(2, 0, 0, 0), of(0, 0, 1, 1)],
+        &[2, 0, 0, 0],
+        60,
+    );
+    // A refresh under RFC 0, and one whose last byte is not 0
+    case(
+        7,
+        7,
+        table_a(),
+        [of(0, 0, 1, 1), of(0, 1, 1, 1), of(2, 0, 0, 0)],
+        &[0, 0, 1, 1, 2, 0, 0, 1],
+        5,
+    );
 }
 
 fn of(kind: u8, start: u8, bi: u8, bc: u8) -> Transaction {
