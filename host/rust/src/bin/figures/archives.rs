@@ -11,8 +11,8 @@ use skvorzhan::Controller;
 mod types {
     use super::*;
 
-    pub type Schedule = unsafe extern "C" fn(u16, *const u8, usize, *const Transaction, usize, *mut u8, usize, *mut u32, usize) -> Answer;
-    pub type ScheduleBytes = unsafe extern "C" fn(u16, *const u8, usize, *const u8, usize, *mut u8, usize, *mut u32, usize) -> Answer;
+    /// Of a list whose entries are `T`: transactions, or bytes.
+    pub type Schedule<T> = unsafe extern "C" fn(u16, *const u8, usize, *const T, usize, *mut u8, usize, *mut u32, usize) -> Answer;
     pub type Step = unsafe extern "C" fn(*mut Controller, u16, *const u8, usize, *const Transaction, usize, *mut u8, usize) -> Answer;
     pub type Judge = unsafe extern "C" fn(u16, *const u8, usize, *const u8, usize) -> VerdictAnswer;
 }
@@ -21,8 +21,8 @@ mod types {
 pub struct Archive {
     /// What is put behind the name of each figure.
     pub name: &'static str,
-    schedule: types::Schedule,
-    schedule_bytes: types::ScheduleBytes,
+    schedule: types::Schedule<Transaction>,
+    schedule_bytes: types::Schedule<u8>,
     step: types::Step,
     judge: types::Judge,
 }
@@ -64,6 +64,34 @@ pub fn all() -> Vec<Archive> {
     vec![NOW]
 }
 
+/// Whether nothing was refused, of a list of either kind.
+fn scheduled<T>(
+    call: types::Schedule<T>,
+    expected: u16,
+    table: &[u8],
+    list: &[T],
+    room: &mut [u8],
+    finishes: &mut [u32],
+) -> bool {
+    let (t, x, r, f) = (table, list, room, finishes);
+    let told = unsafe {
+        let (room, finishes) = (r.as_mut_ptr(), f.as_mut_ptr());
+        let list = x.as_ptr();
+        call(
+            expected,
+            t.as_ptr(),
+            t.len(),
+            list,
+            x.len(),
+            room,
+            r.len(),
+            finishes,
+            f.len(),
+        )
+    };
+    told.refused == 0
+}
+
 /// Whether nothing was refused; for a verdict, whether it accepts.
 impl Archive {
     pub fn schedule(
@@ -74,23 +102,7 @@ impl Archive {
         room: &mut [u8],
         finishes: &mut [u32],
     ) -> bool {
-        let (t, x, r, f) = (table, list, room, finishes);
-        let told = unsafe {
-            let (room, finishes) = (r.as_mut_ptr(), f.as_mut_ptr());
-            let list = x.as_ptr();
-            (self.schedule)(
-                expected,
-                t.as_ptr(),
-                t.len(),
-                list,
-                x.len(),
-                room,
-                r.len(),
-                finishes,
-                f.len(),
-            )
-        };
-        told.refused == 0
+        scheduled(self.schedule, expected, table, list, room, finishes)
     }
 
     pub fn schedule_bytes(
@@ -101,23 +113,7 @@ impl Archive {
         room: &mut [u8],
         finishes: &mut [u32],
     ) -> bool {
-        let (t, x, r, f) = (table, list, room, finishes);
-        let told = unsafe {
-            let (room, finishes) = (r.as_mut_ptr(), f.as_mut_ptr());
-            let list = x.as_ptr();
-            (self.schedule_bytes)(
-                expected,
-                t.as_ptr(),
-                t.len(),
-                list,
-                x.len(),
-                room,
-                r.len(),
-                finishes,
-                f.len(),
-            )
-        };
-        told.refused == 0
+        scheduled(self.schedule_bytes, expected, table, list, room, finishes)
     }
 
     /// How many commands went.
