@@ -5,9 +5,4 @@ pub mod Transactions
 pub mod Schedules
 pub mod Running
 pub mod Numbers
-pub mod Causes
 pub mod Only
-pub mod Demands
-pub mod Runs
-pub mod Handed
-pub mod Calls

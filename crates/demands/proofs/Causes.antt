@@ -39,14 +39,14 @@ use Rattle.controller.specs.declared.controller.Controller.{Controller}
 use Rattle.controller.specs.Controller.{tells}
 use Rattle.controller.specs.Run.{RunLeft, ranLeft, refusedLeft, runController}
 use Rattle.refusals.specs.Refused.{sound, runRefusal}
 use Rattle.desk.specs.Admit.{expecting, admitted}
 use Rattle.desk.specs.Judging.{judging, PatternTold}
 use Rattle.desk.specs.Bounds.{bounding}
 use Rattle.desk.specs.Transactions.{reading}
 use Rattle.desk.specs.Schedules.{BuildsChecked, Schedules}
 use Rattle.desk.specs.Running.{starting, runsChecked, running}
 use Rattle.desk.specs.Numbers.{Numbers, telling, refusing, judgedNumbers, patternNumbers, boundNumbers, readNumbers, buildNumbers, startNumbers, runNumbers}
-use Rattle.desk.specs.Causes.{Row, row, FirstRow, tableRows, lowestOut, listRows, fewBytes, fewInto, buildRows, runRows, scheduleRow, Causes}
+use Rattle.demands.specs.Causes.{Row, row, FirstRow, tableRows, lowestOut, listRows, fewBytes, fewInto, buildRows, runRows, scheduleRow, Causes}
 
 -- an answer tells a number and a position
 abbrev Tells : Numbers → ℕ → ℕ → Type 0

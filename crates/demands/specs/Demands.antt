@@ -1,5 +1,5 @@
 -- The customer's three demands, of the public calls: on a table's bytes, the bytes or records of a list, a schedule's bytes, a controller. What
--- the calls promise is in the files beside this one; here is what follows from it, by the numbers and values that `Numbers` gives for each case of
+-- the calls promise is in `desk`; here is what follows from it, by the numbers and values that `Numbers` gives for each case of
 -- an answer. Read this file first.
 use Prim.Native.Nat.{ℕ, suc, _+_, _*_, _≤_, _<_}
 use mathlib.Core.Bool.{Bool, true, false}
@@ -45,14 +45,14 @@ use Rattle.lists.specs.declared.check.Checked.{Checked}
 use Rattle.lists.specs.Check.{checkList, checkBytes}
 use Rattle.controller.specs.declared.controller.Controller.{Controller}
 use Rattle.controller.specs.declared.run.RunAnswer.the-variants.{Refused as NotRun}
 use Rattle.desk.specs.Admit.{admitted, editionOf}
 use Rattle.desk.specs.Judging.{judging, PatternTold}
 use Rattle.desk.specs.Bounds.{bounding}
 use Rattle.desk.specs.Transactions.{reading}
 use Rattle.desk.specs.Schedules.{Schedules}
 use Rattle.desk.specs.Running.{starting, running}
-use Rattle.desk.specs.Causes.{Causes, RecordCauses}
+use Rattle.demands.specs.Causes.{Causes, RecordCauses}
 use Rattle.desk.specs.Numbers.{telling, ruleNumber, commandNumbers, judgedNumbers, patternNumbers, boundNumbers, readNumbers, buildNumbers, startNumbers, runNumbers}
 
 -- why a table is not admitted: number 1 by its size alone, number 2 by a number out of range, number 10 by its edition
 abbrev pub NotAdmitted : ℕ → List ℕ → Refusal → Type 0

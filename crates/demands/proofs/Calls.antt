@@ -25,16 +25,16 @@ use Rattle.lists.specs.Packed.{recordsOf}
 use Rattle.refusals.specs.Refused.{sound, runRefusal}
 use Rattle.controller.specs.Controller.{tells, kept}
 use Rattle.controller.specs.Run.{runController}
 use Rattle.desk.specs.Admit.{admitted}
 use Rattle.desk.specs.Judging.{judging, PatternTold}
 use Rattle.desk.specs.Bounds.{bounding}
 use Rattle.desk.specs.Transactions.{reading}
 use Rattle.desk.specs.Schedules.{BuildsChecked, Schedules}
 use Rattle.desk.specs.Running.{starting, runsChecked, running}
-use Rattle.desk.specs.Handed.{A, B, R, fine, out}
-use Rattle.desk.specs.Calls.{recordCalls, judgeCalls, listCalls, scheduleCalls, runCalls, calls}
-use Rattle.desk.proofs.NeverRuns.{refused-start}
-use Rattle.desk.proofs.CallLaws.{pattern-tells, build-tells, bytes-tell, some, few-records, many-records, few-transactions, many-transactions, many-built, many-run, refused-37, left-open, refused-38, refused-49}
+use Rattle.demands.specs.Handed.{A, B, R, fine, out}
+use Rattle.demands.specs.Calls.{recordCalls, judgeCalls, listCalls, scheduleCalls, runCalls, calls}
+use Rattle.demands.proofs.NeverRuns.{refused-start}
+use Rattle.demands.proofs.CallLaws.{pattern-tells, build-tells, bytes-tell, some, few-records, many-records, few-transactions, many-transactions, many-built, many-run, refused-37, left-open, refused-38, refused-49}
 
 infixr 4 _⨾_
 -- a proof of the first statement, and of the rest

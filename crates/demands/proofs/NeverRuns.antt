@@ -23,11 +23,11 @@ use Rattle.refusals.specs.Refused.{banksBefore, lastBefore, goneBacked, sound, 
 use Rattle.lists.specs.declared.check.Checked.{Checked}
 use Rattle.controller.specs.Controller.{tells, kept}
 use Rattle.controller.specs.Run.{runController}
 use Rattle.desk.specs.declared.running.StartAnswer.the-variants.{Refused as NotStarted}
 use Rattle.desk.specs.Admit.{admitted}
 use Rattle.desk.specs.Running.{noController, starting, runsChecked, running}
-use Rattle.desk.specs.Runs.{NeverRuns}
+use Rattle.demands.specs.Runs.{NeverRuns}
 use Rattle.desk.proofs.Laws.{read-accepted}
 
 -- no accepted table has edition 0
 some-edition : (τ : Table) → Accepted τ → 1 ≤ τ .edition

@@ -38,12 +38,12 @@ use Rattle.builder.specs.declared.build.BuildAnswer.the-variants.{Built}
 use Rattle.builder.specs.Build.{Stands}
 use Rattle.lists.specs.declared.check.Checked.{Checked}
 use Rattle.lists.specs.declared.check.Checked.the-variants.{Fine, Refused as NotFine}
 use Rattle.desk.specs.Admit.{admitted}
 use Rattle.desk.specs.Judging.{judging, PatternTold}
 use Rattle.desk.specs.Schedules.{BuildsChecked, Schedules}
 use Rattle.desk.specs.Numbers.{Numbers, telling, ruleNumber, verdictValues, judgedNumbers, patternNumbers}
-use Rattle.desk.specs.Demands.{BreaksNumber, Demand2}
-use Rattle.desk.proofs.Rows.{by-numbers, within-copy, kind-byte, judged-case, pattern-case, passed-case, all-passed-case}
+use Rattle.demands.specs.Demands.{BreaksNumber, Demand2}
+use Rattle.demands.proofs.Rows.{by-numbers, within-copy, kind-byte, judged-case, pattern-case, passed-case, all-passed-case}
 
 -- ---- of a schedule that is answered
 

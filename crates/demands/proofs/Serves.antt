@@ -51,13 +51,13 @@ use Rattle.lists.specs.Check.{checkList, checkBytes}
 use Rattle.lists.specs.Packed.{packed}
 use Rattle.lists.proofs.Checks.{bytes-list, fits-fine}
 use Rattle.lists.proofs.Packing.{length-packed, held-whole, lent-held, lent-check}
 use Rattle.desk.specs.Admit.{admitted}
 use Rattle.desk.specs.Judging.{judging}
 use Rattle.desk.specs.Bounds.{bounding}
 use Rattle.desk.specs.Schedules.{BuildsChecked, Schedules}
-use Rattle.desk.specs.Demands.{Demand3, Room}
+use Rattle.demands.specs.Demands.{Demand3, Room}
 use Rattle.desk.proofs.Laws.{read-accepted, fine-listed, schedules-same}
-use Rattle.desk.proofs.Judges.{bytes-stand}
+use Rattle.demands.proofs.Judges.{bytes-stand}
 
 -- ---- the built schedule's bytes pass the judge
 

@@ -17,13 +17,13 @@ use Rattle.rules.specs.Worked.{read, refresh, one, eleven, thenRef, All}
 use Rattle.lists.specs.Check.{checkList}
 use Rattle.lists.specs.Packed.{recordsOf}
 use Rattle.controller.specs.declared.controller.Controller.{Controller}
 use Rattle.desk.specs.declared.running.StartAnswer.the-variants.{Refused as NotStarted}
 use Rattle.desk.specs.Admit.{admitted}
 use Rattle.desk.specs.Transactions.{reading}
 use Rattle.desk.specs.Running.{starting, running}
-use Rattle.desk.specs.Runs.{NeverRuns}
+use Rattle.demands.specs.Runs.{NeverRuns}
 use Rattle.desk.specs.Numbers.{telling, tableNumbers, transactionNumbers, commandNumbers, startNumbers}
-use Rattle.desk.specs.Handed.{A, B, C, A50, ccd1, cut, withRfc, R, R200, fine, out, refreshed, gone, told, judges, judgesBytes, Patterns, bounds, reads, Builds, BuildsBytes, runs, runsBytes, Writes}
+use Rattle.demands.specs.Handed.{A, B, C, A50, ccd1, cut, withRfc, R, R200, fine, out, refreshed, gone, told, judges, judgesBytes, Patterns, bounds, reads, Builds, BuildsBytes, runs, runsBytes, Writes}
 
 -- ---- the calls on one record
 

@@ -30,8 +30,8 @@ use Rattle.judge.specs.declared.answer.Judged.{Judged}
 use Rattle.judge.specs.declared.answer.Judged.the-variants.{Verdict as Says, Refused as NotJudged}
 use Rattle.judge.specs.declared.answer.PatternJudged.{PatternJudged}
 use Rattle.judge.specs.declared.answer.PatternJudged.the-variants.{Verdict as PatternSays, Refused as PatternNotJudged}
 use Rattle.desk.specs.Numbers.{Numbers, telling, ruleNumber, commandNumbers, verdictValues, judgedNumbers, patternValues, patternNumbers}
-use Rattle.desk.specs.Demands.{FirstFails, BreaksNumber}
+use Rattle.demands.specs.Demands.{FirstFails, BreaksNumber}
 
 first-fails : (ts : List Bool) (l : List Rule) (x : Rule) → firstBroken ts l ≡ Breaks x
     → (k : ℕ) × (getElem? (map ruleNumber l) k ≡ some (ruleNumber x)) × (getD ts k true ≡ false) × ((m : ℕ) → m < k → getD ts m true ≡ true)

@@ -44,19 +44,19 @@ use Rattle.controller.specs.Controller.{tells}
 use Rattle.refusals.specs.Refused.{runRefusal}
 use Rattle.controller.specs.Run.{RunLeft, ranLeft, refusedLeft, runController}
 use Rattle.controller.proofs.Halves.{refused}
 use Rattle.desk.specs.declared.running.StartAnswer.{StartAnswer}
 use Rattle.desk.specs.Admit.{expecting, admitted, editionOf}
 use Rattle.desk.specs.Judging.{judging, PatternTold}
 use Rattle.desk.specs.Bounds.{bounding}
 use Rattle.desk.specs.Transactions.{reading}
 use Rattle.desk.specs.Schedules.{BuildsChecked, Schedules}
 use Rattle.desk.specs.Running.{starting, runsChecked, running}
 use Rattle.desk.specs.Numbers.{judgedNumbers, patternNumbers, boundNumbers, readNumbers, buildNumbers, startNumbers, runNumbers}
-use Rattle.desk.specs.Demands.{NotAdmitted, Demand1}
+use Rattle.demands.specs.Demands.{NotAdmitted, Demand1}
 use Rattle.desk.proofs.Laws.{expected-read, read-accepted}
-use Rattle.desk.proofs.Causes.{causes}
-use Rattle.desk.proofs.RecordCauses.{record-causes}
-use Rattle.desk.proofs.Stood.{unread, unbuilt, unrun, table-unwritten, transaction-unwritten, command-unwritten}
+use Rattle.demands.proofs.Causes.{causes}
+use Rattle.demands.proofs.RecordCauses.{record-causes}
+use Rattle.demands.proofs.Stood.{unread, unbuilt, unrun, table-unwritten, transaction-unwritten, command-unwritten}
 
 -- ---- the table
 

@@ -19,10 +19,10 @@ use Rattle.controller.specs.Controller.{freshController}
 use Rattle.controller.specs.Run.{runController}
 use Rattle.controller.proofs.Halves.{together}
 use Rattle.controller.proofs.Fresh.{fresh-ends}
 use Rattle.desk.specs.Admit.{admitted}
 use Rattle.desk.specs.Running.{starting, runsChecked, running}
-use Rattle.desk.specs.Runs.{RunsOn}
+use Rattle.demands.specs.Runs.{RunsOn}
 use Rattle.desk.proofs.Laws.{read-accepted}
 
 module _ (expected : ℕ) (table : List ℕ) (τ : Table) (read : admitted expected table ≡ Read τ) where
   fresh : starting (admitted expected table) .controller ≡ freshController τ

@@ -32,16 +32,16 @@ use Rattle.lists.specs.declared.check.Checked.the-variants.{Refused as NotFine}
 use Rattle.lists.specs.Check.{rangeFrom, checkList, checkBytes, checkInto}
 use Rattle.lists.specs.Decode.{decodedBy, decoding}
 use Rattle.controller.specs.Controller.{tells}
 use Rattle.desk.specs.Admit.{admitted}
 use Rattle.desk.specs.Judging.{judging, PatternTold}
 use Rattle.desk.specs.Transactions.{reading}
 use Rattle.desk.specs.Schedules.{BuildsChecked, Schedules}
 use Rattle.desk.specs.Running.{runsChecked, running}
 use Rattle.desk.specs.Numbers.{Numbers, judgedNumbers, patternNumbers, readNumbers, buildNumbers, runNumbers}
-use Rattle.desk.specs.Causes.{row, FirstRow, lowestOut, fewInto}
-use Rattle.desk.specs.Handed.{A, told, judgesBytes, Patterns, reads, Builds, BuildsBytes, runsBytes}
+use Rattle.demands.specs.Causes.{row, FirstRow, lowestOut, fewInto}
+use Rattle.demands.specs.Handed.{A, told, judgesBytes, Patterns, reads, Builds, BuildsBytes, runsBytes}
 use Rattle.desk.proofs.Unique.{only}
-use Rattle.desk.proofs.Causes.{causes}
+use Rattle.demands.proofs.Causes.{causes}
 use Rattle.controller.specs.declared.controller.Controller.{Controller}
 
 -- ---- what every answer that keeps a promise tells is what one does

@@ -17,9 +17,9 @@ use Rattle.records.specs.Little.{bytes16}
 use Rattle.records.specs.Table.{tableOf, tableAt, inRange, tableRefusal, readTable, writeTable}
 use Rattle.records.specs.Transaction.{transactionAt, fitsIn, transactionRefusal, readTransaction, writeTransaction, bytesOf as transactionBytes}
 use Rattle.records.specs.Command.{commandAt, commandRefusal, roomRefusal, readCommand, writeCommand, bytesOf as commandBytes}
 use Rattle.desk.specs.Numbers.{writtenNumbers, tableNumbers, transactionNumbers, commandNumbers}
-use Rattle.desk.specs.Causes.{RecordCauses}
-use Rattle.desk.proofs.Causes.{one, two, by-number}
+use Rattle.demands.specs.Causes.{RecordCauses}
+use Rattle.demands.proofs.Causes.{one, two, by-number}
 
 module _ (s : List ℕ) where
   -- what a writer that z refuses leaves

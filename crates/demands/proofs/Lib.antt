@@ -1,0 +1,12 @@
+-- The theorems about the public calls.
+pub mod Causes
+pub mod RecordCauses
+pub mod Stood
+pub mod Edition
+pub mod Rows
+pub mod Judges
+pub mod Serves
+pub mod RunsOn
+pub mod NeverRuns
+pub mod CallLaws
+pub mod Calls

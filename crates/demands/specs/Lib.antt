@@ -1,0 +1,5 @@
+pub mod Causes
+pub mod Demands
+pub mod Runs
+pub mod Handed
+pub mod Calls
