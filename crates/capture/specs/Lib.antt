@@ -1,0 +1,5 @@
+pub mod Capture
+pub mod Answer
+pub mod Written
+pub mod Eleven
+pub mod Worked

@@ -1,0 +1,24 @@
+use borrow.Author.Needs.{needs}
+use native.Mathlib.Omega.{arith}
+use mathlib.Core.Path.{ap, _∙_}
+use mathlib.Core.List.{List, []}
+use denote.Ref.{now}
+use Rattle.records.specs.declared.command.Command.{Command}
+use Rattle.records.specs.Command.{commandsIn}
+use Rattle.rules.specs.Verdict.{judgeFrom}
+use Rattle.rules.proofs.JudgeState.{judging-fresh}
+use Rattle.timing.proofs.Telling.{told-fresh}
+use Rattle.judge.proofs.Seen.{moved-none}
+use Rattle.judge.proofs.schedule.verdict_on.Statement.{statement}
+use Rattle.judge.proofs.schedule.verdict_on.Tie as tie
+
+judge-copy-requires : tie.Need-judge-copy-requires
+judge-copy-requires c κs = (c .before .before .before .pre .0, c .before .distances .ensures, c .before .before .before .pre .1, omega arith, rw (c .kept-fresh .ensures, told-fresh (c .before .before .before .args .t)) (judging-fresh (c .before .before .before .args .t)))
+
+returns : tie.Need-returns
+returns c =
+    let a = c .before .before .before .before .args in
+    c .judge-copy .ensures .0 ∙ ap (λ (rs : List Command). judgeFrom (a .t) rs 0 []) (moved-none (commandsIn (now (a .s))))
+
+pub verdict-on-spec : {M : Type 1} → statement M
+verdict-on-spec = tie.close (tie.spec (λ c κs. search needs) (λ c κs. search needs) judge-copy-requires returns)
