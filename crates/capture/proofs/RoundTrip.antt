@@ -32,19 +32,16 @@ use Rattle.rules.proofs.Numbers.{same?}
 use Rattle.rules.proofs.Judged.{holds}
 use Rattle.capture.specs.declared.one_record.CaptureRecord.{CaptureRecord}
 use Rattle.capture.specs.declared.answer.CaptureJudged.the-variants.{Verdict, Refused}
-use Rattle.capture.specs.Capture.{captureRecord, recordAt, recordsFrom, recordsIn, Timed, timed, timedAfter, timedOf, timedIn, gap, badAfter, lowestAfter, lowest, isTick, commandOf, commandsOf}
+use Rattle.capture.specs.Record.{captureRecord, recordAt}
+use Rattle.capture.specs.Capture.{recordsFrom, recordsIn, Timed, timed, timedAfter, timedOf, timedIn, gap, badAfter, lowestAfter, lowest, isTick, commandOf, commandsOf}
 use Rattle.capture.specs.Answer.{notACapture, captureCount, commandsSeen, captureRefusal, positionOf, Captured, captured}
-use Rattle.capture.specs.Written.{Sent, sends, ticks, cycleOf, bytesSent, captureBytes, commandsSent, WrittenAs, unnumbered, ReadAgain}
+use Rattle.capture.specs.Written.{Sent, sends, ticks, cycleOf, recordOf, bytesSent, captureBytes, commandsSent, WrittenAs, unnumbered, ReadAgain}
 use Rattle.capture.proofs.Laws.{gap-cycles, stamps-differ}
 use Rattle.capture.proofs.Bytes.{Each}
 use Rattle.capture.proofs.Refusals.{refused-none}
 use Rattle.capture.proofs.Unnumbered.{judge-same, length-unnumbered}
 
 -- ---- the bytes are read as the records that were sent
-
-abbrev recordOf : Sent → CaptureRecord
-recordOf (sends r) = captureRecord (r .cycle % 65536) (kindNumber (r .kind)) (r .bank)
-recordOf (ticks c) = captureRecord (c % 65536) 255 0
 
 abbrev recordsOf : List Sent → List CaptureRecord
 recordsOf [] = []

@@ -16,7 +16,8 @@ use Rattle.records.specs.Command.{kindOf, command, bytesOf, bytesOfAll}
 use Rattle.records.specs.Told.{over, putAt}
 use Rattle.rules.proofs.TestLaws.{true-false}
 use Rattle.capture.specs.declared.one_record.CaptureRecord.{CaptureRecord}
-use Rattle.capture.specs.Capture.{recordAt, recordsFrom, recordsIn, gap, timed, timedAfter, timedOf, timedIn, tooLate, lowestAfter, lowest, isTick, commandsOf}
+use Rattle.capture.specs.Record.{recordAt}
+use Rattle.capture.specs.Capture.{recordsFrom, recordsIn, gap, timed, timedAfter, timedOf, timedIn, tooLate, lowestAfter, lowest, isTick, commandsOf}
 use Rattle.capture.specs.Answer.{captureCount, commandsSeen}
 use Rattle.capture.proofs.Laws.{gap-first}
 use Rattle.capture.proofs.Bytes.{written-more, length-written}

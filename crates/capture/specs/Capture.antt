@@ -1,22 +1,16 @@
--- Document 02, request 6: "Callers send a capture in 4-byte records: a 16-bit stamp, kind, bank."
+-- Document 02, request 6: "Callers send a capture in 4-byte records: a 16-bit stamp, kind, bank." One record is `specs/Record`.
 use Prim.Native.Nat.{ℕ, zero, suc, _+_, _-_, _/_, _%_}
 use mathlib.Core.Bool.{Bool, _&&_, _||_}
 use mathlib.Core.List.{List, [], _∷_}
 use lib.Dec.{ltb, eqb}
-use lib.ListN.{length, getD}
+use lib.ListN.{length}
 use Rattle.records.specs.Tests.{pick}
-use Rattle.records.specs.Little.{num}
 use Rattle.records.specs.declared.command.Command.{Command}
 use Rattle.records.specs.Command.{kindOf, command}
 use Rattle.capture.specs.declared.one_record.CaptureRecord.{CaptureRecord}
+use Rattle.capture.specs.Record.{recordAt}
 
-abbrev pub captureRecord : ℕ → ℕ → ℕ → CaptureRecord
-captureRecord t k b = record { stamp = t; kind = k; bank = b }
-
--- the record of the four bytes from a place on; n of them; those of a capture
-abbrev pub recordAt : List ℕ → ℕ → CaptureRecord
-recordAt s at = captureRecord (num s at) (getD s (at + 2) 0) (getD s (at + 3) 0)
-
+-- n records from a place on; those of a capture
 unfoldable pub recordsFrom : List ℕ → ℕ → ℕ → List CaptureRecord
 recordsFrom s zero at = []
 recordsFrom s (suc n) at = recordAt s at ∷ recordsFrom s n (at + 4)

@@ -1,3 +1,4 @@
+pub mod Record
 pub mod Capture
 pub mod Answer
 pub mod Written

@@ -8,12 +8,13 @@ use mathlib.Core.Option.{some}
 use mathlib.Core.List.{List, [], _∷_, _++_}
 use lib.ListN.{length, getElem?}
 use Rattle.records.specs.Told.{over}
-use Rattle.records.specs.Little.{bytes16}
 use Rattle.records.specs.declared.table.Table.{Table}
 use Rattle.records.specs.declared.command.Command.{Command}
 use Rattle.records.specs.Command.{kindNumber, command, bytesOfAll}
 use Rattle.rules.specs.declared.verdict.Verdict.the-variants.{Accepted}
 use Rattle.capture.specs.declared.answer.CaptureJudged.the-variants.{Verdict}
+use Rattle.capture.specs.declared.one_record.CaptureRecord.{CaptureRecord}
+use Rattle.capture.specs.Record.{captureRecord, bytesOfRecord}
 use Rattle.capture.specs.Capture.{timedIn, lowest}
 use Rattle.capture.specs.Answer.{notACapture, captureCount, commandsSeen, captured}
 
@@ -26,10 +27,17 @@ abbrev pub cycleOf : Sent → ℕ
 cycleOf (sends r) = r .cycle
 cycleOf (ticks c) = c
 
--- the four bytes: "The stamp runs round from 65,535 to 0", so it is the cycle modulo 65,536; "Kind 255 with bank 0 is a tick"
+-- a command as a capture record: "The stamp runs round from 65,535 to 0", so it is the cycle modulo 65,536
+abbrev pub stamped : Command → CaptureRecord
+stamped r = captureRecord (r .cycle % 65536) (kindNumber (r .kind)) (r .bank)
+
+-- the record that is sent; "Kind 255 with bank 0 is a tick"
+abbrev pub recordOf : Sent → CaptureRecord
+recordOf (sends r) = stamped r
+recordOf (ticks c) = captureRecord (c % 65536) 255 0
+
 abbrev pub bytesSent : Sent → List ℕ
-bytesSent (sends r) = bytes16 ((r .cycle % 65536) ∷ []) ++ (kindNumber (r .kind) ∷ r .bank ∷ [])
-bytesSent (ticks c) = bytes16 ((c % 65536) ∷ []) ++ (255 ∷ 0 ∷ [])
+bytesSent e = bytesOfRecord (recordOf e)
 
 abbrev pub captureBytes : List Sent → List ℕ
 captureBytes [] = []

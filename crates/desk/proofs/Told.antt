@@ -16,6 +16,9 @@ use Rattle.judge.specs.declared.answer.Judged.the-variants.{Refused as NotJudge
 use Rattle.judge.specs.declared.answer.PatternJudged.{PatternJudged}
 use Rattle.judge.specs.declared.answer.PatternJudged.the-variants.{Refused as PatternNotJudged}
 use Rattle.judge.specs.Answer.{judged, PatternAnswers}
+use Rattle.capture.specs.declared.answer.CaptureJudged.{CaptureJudged}
+use Rattle.capture.specs.declared.answer.CaptureJudged.the-variants.{Refused as NotCaptured}
+use Rattle.capture.specs.Answer.{captured, LeavesCapture}
 use Rattle.builder.specs.declared.bound.BoundAnswer.{BoundAnswer}
 use Rattle.builder.specs.declared.bound.BoundAnswer.the-variants.{Refused as NoBound}
 use Rattle.builder.specs.declared.build.BuildAnswer.{BuildAnswer}
@@ -39,6 +42,7 @@ use Rattle.desk.specs.declared.running.StartAnswer.the-variants.{Started
 use Rattle.desk.specs.declared.admit.WayIn.{WayIn}
 use Rattle.desk.specs.Admit.{admitted, noWay, byLength, wayIn}
 use Rattle.desk.specs.Judging.{judging, PatternTold}
+use Rattle.desk.specs.Tracing.{capturing}
 use Rattle.desk.specs.Bounds.{bounding}
 use Rattle.desk.specs.Transactions.{readingPlan}
 use Rattle.desk.specs.Schedules.{BuildsChecked, Schedules}
@@ -54,6 +58,10 @@ module _ (w : ℕ) (s : List ℕ) (a : TableRead) (e : a ≡ admitted w s) where
     pub pattern-read : (b : List ℕ) (L : ℕ) (r : PatternJudged) → PatternAnswers τ b L r → PatternTold (admitted w s) b L r
     unfolding PatternTold
     pattern-read b L r h = by-admitted (λ (z : TableRead). PatternTold z b L r) w s a (Read τ) e t h
+
+    pub capture-read : (c b₀ b : List ℕ) (r : CaptureJudged) → LeavesCapture (captured τ c b₀) r b → LeavesCapture (capturing (admitted w s) c b₀) r b
+    unfolding capturing
+    capture-read c b₀ b r h = by-admitted (λ (z : TableRead). LeavesCapture (capturing z c b₀) r b) w s a (Read τ) e t h
 
     pub bound-read : (bi bc : ℕ) (r : BoundAnswer) → r ≡ boundTold τ bi bc → r ≡ bounding (admitted w s) bi bc
     unfolding bounding
@@ -88,6 +96,10 @@ module _ (w : ℕ) (s : List ℕ) (a : TableRead) (e : a ≡ admitted w s) where
     pub pattern-refused : (b : List ℕ) (L : ℕ) → PatternTold (admitted w s) b L (PatternNotJudged x)
     unfolding PatternTold
     pattern-refused b L = by-admitted (λ (z : TableRead). PatternTold z b L (PatternNotJudged x)) w s a (Refused x) e t refl
+
+    pub capture-refused : (c b : List ℕ) → LeavesCapture (capturing (admitted w s) c b) (NotCaptured x) b
+    unfolding capturing
+    capture-refused c b = by-admitted (λ (z : TableRead). LeavesCapture (capturing z c b) (NotCaptured x) b) w s a (Refused x) e t (refl, refl)
 
     pub bound-refused : (bi bc : ℕ) → NoBound x ≡ bounding (admitted w s) bi bc
     unfolding bounding

@@ -15,6 +15,7 @@ use Rattle.records.proofs.Unique.{one-answer}
 use Rattle.judge.specs.declared.answer.PatternJudged.{PatternJudged}
 use Rattle.judge.specs.declared.answer.PatternJudged.the-variants.{Refused as PatternNotJudged}
 use Rattle.judge.proofs.Unique.{judge-pattern-only}
+use Rattle.capture.proofs.Unique.{one-captured}
 use Rattle.builder.specs.declared.build.BuildAnswer.{BuildAnswer}
 use Rattle.builder.specs.declared.build.BuildAnswer.the-variants.{Refused as NotBuilt}
 use Rattle.builder.proofs.Unique.{build-only}
@@ -24,6 +25,7 @@ use Rattle.lists.specs.Check.{checkList, checkBytes}
 use Rattle.lists.proofs.Checks.{into-256, into-list, fine-fits}
 use Rattle.desk.specs.Admit.{admitted}
 use Rattle.desk.specs.Judging.{judging, PatternTold}
+use Rattle.desk.specs.Tracing.{capturing}
 use Rattle.desk.specs.Bounds.{bounding}
 use Rattle.desk.specs.Transactions.{reading}
 use Rattle.desk.specs.Schedules.{NothingBuilt, BuildsChecked, Schedules}
@@ -64,6 +66,7 @@ only expected table =
     record {
       judge = λ s. one-answer (judging (admitted expected table) s);
       judgePattern = pattern-only (admitted expected table);
+      judgeCapture = λ s b₀. one-captured (capturing (admitted expected table) s b₀);
       bound = λ bi bc. one-answer (bounding (admitted expected table) bi bc);
       readTransactions = λ s l x y b d p q.
           let w = reading (admitted expected table) s l in

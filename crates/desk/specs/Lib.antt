@@ -1,5 +1,6 @@
 pub mod Admit
 pub mod Judging
+pub mod Tracing
 pub mod Bounds
 pub mod Transactions
 pub mod Schedules

@@ -22,6 +22,10 @@ use Rattle.judge.specs.declared.answer.Judged.{Judged}
 use Rattle.judge.specs.declared.answer.Judged.the-variants.{Verdict as Says, Refused as NotJudged}
 use Rattle.judge.specs.declared.answer.PatternJudged.{PatternJudged}
 use Rattle.judge.specs.declared.answer.PatternJudged.the-variants.{Verdict as PatternSays, Refused as PatternNotJudged}
+use Rattle.capture.specs.declared.one_record.CaptureRecordRead.{CaptureRecordRead}
+use Rattle.capture.specs.declared.one_record.CaptureRecordRead.the-variants.{Read as RecordIs, Refused as NoRecord}
+use Rattle.capture.specs.declared.answer.CaptureJudged.{CaptureJudged}
+use Rattle.capture.specs.declared.answer.CaptureJudged.the-variants.{Verdict as CaptureSays, Refused as NotCaptured}
 use Rattle.builder.specs.declared.bound.BoundAnswer.{BoundAnswer}
 use Rattle.builder.specs.declared.bound.BoundAnswer.the-variants.{Bound, Refused as NoBound}
 use Rattle.builder.specs.declared.build.BuildAnswer.{BuildAnswer}
@@ -85,6 +89,11 @@ abbrev pub commandNumbers : CommandRead → Numbers
 commandNumbers (CommandIs c) = telling 0 (c .cycle ∷ kindNumber (c .kind) ∷ c .bank ∷ c .number ∷ [])
 commandNumbers (NoCommand x) = refusing x
 
+-- a capture record read: stamp, kind, bank
+abbrev pub captureRecordNumbers : CaptureRecordRead → Numbers
+captureRecordNumbers (RecordIs x) = telling 0 (x .stamp ∷ x .kind ∷ x .bank ∷ [])
+captureRecordNumbers (NoRecord x) = refusing x
+
 -- ---- the judges
 
 -- "A verdict is acceptance, or a refusal that carries the rule inside it with the record number": no values, or the rule and the record
@@ -104,6 +113,11 @@ patternValues (BrokenAt x k i) = ruleNumber x ∷ k ∷ i ∷ []
 abbrev pub patternNumbers : PatternJudged → Numbers
 patternNumbers (PatternSays e v) = telling e (patternValues v)
 patternNumbers (PatternNotJudged x) = refusing x
+
+-- how many commands were written, and the values of the verdict on them
+abbrev pub captureNumbers : CaptureJudged → Numbers
+captureNumbers (CaptureSays e n v) = telling e (n ∷ verdictValues v)
+captureNumbers (NotCaptured x) = refusing x
 
 -- ---- lists, schedules, the bound
 

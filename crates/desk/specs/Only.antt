@@ -6,6 +6,8 @@ use Rattle.records.specs.declared.transaction.Transaction.{Transaction}
 use Rattle.records.specs.Transaction.{transactionsIn}
 use Rattle.judge.specs.declared.answer.Judged.{Judged}
 use Rattle.judge.specs.declared.answer.PatternJudged.{PatternJudged}
+use Rattle.capture.specs.declared.answer.CaptureJudged.{CaptureJudged}
+use Rattle.capture.specs.Answer.{LeavesCapture}
 use Rattle.builder.specs.declared.bound.BoundAnswer.{BoundAnswer}
 use Rattle.builder.specs.declared.build.BuildAnswer.{BuildAnswer}
 use Rattle.lists.specs.declared.decode.Decoded.{Decoded}
@@ -18,6 +20,7 @@ use Rattle.controller.specs.Run.{LeavesRun}
 use Rattle.desk.specs.declared.running.StartTold.{StartTold}
 use Rattle.desk.specs.Admit.{admitted}
 use Rattle.desk.specs.Judging.{judging, PatternTold}
+use Rattle.desk.specs.Tracing.{capturing}
 use Rattle.desk.specs.Bounds.{bounding}
 use Rattle.desk.specs.Transactions.{reading}
 use Rattle.desk.specs.Schedules.{Schedules}
@@ -27,6 +30,8 @@ use Rattle.desk.specs.Running.{starting, running, Runs}
 pub record Only (expected : ℕ) (table : List ℕ) : Type 0 where
   pub judge : (s : List ℕ) (x y : Judged) → x ≡ judging (admitted expected table) s → y ≡ judging (admitted expected table) s → x ≡ y
   pub judgePattern : (s : List ℕ) (L : ℕ) (x y : PatternJudged) → PatternTold (admitted expected table) s L x → PatternTold (admitted expected table) s L y → x ≡ y
+  pub judgeCapture : (s b₀ : List ℕ) (x y : CaptureJudged) (b d : List ℕ) → LeavesCapture (capturing (admitted expected table) s b₀) x b
+      → LeavesCapture (capturing (admitted expected table) s b₀) y d → (x ≡ y) × (b ≡ d)
   pub bound : (bi bc : ℕ) (x y : BoundAnswer) → x ≡ bounding (admitted expected table) bi bc → y ≡ bounding (admitted expected table) bi bc → x ≡ y
   pub readTransactions : (s : List ℕ) (l : List Transaction) (x y : Decoded) (b d : List Transaction)
       → Decodes (reading (admitted expected table) s l) x b → Decodes (reading (admitted expected table) s l) y d → (x ≡ y) × (b ≡ d)

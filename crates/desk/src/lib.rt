@@ -6,9 +6,12 @@ pub mod judging;
 pub mod numbers;
 pub mod running;
 pub mod schedules;
+pub mod tracing;
 pub mod transactions;
 
 pub use bounding::bound;
+pub use capture::one_record::read_capture_record;
+pub use capture::one_record::write_capture_record;
 pub use commands::command::read_command;
 pub use commands::command::write_command;
 pub use judging::judge;
@@ -23,4 +26,5 @@ pub use running::start;
 pub use running::step;
 pub use schedules::schedule;
 pub use schedules::schedule_bytes;
+pub use tracing::judge_capture;
 pub use transactions::read_transactions;
