@@ -1,10 +1,12 @@
 -- The theorems about captures.
 pub mod Laws
-pub mod Bytes
+pub mod Round
 pub mod Turn
 pub mod Refusals
 pub mod Unnumbered
+pub mod Sent
 pub mod RoundTrip
+pub mod NothingLost
 pub mod Unique
 pub mod Eleven
 pub mod Worked

@@ -1,18 +1,17 @@
 -- Numbers 7, 11 and 5 of a capture, and what judging it leaves.
 -- Assumes nothing.
-use Prim.Native.Nat.{ℕ, zero, suc, _+_, _*_, _/_, _%_, _≤_, _<_}
+use Prim.Native.Nat.{ℕ, zero, suc, _+_, _*_, _/_, _%_, _≤_}
 use native.Mathlib.Omega.{arith}
 use mathlib.Core.Path.{_≡_, refl, sym, ap, _∙_}
 use mathlib.Core.Bool.{Bool, true, false, not, _||_}
 use mathlib.Core.List.{List, [], _∷_}
 use lib.Dec.{ltb, eqb}
 use lib.ListN.{length, take}
-use borrow.Author.Tests.{lt-ltb, le-ltb, ltb-false}
+use borrow.Author.Tests.{le-ltb, ltb-false}
 use Rattle.records.specs.Tests.{pick}
 use Rattle.records.specs.Told.{refusal, firstFailed, over}
 use Rattle.records.specs.declared.refusal.Refusal.{Refusal}
 use Rattle.records.specs.declared.table.Table.{Table}
-use Rattle.records.specs.declared.command.Command.{Command}
 use Rattle.records.specs.Command.{kindOf, commandsIn, bytesOfAll}
 use Rattle.records.proofs.Laws.{refuses, answers, passes}
 use Rattle.records.proofs.Inverse.{kind-number}
@@ -24,7 +23,7 @@ use Rattle.capture.specs.declared.scan.Scanned.{Scanned}
 use Rattle.capture.specs.declared.answer.CaptureJudged.the-variants.{Verdict, Refused}
 use Rattle.capture.specs.Capture.{Timed, recordsFrom, recordsIn, gap, timedAfter, timedOf, timedIn, tooLate, badAfter, lowestAfter, lowest, isTick, commandOf, commandsOf}
 use Rattle.capture.specs.Answer.{notACapture, captureCount, commandsSeen, captureRefusal, positionOf, Captured, captured, LeavesCapture, Scans}
-use Rattle.capture.proofs.Bytes.{Each, Readable, bytes-stand, read-whole}
+use Rattle.records.proofs.Written.{Each, Readable, bytes-stand, read-whole}
 
 -- ---- counts
 

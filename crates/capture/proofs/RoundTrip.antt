@@ -2,86 +2,41 @@
 -- Assumes nothing.
 use Prim.Native.Nat.{ℕ, zero, suc, _+_, _*_, _/_, _%_, _≤_, _<_}
 use native.Mathlib.Omega.{arith}
-use native.Mathlib.Numerals.{add-one, towards-suc}
 use mathlib.Core.Path.{_≡_, refl, sym, ap, _∙_, subst}
 use mathlib.Core.Logic.{⊎-elim}
-use mathlib.Core.Bool.{Bool, true, false, not, _&&_, _||_}
-use mathlib.Core.Option.{Option, some, none, Option·none-ne-some, Option·some-injective}
-use mathlib.Core.List.{List, [], _∷_, _++_}
-use lib.Dec.{ltb, eqb}
-use lib.ListN.{length, getD, getElem?, length-append}
+use mathlib.Core.Bool.{Bool, true, false, _&&_}
+use mathlib.Core.Option.{some, none, Option·none-ne-some, Option·some-injective}
+use mathlib.Core.List.{List, [], _∷_}
+use lib.Dec.{eqb}
+use lib.ListN.{length, getElem?}
 use borrow.Author.Tests.{ltb-true, le-ltb, ne-eqb, eq-eqb}
 use Rattle.records.specs.Tests.{pick}
 use Rattle.records.specs.Told.{over}
-use Rattle.records.specs.Little.{num, bytes16}
 use Rattle.records.specs.declared.table.Table.{Table}
 use Rattle.records.specs.declared.command.Kind.{Kind}
 use Rattle.records.specs.declared.command.Kind.the-variants.{Act, Rd, Rda, Wr, Wra, Ref, Other}
 use Rattle.records.specs.declared.command.Command.{Command}
 use Rattle.records.specs.Command.{kindOf, kindNumber, command, bytesOfAll}
 use Rattle.records.proofs.Laws.{answers}
-use Rattle.records.proofs.Inverse.{le16-of}
 use Rattle.rules.specs.declared.verdict.Found.{Found}
 use Rattle.rules.specs.declared.verdict.Found.the-variants.{Fine, Broken}
 use Rattle.rules.specs.declared.verdict.Verdict.the-variants.{Accepted, Refused as Against}
 use Rattle.rules.specs.Kinds.{isKnown}
-use Rattle.rules.specs.History.{inTable, later, broken}
+use Rattle.rules.specs.History.{later, broken}
 use Rattle.rules.specs.Verdict.{judgeFrom, judge, Legal}
 use Rattle.rules.proofs.TestLaws.{true-false, and-fst}
+use Rattle.rules.proofs.DataKinds.{kind-back}
 use Rattle.rules.proofs.Numbers.{same?}
 use Rattle.rules.proofs.Judged.{holds}
-use Rattle.capture.specs.declared.one_record.CaptureRecord.{CaptureRecord}
 use Rattle.capture.specs.declared.answer.CaptureJudged.the-variants.{Verdict, Refused}
-use Rattle.capture.specs.Record.{captureRecord, recordAt}
-use Rattle.capture.specs.Capture.{recordsFrom, recordsIn, Timed, timed, timedAfter, timedOf, timedIn, gap, badAfter, lowestAfter, lowest, isTick, commandOf, commandsOf}
-use Rattle.capture.specs.Answer.{notACapture, captureCount, commandsSeen, captureRefusal, positionOf, Captured, captured}
-use Rattle.capture.specs.Written.{Sent, sends, ticks, cycleOf, recordOf, bytesSent, captureBytes, commandsSent, WrittenAs, unnumbered, ReadAgain}
+use Rattle.capture.specs.Capture.{Timed, timed, timedAfter, timedOf, timedIn, gap, badAfter, lowestAfter, lowest, commandsOf}
+use Rattle.capture.specs.Answer.{notACapture, captureCount, commandsSeen, captureRefusal, Captured, captured}
+use Rattle.capture.specs.Written.{Sent, sends, ticks, cycleOf, recordOf, captureBytes, commandsSent, WrittenAs, unnumbered, ReadAgain}
 use Rattle.capture.proofs.Laws.{gap-cycles, stamps-differ}
-use Rattle.capture.proofs.Bytes.{Each}
+use Rattle.records.proofs.Written.{Each}
 use Rattle.capture.proofs.Refusals.{refused-none}
 use Rattle.capture.proofs.Unnumbered.{judge-same, length-unnumbered}
-
--- ---- the bytes are read as the records that were sent
-
-abbrev recordsOf : List Sent → List CaptureRecord
-recordsOf [] = []
-recordsOf (e ∷ es) = recordOf e ∷ recordsOf es
-
-record-past : (a b c d : ℕ) (s : List ℕ) (at : ℕ) → recordAt (a ∷ b ∷ c ∷ d ∷ s) (at + 4) ≡ recordAt s at
-record-past a b c d s at = simp towards-suc
-
-records-past : (a b c d : ℕ) (s : List ℕ) (n at : ℕ) → recordsFrom (a ∷ b ∷ c ∷ d ∷ s) n (at + 4) ≡ recordsFrom s n at
-unfolding recordsFrom
-records-past a b c d s zero at = refl
-records-past a b c d s (suc n) at =
-    ap (λ (x : CaptureRecord). x ∷ recordsFrom (a ∷ b ∷ c ∷ d ∷ s) n (at + 4 + 4)) (record-past a b c d s at)
-    ∙ ap (λ (l : List CaptureRecord). recordAt s at ∷ l) (records-past a b c d s n (at + 4))
-
-record-first : (e : Sent) (s : List ℕ) → recordAt (bytesSent e ++ s) 0 ≡ recordOf e
-record-first (sends r) s = rw (le16-of (r .cycle % 65536))
-record-first (ticks c) s = rw (le16-of (c % 65536))
-
-past-first : (e : Sent) (s : List ℕ) (n : ℕ) → recordsFrom (bytesSent e ++ s) n 4 ≡ recordsFrom s n 0
-past-first (sends r) s n = records-past (r .cycle % 65536 % 256) (r .cycle % 65536 / 256) (kindNumber (r .kind)) (r .bank) s n 0
-past-first (ticks c) s n = records-past (c % 65536 % 256) (c % 65536 / 256) 255 0 s n 0
-
-records-sent : (es : List Sent) → recordsFrom (captureBytes es) (length es) 0 ≡ recordsOf es
-unfolding recordsFrom
-records-sent [] = refl
-records-sent (e ∷ es) =
-    ap (λ (x : CaptureRecord). x ∷ recordsFrom (captureBytes (e ∷ es)) (length es) 4) (record-first e (captureBytes es))
-    ∙ ap (λ (l : List CaptureRecord). recordOf e ∷ l) (past-first e (captureBytes es) (length es) ∙ records-sent es)
-
-length-sent : (es : List Sent) → length (captureBytes es) ≡ 4 * length es
-length-sent [] = refl
-length-sent (sends r ∷ es) = omega (arith, length-sent es)
-length-sent (ticks c ∷ es) = omega (arith, length-sent es)
-
-count-sent : (es : List Sent) → captureCount (captureBytes es) ≡ length es
-count-sent es = omega (arith, length-sent es)
-
-records-in : (es : List Sent) → recordsIn (captureBytes es) ≡ recordsOf es
-records-in es = ap (λ (n : ℕ). recordsFrom (captureBytes es) n 0) (count-sent es) ∙ records-sent es
+use Rattle.capture.proofs.Sent.{recordsOf, length-sent, count-sent, records-in}
 
 -- ---- true cycles
 
@@ -144,15 +99,6 @@ lowest-all (x ∷ es) k =
 
 abbrev Known : Command → Type 0
 Known r = isKnown (r .kind) ≡ true
-
-kind-back : (k : Kind) → isKnown k ≡ true → kindOf (kindNumber k) ≡ k
-kind-back Act e = refl
-kind-back Rd e = refl
-kind-back Rda e = refl
-kind-back Wr e = refl
-kind-back Wra e = refl
-kind-back Ref e = refl
-kind-back (Other n) e = true-false false e refl
 
 no-tick : (k : Kind) (b : ℕ) → isKnown k ≡ true → (eqb (kindNumber k) 255 && eqb b 0) ≡ false
 no-tick Act b e = refl

@@ -20,7 +20,7 @@ use Rattle.capture.specs.Record.{recordAt}
 use Rattle.capture.specs.Capture.{recordsFrom, recordsIn, gap, timed, timedAfter, timedOf, timedIn, tooLate, lowestAfter, lowest, isTick, commandsOf}
 use Rattle.capture.specs.Answer.{captureCount, commandsSeen}
 use Rattle.capture.proofs.Laws.{gap-first}
-use Rattle.capture.proofs.Bytes.{written-more, length-written}
+use Rattle.records.proofs.Written.{written-more, length-written}
 
 -- ---- before the first record stamp and cycle are 0
 

@@ -1,9 +1,7 @@
 -- Captures worked out, by table A: one that goes round the wrap with ticks, and what number 11 names.
-use Prim.Native.Nat.{ℕ}
 use mathlib.Core.Path.{_≡_}
 use mathlib.Core.List.{List, [], _∷_}
 use Rattle.records.specs.declared.command.Kind.the-variants.{Act, Rda}
-use Rattle.records.specs.declared.command.Command.{Command}
 use Rattle.records.specs.Command.{command}
 use Rattle.records.specs.Told.{refusal}
 use Rattle.records.specs.House.{tableA}

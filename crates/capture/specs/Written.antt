@@ -7,6 +7,7 @@ use mathlib.Core.Path.{_≡_}
 use mathlib.Core.Option.{some}
 use mathlib.Core.List.{List, [], _∷_, _++_}
 use lib.ListN.{length, getElem?}
+use Rattle.records.specs.Tests.{pick}
 use Rattle.records.specs.Told.{over}
 use Rattle.records.specs.declared.table.Table.{Table}
 use Rattle.records.specs.declared.command.Command.{Command}
@@ -15,7 +16,7 @@ use Rattle.rules.specs.declared.verdict.Verdict.the-variants.{Accepted}
 use Rattle.capture.specs.declared.answer.CaptureJudged.the-variants.{Verdict}
 use Rattle.capture.specs.declared.one_record.CaptureRecord.{CaptureRecord}
 use Rattle.capture.specs.Record.{captureRecord, bytesOfRecord}
-use Rattle.capture.specs.Capture.{timedIn, lowest}
+use Rattle.capture.specs.Capture.{recordsIn, timedIn, lowest, isTick}
 use Rattle.capture.specs.Answer.{notACapture, captureCount, commandsSeen, captured}
 
 -- what the analyser sends a record for: a command, or a tick at a cycle
@@ -84,3 +85,19 @@ pub record ReadAgain (τ : Table) (rs : List Command) (s : List ℕ) : Type 0 wh
   -- with room for them, they are written and accepted
   pub answer : (b : List ℕ) → 8 * length rs ≤ length b
       → captured τ s b ≡ record { answer = Verdict (τ .edition) (length rs) Accepted; buffer = over (bytesOfAll (unnumbered rs)) b }
+
+-- ---- beyond that sentence, of any capture at all: nothing is lost or moved
+
+abbrev pub allStamped : List Command → List CaptureRecord
+allStamped [] = []
+allStamped (r ∷ rs) = stamped r ∷ allStamped rs
+
+abbrev pub withoutTicks : List CaptureRecord → List CaptureRecord
+withoutTicks [] = []
+withoutTicks (x ∷ l) = pick (isTick x) (withoutTicks l) (x ∷ withoutTicks l)
+
+-- the commands of a capture's bytes s, each with its cycle modulo 65,536 for the stamp, are its records without the ticks; their transaction
+-- numbers are 0
+pub record NothingLost (s : List ℕ) : Type 0 where
+  pub records : allStamped (commandsSeen s) ≡ withoutTicks (recordsIn s)
+  pub numbers : unnumbered (commandsSeen s) ≡ commandsSeen s

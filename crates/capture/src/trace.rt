@@ -5,7 +5,6 @@ use crate::write::write_commands;
 use judge::schedule::verdict_on;
 use records::refusal::refuse;
 use records::table::Table;
-ghost use mathlib.Core.Path.{_≡_};
 ghost use Prim.Native.Nat.{_≤_};
 ghost use Rattle.capture.specs.Answer.{captured, LeavesCapture};
 

@@ -31,7 +31,6 @@ use Rattle.lists.specs.declared.check.Checked.{Checked}
 use Rattle.lists.specs.declared.check.Checked.the-variants.{Refused as NotFine}
 use Rattle.lists.specs.Check.{rangeFrom, checkList, checkBytes, checkInto}
 use Rattle.lists.specs.Decode.{decodedBy, decoding}
-use Rattle.controller.specs.Controller.{tells}
 use Rattle.desk.specs.Admit.{admitted}
 use Rattle.desk.specs.Judging.{judging, PatternTold}
 use Rattle.desk.specs.Transactions.{reading}

@@ -41,12 +41,14 @@ use Rattle.controller.specs.Run.{RunLeft, ranLeft, refusedLeft, runController}
 use Rattle.refusals.specs.Refused.{sound, runRefusal}
 use Rattle.desk.specs.Admit.{expecting, admitted}
 use Rattle.desk.specs.Judging.{judging, PatternTold}
+use Rattle.desk.specs.Tracing.{capturing}
 use Rattle.desk.specs.Bounds.{bounding}
 use Rattle.desk.specs.Transactions.{reading}
 use Rattle.desk.specs.Schedules.{BuildsChecked, Schedules}
 use Rattle.desk.specs.Running.{starting, runsChecked, running}
-use Rattle.desk.specs.Numbers.{Numbers, telling, refusing, judgedNumbers, patternNumbers, boundNumbers, readNumbers, buildNumbers, startNumbers, runNumbers}
-use Rattle.demands.specs.Causes.{Row, row, FirstRow, tableRows, lowestOut, listRows, fewBytes, fewInto, buildRows, runRows, scheduleRow, Causes}
+use Rattle.desk.specs.Numbers.{Numbers, telling, refusing, judgedNumbers, patternNumbers, captureNumbers, boundNumbers, readNumbers, buildNumbers, startNumbers, runNumbers}
+use Rattle.demands.specs.Causes.{Row, row, FirstRow, tableRows, lowestOut, listRows, fewBytes, fewInto, buildRows, runRows, scheduleRow, captureRows, Causes}
+use Rattle.demands.proofs.Captures.{capture-rows}
 
 -- an answer tells a number and a position
 abbrev Tells : Numbers → ℕ → ℕ → Type 0
@@ -257,11 +259,18 @@ module _ (expected : ℕ) (table : List ℕ) where
         rows : List Row
         rows = runRows t l c n (length b)
 
+  capture-told : (s b : List ℕ) → FirstRow (tableRows expected table (captureRows s (length b))) (captureNumbers (capturing (admitted expected table) s b .answer))
+  unfolding capturing
+  capture-told s b =
+      by-table expected table (λ a n. n ≡ captureNumbers (capturing a s b .answer)) (captureRows s (length b)) (λ x a e. e)
+      (λ a e. subst (FirstRow (captureRows s (length b))) (sym e) (capture-rows t s b)) (captureNumbers (capturing (admitted expected table) s b .answer)) refl
+
   pub causes : Causes expected table
   causes =
       record {
         judge = judge-told;
         judgePattern = pattern-told;
+        judgeCapture = capture-told;
         bound = bound-said;
         readTransactions = read-told;
         schedule = λ l. build-told (λ τ. checkList τ l) (leb (length l) 256) l (list-sized t l);

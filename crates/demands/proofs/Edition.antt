@@ -47,16 +47,18 @@ use Rattle.controller.proofs.Halves.{refused}
 use Rattle.desk.specs.declared.running.StartAnswer.{StartAnswer}
 use Rattle.desk.specs.Admit.{expecting, admitted, editionOf}
 use Rattle.desk.specs.Judging.{judging, PatternTold}
+use Rattle.desk.specs.Tracing.{capturing}
 use Rattle.desk.specs.Bounds.{bounding}
 use Rattle.desk.specs.Transactions.{reading}
 use Rattle.desk.specs.Schedules.{BuildsChecked, Schedules}
 use Rattle.desk.specs.Running.{starting, runsChecked, running}
-use Rattle.desk.specs.Numbers.{judgedNumbers, patternNumbers, boundNumbers, readNumbers, buildNumbers, startNumbers, runNumbers}
+use Rattle.desk.specs.Numbers.{judgedNumbers, patternNumbers, captureNumbers, boundNumbers, readNumbers, buildNumbers, startNumbers, runNumbers}
 use Rattle.demands.specs.Demands.{NotAdmitted, Demand1}
 use Rattle.desk.proofs.Laws.{expected-read, read-accepted}
 use Rattle.demands.proofs.Causes.{causes}
 use Rattle.demands.proofs.RecordCauses.{record-causes}
-use Rattle.demands.proofs.Stood.{unread, unbuilt, unrun, table-unwritten, transaction-unwritten, command-unwritten}
+use Rattle.demands.proofs.Stood.{unread, unbuilt, unrun, table-unwritten, transaction-unwritten, command-unwritten, capture-unwritten}
+use Rattle.demands.proofs.Captures.{uncaptured, capture-names, capture-names-refused}
 
 -- ---- the table
 
@@ -188,6 +190,10 @@ pattern-names (Read τ) s L (PatternVerdict e v) p = p .1
 pattern-names (Read τ) s L (PatternNotJudged x) p = ap (λ (y : Refusal). y .edition) (p .1)
 pattern-names (Refused x) s L r p = ap patternNames p
 
+capture-told : (a : TableRead) (s b : List ℕ) → captureNumbers (capturing a s b .answer) .edition ≡ told a
+capture-told (Read τ) s b = capture-names τ s b
+capture-told (Refused x) s b = capture-names-refused x s b
+
 bound-names : (a : TableRead) → (bi bc : ℕ) → boundNames (bounding a bi bc) ≡ told a
 unfolding bounding boundTold
 bound-names (Read τ) bi bc =
@@ -258,11 +264,14 @@ demand-1 expected table =
       unread = unread a;
       unbuilt = λ check l b₀ b f₀ f x. unbuilt l b₀ b f₀ f x check a;
       unrun = λ check c l n b x. unrun c l n b x check a;
+      uncaptured = uncaptured a;
       tableUnwritten = table-unwritten;
       transactionUnwritten = transaction-unwritten;
       commandUnwritten = command-unwritten;
+      captureUnwritten = capture-unwritten;
       judge = λ s. judge-names a s ∙ e;
       pattern = λ s L r p. pattern-names a s L r p ∙ e;
+      capture = λ s b. capture-told a s b ∙ e;
       bound = λ bi bc. bound-names a bi bc ∙ e;
       read = λ s l. read-names a s l ∙ e;
       schedule = λ l b₀ b f₀ f r p. schedule-names l b₀ b f₀ f (λ τ. checkList τ l) (λ τ x. list-names τ x l) a r p ∙ e;

@@ -7,18 +7,17 @@ use mathlib.Core.Logic.{_↔_}
 use mathlib.Core.List.{List, [], _∷_}
 use native.Mathlib.Omega.{arith}
 use lib.Dec.{ltb}
-use lib.ListN.{length, take, drop}
-use lib.Seq.{take-at}
+use lib.ListN.{length, take}
 use borrow.Author.Tests.{le-ltb}
 use Rattle.records.specs.declared.table.Table.{Table}
 use Rattle.records.specs.declared.table.TableRead.{TableRead}
 use Rattle.records.specs.declared.table.TableRead.the-variants.{Read}
 use Rattle.records.specs.declared.transaction.Transaction.{Transaction}
-use Rattle.records.specs.declared.command.Command.{Command}
 use Rattle.records.specs.Tests.{pick}
-use Rattle.records.specs.Told.{refusal, over}
-use Rattle.records.specs.Command.{commandsIn, bytesOfAll}
+use Rattle.records.specs.Told.{refusal}
+use Rattle.records.specs.Command.{commandsIn}
 use Rattle.records.proofs.Laws.{answers, answered}
+use Rattle.records.proofs.Written.{bytes-stand}
 use Rattle.rules.specs.declared.verdict.Rule.{Rule}
 use Rattle.rules.specs.declared.verdict.Verdict.{Verdict as Says}
 use Rattle.rules.specs.declared.verdict.Verdict.the-variants.{Refused as Broken}
@@ -33,7 +32,6 @@ use Rattle.judge.specs.declared.answer.PatternJudged.{PatternJudged}
 use Rattle.judge.specs.declared.answer.PatternJudged.the-variants.{Verdict as PatternVerdict, Refused as PatternNotJudged}
 use Rattle.judge.specs.Answer.{scheduleRefusal, patternRefusal, judged}
 use Rattle.judge.proofs.Accepts.{pattern-accepts}
-use Rattle.engine.proofs.Going.{length-bytes}
 use Rattle.builder.specs.declared.build.BuildAnswer.the-variants.{Built}
 use Rattle.builder.specs.Build.{Stands}
 use Rattle.lists.specs.declared.check.Checked.{Checked}
@@ -56,10 +54,6 @@ module _ (τ : Table) (l : List Transaction) (b₀ b f₀ f : List ℕ) (e n : �
   stands : (check : Table → Checked) → Schedules check (Read τ) l b₀ b f₀ f (Built e n) → Stands τ l b₀ b f₀ f n
   unfolding Schedules
   stands check h = checked-stands (check τ) h
-
--- the bytes of a schedule stand at the start of the buffer
-pub bytes-stand : (rs : List Command) (b₀ b : List ℕ) → b ≡ over (bytesOfAll rs) b₀ → take (8 * length rs) b ≡ bytesOfAll rs
-bytes-stand rs b₀ b e = ap (take (8 * length rs)) e ∙ take-at (bytesOfAll rs) (drop (length (bytesOfAll rs)) b₀) (8 * length rs) (length-bytes rs)
 
 -- ---- of a table that is read
 

@@ -1,4 +1,5 @@
 -- The theorems about the public calls.
+pub mod Captures
 pub mod Causes
 pub mod RecordCauses
 pub mod Stood
@@ -10,3 +11,4 @@ pub mod RunsOn
 pub mod NeverRuns
 pub mod CallLaws
 pub mod Calls
+pub mod Traces

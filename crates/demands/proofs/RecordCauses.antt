@@ -1,15 +1,13 @@
 -- Each call on one record tells the first row of document 01's table that applies.
 -- Assumes nothing.
 use Prim.Native.Nat.{ℕ}
-use mathlib.Core.Bool.{not, _&&_}
+use mathlib.Core.Bool.{not}
 use mathlib.Core.Path.{refl}
-use mathlib.Core.List.{List, []}
+use mathlib.Core.List.{List}
 use lib.Dec.{leb, eqb}
 use lib.ListN.{length}
 use Rattle.records.specs.declared.table.TableRead.the-variants.{Read as TableIs, Refused as NoTable}
-use Rattle.records.specs.declared.transaction.Transaction.{Transaction}
 use Rattle.records.specs.declared.transaction.TransactionRead.the-variants.{Read as TransactionIs, Refused as NoTransaction}
-use Rattle.records.specs.declared.command.Command.{Command}
 use Rattle.records.specs.declared.command.CommandRead.the-variants.{Read as CommandIs, Refused as NoCommand}
 use Rattle.records.specs.declared.refusal.Written.the-variants.{Done, Refused as NotWritten}
 use Rattle.records.specs.Told.{refusal, over, Wrote}
@@ -17,7 +15,9 @@ use Rattle.records.specs.Little.{bytes16}
 use Rattle.records.specs.Table.{tableOf, tableAt, inRange, tableRefusal, readTable, writeTable}
 use Rattle.records.specs.Transaction.{transactionAt, fitsIn, transactionRefusal, readTransaction, writeTransaction, bytesOf as transactionBytes}
 use Rattle.records.specs.Command.{commandAt, commandRefusal, roomRefusal, readCommand, writeCommand, bytesOf as commandBytes}
-use Rattle.desk.specs.Numbers.{writtenNumbers, tableNumbers, transactionNumbers, commandNumbers}
+use Rattle.capture.specs.declared.one_record.CaptureRecordRead.the-variants.{Read as RecordIs, Refused as NoRecord}
+use Rattle.capture.specs.Record.{recordAt, bytesOfRecord, recordRefusal, readCaptureRecord, recordRoom, writeCaptureRecord}
+use Rattle.desk.specs.Numbers.{writtenNumbers, tableNumbers, transactionNumbers, commandNumbers, captureRecordNumbers}
 use Rattle.demands.specs.Causes.{RecordCauses}
 use Rattle.demands.proofs.Causes.{one, two, by-number}
 
@@ -27,7 +27,7 @@ module _ (s : List ℕ) where
   kept z = record { answer = NotWritten (refusal z 0 0); buffer = s }
 
   pub record-causes : RecordCauses s
-  unfolding readTable writeTable readTransaction writeTransaction readCommand writeCommand
+  unfolding readTable writeTable readTransaction writeTransaction readCommand writeCommand readCaptureRecord writeCaptureRecord
   record-causes =
       record {
         tableRead =
@@ -54,4 +54,12 @@ module _ (s : List ℕ) where
             let z = roomRefusal (length s) in
             one 5 (not (leb 8 (length s))) (writtenNumbers (writeCommand c s .answer))
             (by-number (λ (w : Wrote). writtenNumbers (w .answer)) z (record { answer = Done 0; buffer = over (commandBytes c) s }) (kept z) (refl, refl) (refl, refl));
+        captureRead =
+            let z = recordRefusal (length s) in
+            one 7 (not (eqb (length s) 4)) (captureRecordNumbers (readCaptureRecord s))
+            (by-number captureRecordNumbers z (RecordIs (recordAt s 0)) (NoRecord (refusal z 0 0)) (refl, refl) (refl, refl));
+        captureWritten = λ x.
+            let z = recordRoom (length s) in
+            one 5 (not (leb 4 (length s))) (writtenNumbers (writeCaptureRecord x s .answer))
+            (by-number (λ (w : Wrote). writtenNumbers (w .answer)) z (record { answer = Done 0; buffer = over (bytesOfRecord x) s }) (kept z) (refl, refl) (refl, refl));
       }

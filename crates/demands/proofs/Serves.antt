@@ -1,11 +1,11 @@
 -- Demand 3: for every accepted table and list that fits, with room for the result, the schedule is built, it stands in the buffer, it passes the
 -- judge as it stands there, it serves every transaction within its bound, and transactions added at the end move nothing.
 -- Assumes nothing.
-use Prim.Native.Nat.{ℕ, zero, suc, _+_, _*_, _/_, _%_, _≤_, _<_}
+use Prim.Native.Nat.{ℕ, suc, _+_, _*_, _/_, _%_, _≤_, _<_}
 use mathlib.Core.Bool.{true, false}
 use mathlib.Core.Path.{_≡_, refl, sym, ap, _∙_, subst}
 use mathlib.Core.Option.{some}
-use mathlib.Core.List.{List, [], _∷_, append-nil}
+use mathlib.Core.List.{List}
 use native.Mathlib.Omega.{arith}
 use native.Mathlib.Nat.{zero-add}
 use lib.Dec.{leb}
@@ -21,8 +21,9 @@ use Rattle.records.specs.Tests.{every}
 use Rattle.records.specs.Told.{over}
 use Rattle.records.specs.Table.{Accepted}
 use Rattle.records.specs.Transaction.{transactionsIn, isRefresh, fits, listFits}
-use Rattle.records.specs.Command.{commandsFrom, commandsIn, bytesOfAll}
+use Rattle.records.specs.Command.{commandsIn, bytesOfAll}
 use Rattle.records.proofs.Laws.{and-left, and-right}
+use Rattle.records.proofs.Written.{length-bytes, bytes-stand, read-whole}
 use Rattle.rules.specs.declared.verdict.Verdict.the-variants.{Accepted as Passed}
 use Rattle.rules.specs.Queues.{actQueue, dataQueue}
 use Rattle.rules.specs.Verdict.{Legal}
@@ -38,8 +39,6 @@ use Rattle.judge.specs.declared.answer.Judged.the-variants.{Verdict}
 use Rattle.judge.specs.Answer.{scheduleRefusal}
 use Rattle.judge.proofs.Accepts.{judge-accepts}
 use Rattle.engine.specs.Build.{finishesFrom}
-use Rattle.engine.proofs.Going.{length-bytes}
-use Rattle.engine.proofs.Marks.{Each, Readable, read-back}
 use Rattle.engine.proofs.Schedule.{ours, readable, finishes-length, finish-at}
 use Rattle.builder.specs.declared.bound.BoundAnswer.the-variants.{Bound}
 use Rattle.builder.specs.declared.build.BuildAnswer.{BuildAnswer}
@@ -57,7 +56,6 @@ use Rattle.desk.specs.Bounds.{bounding}
 use Rattle.desk.specs.Schedules.{BuildsChecked, Schedules}
 use Rattle.demands.specs.Demands.{Demand3, Room}
 use Rattle.desk.proofs.Laws.{read-accepted, fine-listed, schedules-same}
-use Rattle.demands.proofs.Judges.{bytes-stand}
 
 -- ---- the built schedule's bytes pass the judge
 
@@ -74,13 +72,6 @@ few-due τ acc l fit =
 -- number 7 does not refuse so many records
 few-judged : (size n : ℕ) → size ≡ 8 * n → n ≤ 69632 → scheduleRefusal size ≡ 0
 few-judged size n e h = rw (eq-eqb (size % 8) 0 (omega arith), le-ltb 69632 (size / 8) (omega arith))
-
--- what was written is read
-read-whole : (rs : List Command) → Each Readable rs → commandsIn (bytesOfAll rs) ≡ rs
-read-whole rs r =
-    let count : length (bytesOfAll rs) / 8 ≡ length rs = omega (arith, length-bytes rs) in
-    ap (λ (n : ℕ). commandsFrom (bytesOfAll rs) n 0) count
-    ∙ (ap (λ (s : List ℕ). commandsFrom s (length rs) 0) (sym (append-nil (bytesOfAll rs))) ∙ read-back [] rs [] r)
 
 module _ (τ : Table) (acc : Accepted τ) (l : List Transaction) (fit : listFits τ l ≡ true) (rs : List Command) (q : Kept τ l rs) where
   bytes-pass : judging (Read τ) (bytesOfAll rs) ≡ Verdict (τ .edition) Passed

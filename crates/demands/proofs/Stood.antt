@@ -20,6 +20,8 @@ use Rattle.records.specs.Little.{bytes16}
 use Rattle.records.specs.Table.{tableOf, tableRefusal, writeTable}
 use Rattle.records.specs.Transaction.{transactionRefusal, writeTransaction, bytesOf as transactionBytes}
 use Rattle.records.specs.Command.{roomRefusal, writeCommand, bytesOf as commandBytes}
+use Rattle.capture.specs.declared.one_record.CaptureRecord.{CaptureRecord}
+use Rattle.capture.specs.Record.{bytesOfRecord, recordRoom, writeCaptureRecord}
 use Rattle.builder.specs.declared.build.BuildAnswer.the-variants.{Refused as NotBuilt}
 use Rattle.lists.specs.declared.check.Checked.{Checked}
 use Rattle.lists.specs.declared.check.Checked.the-variants.{Fine, Refused as NotFine}
@@ -90,3 +92,7 @@ transaction-unwritten t s x e = unwritten (transactionRefusal (length s) t) (rec
 pub command-unwritten : (c : Command) (s : List ℕ) (x : Refusal) → writeCommand c s .answer ≡ NotWritten x → writeCommand c s .buffer ≡ s
 unfolding writeCommand
 command-unwritten c s x e = unwritten (roomRefusal (length s)) (record { answer = Done 0; buffer = over (commandBytes c) s }) s x e (done-not 0)
+
+pub capture-unwritten : (c : CaptureRecord) (s : List ℕ) (x : Refusal) → writeCaptureRecord c s .answer ≡ NotWritten x → writeCaptureRecord c s .buffer ≡ s
+unfolding writeCaptureRecord
+capture-unwritten c s x e = unwritten (recordRoom (length s)) (record { answer = Done 0; buffer = over (bytesOfRecord c) s }) s x e (done-not 0)

@@ -15,6 +15,10 @@ use Rattle.records.specs.Transaction.{transactionAt, transactionsIn, fitsIn, fi
 use Rattle.records.specs.Command.{readCommand, writeCommand}
 use Rattle.rules.specs.Queues.{actQueue, dataQueue}
 use Rattle.judge.specs.declared.answer.PatternJudged.{PatternJudged}
+use Rattle.capture.specs.declared.one_record.CaptureRecord.{CaptureRecord}
+use Rattle.capture.specs.Record.{readCaptureRecord, writeCaptureRecord}
+use Rattle.capture.specs.Capture.{timedIn, lowest}
+use Rattle.capture.specs.Answer.{commandsSeen}
 use Rattle.builder.specs.declared.build.BuildAnswer.{BuildAnswer}
 use Rattle.lists.specs.Check.{checkList, checkBytes}
 use Rattle.refusals.specs.Refused.{sound}
@@ -22,11 +26,12 @@ use Rattle.controller.specs.declared.controller.Controller.{Controller}
 use Rattle.controller.specs.Controller.{tells}
 use Rattle.desk.specs.Admit.{admitted}
 use Rattle.desk.specs.Judging.{judging, PatternTold}
+use Rattle.desk.specs.Tracing.{capturing}
 use Rattle.desk.specs.Bounds.{bounding}
 use Rattle.desk.specs.Transactions.{reading}
 use Rattle.desk.specs.Schedules.{Schedules}
 use Rattle.desk.specs.Running.{starting, running}
-use Rattle.desk.specs.Numbers.{Numbers, writtenNumbers, tableNumbers, transactionNumbers, commandNumbers, judgedNumbers, patternNumbers, boundNumbers, readNumbers, buildNumbers, startNumbers, runNumbers}
+use Rattle.desk.specs.Numbers.{Numbers, writtenNumbers, tableNumbers, transactionNumbers, commandNumbers, captureRecordNumbers, judgedNumbers, patternNumbers, captureNumbers, boundNumbers, readNumbers, buildNumbers, startNumbers, runNumbers}
 
 -- a row: its number, its position, and whether it applies
 pub record Row : Type 0 where
@@ -84,12 +89,23 @@ runRows τ l c count room =
 abbrev pub scheduleRow : List ℕ → Row
 scheduleRow s = row 7 0 (not (eqb (length s % 8) 0) || ltb 69632 (length s / 8))
 
+-- of a capture, document 02, request 6: 7, "bytes not a multiple of 4, or over 69,632 records"; 11, "at the lowest such record: a stamp equal to
+-- the one before it, or a true cycle above 4,294,967,295"; 5, "room for the commands"
+abbrev pub captureRows : List ℕ → ℕ → List Row
+captureRows s room =
+    row 7 0 (not (eqb (length s % 4) 0) || ltb 69632 (length s / 4))
+    ∷ row 11 (lowest (timedIn s)) (ltb (lowest (timedIn s)) (length s / 4))
+    ∷ row 5 0 (ltb room (8 * length (commandsSeen s)))
+    ∷ []
+
 -- "A call makes only the checks on things it's given"
 pub record Causes (expected : ℕ) (table : List ℕ) : Type 0 where
   pub judge : (s : List ℕ) → FirstRow (tableRows expected table (scheduleRow s ∷ [])) (judgedNumbers (judging (admitted expected table) s))
   -- 8: "pattern length 0"
   pub judgePattern : (s : List ℕ) (L : ℕ) (r : PatternJudged) → PatternTold (admitted expected table) s L r
       → FirstRow (tableRows expected table (scheduleRow s ∷ row 8 0 (eqb L 0) ∷ [])) (patternNumbers r)
+  pub judgeCapture : (s b : List ℕ)
+      → FirstRow (tableRows expected table (captureRows s (length b))) (captureNumbers (capturing (admitted expected table) s b .answer))
   -- "the bound gives 4, position 0, for BI or BC outside 1 to 16 or BI above banks"
   pub bound : (bi bc : ℕ) → FirstRow (tableRows expected table (row 4 0 (not (within 1 16 bi && (within 1 16 bc && leb bi (tableAt table .banks)))) ∷ []))
       (boundNumbers (bounding (admitted expected table) bi bc))
@@ -121,3 +137,6 @@ pub record RecordCauses (s : List ℕ) : Type 0 where
       → FirstRow (row 3 0 (not (eqb (length s) 4)) ∷ row 4 0 (not (fitsIn 16 1 x)) ∷ []) (writtenNumbers (writeTransaction x s .answer))
   pub commandRead : FirstRow (row 7 0 (not (eqb (length s) 8)) ∷ []) (commandNumbers (readCommand s))
   pub commandWritten : (c : Command) → FirstRow (row 5 0 (not (leb 8 (length s))) ∷ []) (writtenNumbers (writeCommand c s .answer))
+  -- a capture record's as a command's, by its own size
+  pub captureRead : FirstRow (row 7 0 (not (eqb (length s) 4)) ∷ []) (captureRecordNumbers (readCaptureRecord s))
+  pub captureWritten : (x : CaptureRecord) → FirstRow (row 5 0 (not (leb 4 (length s))) ∷ []) (writtenNumbers (writeCaptureRecord x s .answer))

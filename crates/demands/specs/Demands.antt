@@ -37,6 +37,9 @@ use Rattle.rules.specs.Demands.{FineTo}
 use Rattle.judge.specs.declared.answer.Judged.the-variants.{Verdict}
 use Rattle.judge.specs.declared.answer.PatternJudged.{PatternJudged}
 use Rattle.judge.specs.Answer.{scheduleRefusal, patternRefusal}
+use Rattle.capture.specs.declared.one_record.CaptureRecord.{CaptureRecord}
+use Rattle.capture.specs.declared.answer.CaptureJudged.the-variants.{Refused as NotCaptured}
+use Rattle.capture.specs.Record.{writeCaptureRecord}
 use Rattle.builder.specs.declared.bound.BoundAnswer.the-variants.{Bound}
 use Rattle.builder.specs.declared.build.BuildAnswer.{BuildAnswer}
 use Rattle.builder.specs.declared.build.BuildAnswer.the-variants.{Built, Refused as NotBuilt}
@@ -47,12 +50,13 @@ use Rattle.controller.specs.declared.controller.Controller.{Controller}
 use Rattle.controller.specs.declared.run.RunAnswer.the-variants.{Refused as NotRun}
 use Rattle.desk.specs.Admit.{admitted, editionOf}
 use Rattle.desk.specs.Judging.{judging, PatternTold}
+use Rattle.desk.specs.Tracing.{capturing}
 use Rattle.desk.specs.Bounds.{bounding}
 use Rattle.desk.specs.Transactions.{reading}
 use Rattle.desk.specs.Schedules.{Schedules}
 use Rattle.desk.specs.Running.{starting, running}
 use Rattle.demands.specs.Causes.{Causes, RecordCauses}
-use Rattle.desk.specs.Numbers.{telling, ruleNumber, commandNumbers, judgedNumbers, patternNumbers, boundNumbers, readNumbers, buildNumbers, startNumbers, runNumbers}
+use Rattle.desk.specs.Numbers.{telling, ruleNumber, commandNumbers, judgedNumbers, patternNumbers, captureNumbers, boundNumbers, readNumbers, buildNumbers, startNumbers, runNumbers}
 
 -- why a table is not admitted: number 1 by its size alone, number 2 by a number out of range, number 10 by its edition
 abbrev pub NotAdmitted : ℕ → List ℕ → Refusal → Type 0
@@ -77,13 +81,16 @@ pub record Demand1 (expected : ℕ) (table : List ℕ) : Type 0 where
   pub unrun : (check : Table → Checked) (c : Controller) (l : List Transaction) (n : ℕ) (b : List ℕ) (x : Refusal)
       → running check (admitted expected table) c l n b .told .answer ≡ NotRun x
       → (running check (admitted expected table) c l n b .told .controller ≡ c) × (running check (admitted expected table) c l n b .buffer ≡ b)
+  pub uncaptured : (s b : List ℕ) (x : Refusal) → capturing (admitted expected table) s b .answer ≡ NotCaptured x → capturing (admitted expected table) s b .buffer ≡ b
   -- nor a byte of the buffer of a call that writes one record
   pub tableUnwritten : (l s : List ℕ) (x : Refusal) → writeTable l s .answer ≡ NotWritten x → writeTable l s .buffer ≡ s
   pub transactionUnwritten : (t : Transaction) (s : List ℕ) (x : Refusal) → writeTransaction t s .answer ≡ NotWritten x → writeTransaction t s .buffer ≡ s
   pub commandUnwritten : (c : Command) (s : List ℕ) (x : Refusal) → writeCommand c s .answer ≡ NotWritten x → writeCommand c s .buffer ≡ s
+  pub captureUnwritten : (c : CaptureRecord) (s : List ℕ) (x : Refusal) → writeCaptureRecord c s .answer ≡ NotWritten x → writeCaptureRecord c s .buffer ≡ s
   -- the table's edition, in every answer and every refusal, whichever was expected
   pub judge : (s : List ℕ) → judgedNumbers (judging (admitted expected table) s) .edition ≡ editionOf (readTable table)
   pub pattern : (s : List ℕ) (L : ℕ) (r : PatternJudged) → PatternTold (admitted expected table) s L r → patternNumbers r .edition ≡ editionOf (readTable table)
+  pub capture : (s b : List ℕ) → captureNumbers (capturing (admitted expected table) s b .answer) .edition ≡ editionOf (readTable table)
   pub bound : (bi bc : ℕ) → boundNumbers (bounding (admitted expected table) bi bc) .edition ≡ editionOf (readTable table)
   pub read : (s : List ℕ) (l : List Transaction) → readNumbers (reading (admitted expected table) s l .answer) .edition ≡ editionOf (readTable table)
   pub schedule : (l : List Transaction) (b₀ b f₀ f : List ℕ) (r : BuildAnswer) → Schedules (λ τ. checkList τ l) (admitted expected table) l b₀ b f₀ f r

@@ -1,5 +1,6 @@
 pub mod Causes
 pub mod Demands
 pub mod Runs
+pub mod Traces
 pub mod Handed
 pub mod Calls

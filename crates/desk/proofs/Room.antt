@@ -19,18 +19,18 @@ use Rattle.records.specs.Command.{bytesOfAll}
 use Rattle.rules.specs.Run.{Ran as RanTo, run}
 use Rattle.heads.proofs.Laws.{length-from}
 use Rattle.engine.specs.Build.{finishesFrom}
-use Rattle.engine.proofs.Going.{length-bytes}
+use Rattle.records.proofs.Written.{length-bytes}
 use Rattle.engine.proofs.Schedule.{finishes-length}
 use Rattle.lists.specs.declared.check.Checked.{Checked}
 use Rattle.lists.specs.declared.check.Checked.the-variants.{Fine, Refused as NotFine}
 use Rattle.lists.specs.Check.{checkBytes}
-use Rattle.builder.specs.Build.{Stands, LeavesBuild}
+use Rattle.builder.specs.Build.{Stands}
 use Rattle.builder.specs.declared.build.BuildAnswer.{BuildAnswer}
-use Rattle.builder.specs.declared.build.BuildAnswer.the-variants.{Built, Refused as NotBuilt}
+use Rattle.builder.specs.declared.build.BuildAnswer.the-variants.{Built}
 use Rattle.controller.specs.declared.controller.Controller.{Controller}
 use Rattle.controller.specs.declared.run.RunReport.{RunReport}
 use Rattle.controller.specs.declared.run.RunTold.{RunTold}
-use Rattle.controller.specs.declared.run.RunAnswer.the-variants.{Ran, Refused as NotRun}
+use Rattle.controller.specs.declared.run.RunAnswer.the-variants.{Ran}
 use Rattle.refusals.specs.Refused.{runRefusal}
 use Rattle.controller.specs.Controller.{tells}
 use Rattle.controller.specs.Run.{RunLeft, written, ranLeft, refusedLeft, runController, LeavesRun}

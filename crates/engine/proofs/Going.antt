@@ -15,6 +15,7 @@ use Rattle.records.specs.declared.table.Table.{Table}
 use Rattle.records.specs.declared.command.Command.{Command}
 use Rattle.records.specs.Command.{bytesOf, bytesOfAll}
 use Rattle.records.proofs.Bytes.{length-over, over-more}
+use Rattle.records.proofs.Written.{bytes-append, length-bytes}
 use Rattle.rules.specs.declared.state.State.{State}
 use Rattle.rules.specs.Kinds.{isData, inActQueue}
 use Rattle.rules.specs.State.{addIf, note, idle, after}
@@ -42,14 +43,6 @@ use Rattle.engine.proofs.Laws.{Leaves, leaves}
 onto-after : (h g : List Command) → onto h g ≡ onto h [] ++ g
 onto-after [] g = refl
 onto-after (r ∷ h) g = onto-after h (r ∷ g) ∙ (sym (append-assoc (onto h []) (r ∷ []) g) ∙ ap (λ (l : List Command). l ++ g) (sym (onto-after h (r ∷ []))))
-
-bytes-append : (a b : List Command) → bytesOfAll (a ++ b) ≡ bytesOfAll a ++ bytesOfAll b
-bytes-append [] b = refl
-bytes-append (c ∷ a) b = ap (λ (l : List ℕ). bytesOf c ++ l) (bytes-append a b) ∙ sym (append-assoc (bytesOf c) (bytesOfAll a) (bytesOfAll b))
-
-pub length-bytes : (rs : List Command) → length (bytesOfAll rs) ≡ 8 * length rs
-length-bytes [] = refl
-length-bytes (c ∷ rs) = length-append (bytesOf c) (bytesOfAll rs) ∙ omega (arith, length-bytes rs)
 
 -- the bytes of a history, oldest first
 abbrev written : List Command → List ℕ

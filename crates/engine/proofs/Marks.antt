@@ -1,26 +1,23 @@
--- The pass over written commands: what it leaves at each number, and that the bytes are read as the commands that they were.
+-- The pass over written commands: what it leaves at each number.
 -- Assumes nothing.
 use Prim.Native.Nat.{ℕ, zero, suc, _+_, _*_, _<_}
 use native.Mathlib.Omega.{arith}
 use mathlib.Core.Path.{_≡_, refl, sym, ap, _∙_, subst}
 use mathlib.Core.Logic.{⊎-elim}
 use mathlib.Core.Bool.{Bool, true, false, _&&_}
-use mathlib.Core.List.{List, [], _∷_, _++_, append-assoc}
+use mathlib.Core.List.{List, [], _∷_, _++_}
 use lib.Dec.{ltb, eqb}
-use lib.ListN.{length, getD, set, length-set, length-append}
-use lib.Seq.{getD-set-same, getD-set-other, getD-append-add}
+use lib.ListN.{length, getD, set, length-set}
+use lib.Seq.{getD-set-same, getD-set-other}
 use borrow.Author.Tests.{ltb-true, eq-eqb, ne-eqb}
 use Rattle.records.specs.Tests.{pick, every}
-use Rattle.records.specs.declared.command.Kind.{Kind}
-use Rattle.records.specs.declared.command.Kind.the-variants.{Act, Rd, Rda, Wr, Wra, Ref, Other}
 use Rattle.records.specs.declared.command.Command.{Command}
-use Rattle.records.specs.Command.{kindOf, kindNumber, commandAt, commandsFrom, bytesOf, bytesOfAll}
-use Rattle.records.proofs.Inverse.{le16-of, le32-of}
+use Rattle.records.specs.Command.{commandAt, commandsFrom}
 use Rattle.rules.specs.declared.state.Stamp.the-variants.{At}
-use Rattle.rules.specs.Kinds.{canEnd, isKnown}
+use Rattle.rules.specs.Kinds.{canEnd}
 use Rattle.rules.specs.Pattern.{onto}
 use Rattle.rules.specs.Finish.{lastCommandIn, lastCommand}
-use Rattle.rules.proofs.TestLaws.{true-false, and-fst, and-snd}
+use Rattle.rules.proofs.TestLaws.{and-fst, and-snd}
 use Rattle.rules.proofs.Numbers.{same?}
 use Rattle.engine.specs.Build.{cycleOr, Marked}
 
@@ -114,56 +111,3 @@ module _ (s : List ℕ) (m j : ℕ) (f₀ f : List ℕ) (h : Marked (commandsFro
 
     pub skips : d ≡ false → Marked (commandsFrom s (j + 1) 0) f₀ f
     skips y = rw (one-more s j, ← q) (passes (commandsFrom s j 0) f₀ f h c (sym z ∙ y))
-
--- ---- what was written is read
-
--- what holds of each command
-abbrev pub Each : (Command → Type 0) → List Command → Type 0
-Each P [] = Unit {0}
-Each P (c ∷ cs) = P c × Each P cs
-
-pub record Readable (c : Command) : Type 0 where
-  pub cycle : c .cycle < 4294967296
-  pub known : isKnown (c .kind) ≡ true
-
-kind-back : (k : Kind) → isKnown k ≡ true → kindOf (kindNumber k) ≡ k
-kind-back Act e = refl
-kind-back Rd e = refl
-kind-back Rda e = refl
-kind-back Wr e = refl
-kind-back Wra e = refl
-kind-back Ref e = refl
-kind-back (Other n) e = true-false false e refl
-
--- the command whose bytes follow others
-command-after : (p : List ℕ) (c : Command) (u : List ℕ) → Readable c → commandAt (p ++ (bytesOf c ++ u)) (length p) ≡ c
-command-after p c u r =
-    moved ∙ rw (le32-of (c .cycle) (r .cycle), kind-back (c .kind) (r .known), le16-of (c .number))
-  where
-    at : (i : ℕ) → getD (p ++ (bytesOf c ++ u)) (length p + i) 0 ≡ getD (bytesOf c ++ u) i 0
-    at i = getD-append-add p (bytesOf c ++ u) i 0
-
-    z : length p ≡ length p + 0
-    z = omega arith
-
-    s : length p + 6 + 1 ≡ length p + 7
-    s = omega arith
-
-    moved : commandAt (p ++ (bytesOf c ++ u)) (length p) ≡ commandAt (bytesOf c ++ u) 0
-    moved =
-        rw (s, at 1, at 2, at 3, at 4, at 5, at 6, at 7) (ap (λ (x : ℕ). record {
-          cycle = x + getD (bytesOf c ++ u) 1 0 * 256 + getD (bytesOf c ++ u) 2 0 * 65536 + getD (bytesOf c ++ u) 3 0 * 16777216;
-          kind = kindOf (getD (bytesOf c ++ u) 4 0);
-          bank = getD (bytesOf c ++ u) 5 0;
-          number = getD (bytesOf c ++ u) 6 0 + getD (bytesOf c ++ u) 7 0 * 256;
-        }) (ap (λ (i : ℕ). getD (p ++ (bytesOf c ++ u)) i 0) z ∙ at 0))
-
-pub read-back : (p : List ℕ) (cs : List Command) (u : List ℕ) → Each Readable cs → commandsFrom (p ++ (bytesOfAll cs ++ u)) (length cs) (length p) ≡ cs
-unfolding commandsFrom
-read-back p [] u r = refl
-read-back p (c ∷ cs) u r =
-    rw (append-assoc (bytesOf c) (bytesOfAll cs) u, command-after p c (bytesOfAll cs ++ u) (r .0))
-    (ap (λ (l : List Command). c ∷ l) (rw (← append-assoc p (bytesOf c) (bytesOfAll cs ++ u)) (ap (commandsFrom ((p ++ bytesOf c) ++ (bytesOfAll cs ++ u)) (length cs)) further ∙ read-back (p ++ bytesOf c) cs u (r .1))))
-  where
-    further : length p + 8 ≡ length (p ++ bytesOf c)
-    further = sym (length-append p (bytesOf c))

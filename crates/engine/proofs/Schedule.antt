@@ -20,6 +20,7 @@ use Rattle.records.specs.declared.command.Command.{Command}
 use Rattle.records.specs.Transaction.{transactionAt, transactionsFrom, isWrite}
 use Rattle.records.specs.Command.{commandsFrom, bytesOfAll}
 use Rattle.records.proofs.Bytes.{length-over}
+use Rattle.records.proofs.Written.{length-bytes, Each, Readable, read-back}
 use Rattle.rules.specs.declared.state.Stamp.the-variants.{Never}
 use Rattle.rules.specs.declared.state.State.{State}
 use Rattle.rules.specs.Kinds.{isKnown}
@@ -33,7 +34,7 @@ use Rattle.rules.specs.Finish.{lastCommandIn, lastCommand, finishOf, finish}
 use Rattle.rules.specs.Promise.{nextCycle, cycleOf, lastCommandCycle, Kept}
 use Rattle.rules.proofs.TestLaws.{and-fst, and-snd, OnSome, on-pick, on-map}
 use Rattle.rules.proofs.Numbers.{from?}
-use Rattle.rules.proofs.DataKinds.{is-known, act-known}
+use Rattle.rules.proofs.DataKinds.{is-known, act-known, kind-back}
 use Rattle.rules.proofs.Queue.{Place, dataCount, placeOf, find}
 use Rattle.rules.proofs.Heads.{goes-place}
 use Rattle.rules.proofs.Count.{length-turn}
@@ -43,8 +44,6 @@ use Rattle.heads.proofs.Laws.{first, length-from, whole}
 use Rattle.engine.specs.declared.run.Ran as Answer
 use Rattle.engine.specs.Run.{commandsLeft, Ready, Runs}
 use Rattle.engine.specs.Build.{finishesFrom, cycleOr, Marked, Finished, Builds}
-use Rattle.engine.proofs.Going.{length-bytes}
-use Rattle.engine.proofs.Marks.{Each, Readable, read-back}
 
 -- ---- what goes comes from a transaction of the list, and is of a known kind
 
@@ -92,7 +91,7 @@ pub readable : (l : List Transaction) (rs : List Command) → Each (Ours l) rs �
 readable l [] u e = tt
 readable l (r ∷ rs) u e =
     let z : r .cycle < 100000000 = ltb-true (r .cycle) 100000000 (and-fst (ltb (r .cycle) 100000000) (every (λ r. ltb (r .cycle) 100000000) rs) e) in
-    (record { cycle = omega arith; known = u .0 .known }, readable l rs (u .1) (and-snd (ltb (r .cycle) 100000000) (every (λ r. ltb (r .cycle) 100000000) rs) e))
+    (record { cycle = omega arith; kind = kind-back (r .kind) (u .0 .known) }, readable l rs (u .1) (and-snd (ltb (r .cycle) 100000000) (every (λ r. ltb (r .cycle) 100000000) rs) e))
 
 numbers : (l : List Transaction) (n : ℕ) → length l ≤ n → (rs : List Command) → Each (Ours l) rs → every (λ c. ltb (c .number) n) rs ≡ true
 numbers l n h [] u = refl

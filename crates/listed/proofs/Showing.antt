@@ -19,7 +19,7 @@ use Rattle.records.specs.Command.{commandsFrom, bytesOfAll}
 use Rattle.rules.proofs.Promises.{kept}
 use Rattle.heads.proofs.Laws.{length-from}
 use Rattle.engine.specs.Build.{finishesFrom}
-use Rattle.engine.proofs.Marks.{read-back}
+use Rattle.records.proofs.Written.{read-back}
 use Rattle.engine.proofs.Schedule.{ours, readable, finishes-length}
 use Rattle.builder.specs.declared.build.BuildAnswer.{BuildAnswer}
 use Rattle.builder.specs.declared.build.BuildAnswer.the-variants.{Built, Refused}

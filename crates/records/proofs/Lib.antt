@@ -5,3 +5,4 @@ pub mod Unique
 pub mod HouseTables
 pub mod Inverse
 pub mod Round
+pub mod Written

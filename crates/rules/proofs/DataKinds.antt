@@ -1,11 +1,13 @@
--- What the four kinds of data commands have in common, and the two kinds of the ACT queue.
+-- What the four kinds of data commands have in common, and the two kinds of the ACT queue; a known kind has its number.
 -- Assumes nothing.
 use Prim.Native.Nat.{ℕ}
 use mathlib.Core.Path.{_≡_, refl}
 use mathlib.Core.Bool.{Bool, true, false, not}
 use Rattle.records.specs.declared.table.Table.{Table}
 use Rattle.records.specs.declared.transaction.Transaction.{Transaction}
-use Rattle.records.specs.declared.command.Kind.the-variants.{Act, Ref}
+use Rattle.records.specs.declared.command.Kind.{Kind}
+use Rattle.records.specs.declared.command.Kind.the-variants.{Act, Rd, Rda, Wr, Wra, Ref, Other}
+use Rattle.records.specs.Command.{kindOf, kindNumber}
 use Rattle.records.specs.Tests.{pick}
 use Rattle.records.specs.Transaction.{isRefresh}
 use Rattle.rules.specs.declared.state.Bank.{Bank}
@@ -13,6 +15,7 @@ use Rattle.rules.specs.declared.state.State.{State}
 use Rattle.rules.specs.Kinds.{isAct, isRef, isData, inActQueue, canEnd, isKnown}
 use Rattle.rules.specs.State.{isOpen, dataTests, testsBy, bankAfter}
 use Rattle.rules.specs.Queues.{dataKind, actKind}
+use Rattle.rules.proofs.TestLaws.{true-false}
 
 -- a data command is no ACT
 pub no-act : (w z : Bool) → isAct (dataKind w z) ≡ false
@@ -87,3 +90,13 @@ act-known x = on (isRefresh x)
     on : (b : Bool) → isKnown (pick b Ref Act) ≡ true
     on true = refl
     on false = refl
+
+-- a kind that rule 1 knows is told by its number
+pub kind-back : (k : Kind) → isKnown k ≡ true → kindOf (kindNumber k) ≡ k
+kind-back Act e = refl
+kind-back Rd e = refl
+kind-back Rda e = refl
+kind-back Wr e = refl
+kind-back Wra e = refl
+kind-back Ref e = refl
+kind-back (Other n) e = true-false false e refl

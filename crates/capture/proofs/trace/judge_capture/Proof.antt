@@ -1,11 +1,11 @@
 use borrow.Author.Needs.{needs}
 use native.Mathlib.Omega.{arith}
 use Prim.Native.Nat.{_*_}
-use mathlib.Core.Path.{_≡_, refl, sym, ap, _∙_}
+use mathlib.Core.Path.{sym, ap, _∙_}
 use lib.ListN.{length, length-take}
 use denote.Ref.{now}
 use Rattle.capture.specs.Answer.{commandsSeen}
-use Rattle.capture.proofs.Bytes.{length-written}
+use Rattle.records.proofs.Written.{length-written}
 use Rattle.capture.proofs.Refusals.{taken, capture-refused, capture-judged}
 use Rattle.capture.proofs.trace.judge_capture.Statement.{statement}
 use Rattle.capture.proofs.trace.judge_capture.Tie as tie

@@ -6,13 +6,13 @@ use mathlib.Core.Path.{_≡_, refl, sym, ap, _∙_}
 use mathlib.Core.List.{List, [], _∷_, _++_, append-assoc, append-nil}
 use lib.ListN.{length, getD, take, drop, length-append}
 use lib.Seq.{getD-append-add, take-append-seam}
 use Rattle.records.specs.Told.{over, putAt}
 use Rattle.records.specs.declared.command.Command.{Command}
 use Rattle.records.specs.Command.{kindOf, kindNumber, commandAt, commandsFrom, commandsIn, bytesOf, bytesOfAll}
 use Rattle.records.proofs.Inverse.{le16-of, le32-of}
 use Rattle.records.proofs.Bytes.{over-more, length-over}
 
-bytes-append : (a b : List Command) → bytesOfAll (a ++ b) ≡ bytesOfAll a ++ bytesOfAll b
+pub bytes-append : (a b : List Command) → bytesOfAll (a ++ b) ≡ bytesOfAll a ++ bytesOfAll b
 bytes-append [] b = refl
 bytes-append (c ∷ a) b = ap (λ (l : List ℕ). bytesOf c ++ l) (bytes-append a b) ∙ sym (append-assoc (bytesOf c) (bytesOfAll a) (bytesOfAll b))
 
@@ -64,7 +64,7 @@ command-after p c u r =
           number = getD (bytesOf c ++ u) 6 0 + getD (bytesOf c ++ u) 7 0 * 256;
         }) (ap (λ (i : ℕ). getD (p ++ (bytesOf c ++ u)) i 0) z ∙ at 0))
 
-read-back : (p : List ℕ) (cs : List Command) (u : List ℕ) → Each Readable cs → commandsFrom (p ++ (bytesOfAll cs ++ u)) (length cs) (length p) ≡ cs
+pub read-back : (p : List ℕ) (cs : List Command) (u : List ℕ) → Each Readable cs → commandsFrom (p ++ (bytesOfAll cs ++ u)) (length cs) (length p) ≡ cs
 unfolding commandsFrom
 read-back p [] u r = refl
 read-back p (c ∷ cs) u r =
