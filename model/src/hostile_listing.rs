@@ -12,6 +12,8 @@ use std::path::Path;
 use crate::house::*;
 use crate::listing::listing;
 use crate::records::Table;
+#[cfg(test)]
+pub use accepted::any_list;
 
 /// The cases so far, and the place of each group's first.
 pub struct Cases {
