@@ -33,6 +33,10 @@ pub fn record(stamp: u16, kind: u8, bank: u8) -> [u8; 4] {
     out
 }
 
+pub fn tick_record(stamp: u16) -> [u8; 4] {
+    record(stamp, TICK.0, TICK.1)
+}
+
 /// The greatest gap that stamps can tell, and the greatest cycle of a first record.
 pub const MOST_GAP: u64 = 65_535;
 

@@ -87,7 +87,7 @@ fn wraps_at_each_place() {
 #[test]
 fn ticks() {
     let (act, rda) = (record(0, ACT, 0), record(10, RDA, 0));
-    let tick = |stamp| record(stamp, TICK.0, TICK.1);
+    let tick = tick_record;
     assert_eq!(read(&[tick(5)]), []);
     assert_eq!(
         read(&[tick(65_535), act, rda]),
@@ -228,7 +228,7 @@ fn the_order_of_the_numbers() {
 /// Record numbers count the commands that are written; for rule 10 the number is their count. All stay written.
 #[test]
 fn verdicts_against_it() {
-    let tick = |stamp| record(stamp, TICK.0, TICK.1);
+    let tick = tick_record;
     let early = [
         tick(0),
         record(1, ACT, 0),
