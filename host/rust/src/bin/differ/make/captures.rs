@@ -2,7 +2,9 @@
 
 use model::desk::{self, Table};
 use model::house::{built, bytes_of, room_for, TABLE_A};
-use model::sent::{capture, of_schedule, record, tick, with_ticks, Sent, MOST_GAP, TICK};
+use model::sent::{
+    capture, of_schedule, record, tick, tick_record, with_ticks, Sent, MOST_GAP, TICK,
+};
 
 use super::schedules;
 use crate::case::*;
@@ -43,7 +45,8 @@ fn spread(r: &mut Random, commands: &mut [Sent]) {
 fn late(r: &mut Random, commands: &mut [Sent]) {
     let last = commands.iter().map(|c| c.0).max().unwrap_or(0);
     let end = LAST_CYCLE + u64::from(r.range(0, 3)) - u64::from(r.range(0, 3));
-    commands.iter_mut().for_each(|c| c.0 += end - last);
+    let by = end.saturating_sub(last);
+    commands.iter_mut().for_each(|c| c.0 += by);
 }
 
 /// At cycles that have none, mostly: before a record, after the last, in rows.
@@ -116,7 +119,7 @@ pub fn some(r: &mut Random, table: &Table) -> Vec<u8> {
             } else if !commands.is_empty() {
                 spread(r, &mut commands);
             }
-            // Ticks to a late command are many: mostly they are left out there, and it is told round the wrap as if nearer.
+            // Without ticks a late command is told round the wrap as if nearer.
             let is_late = commands.iter().any(|c| c.0 > 10_000_000);
             let without = r.one_in(8) || is_late && r.one_in(3);
             let short_by = match is_late {
@@ -140,12 +143,6 @@ pub fn some(r: &mut Random, table: &Table) -> Vec<u8> {
         bytes.truncate(bytes.len().saturating_sub(1 + r.below(3)));
     }
     bytes
-}
-
-/// Ticks as far apart as they may be, the first at 65,535: the last of 65,536 stands 65,535 cycles before the last cycle.
-fn far(ticks: u32) -> Vec<[u8; 4]> {
-    let one = |k: u32| record(65_535_u16.wrapping_sub(k as u16), TICK.0, TICK.1);
-    (0..ticks).map(one).collect()
 }
 
 fn whole(records: &[[u8; 4]]) -> Case {
@@ -176,16 +173,17 @@ pub fn last() -> Vec<Case> {
     let mut cases = Vec::new();
     for n in [69_632, 69_633] {
         for (step, kind, bank) in [(0, 0, 0), (1, 9, 9), (1, 255, 0), (65_535, 255, 0)] {
-            let one = |k: u32| record((k * step) as u16, kind, bank);
+            let one = |k: u32| record((k as u16).wrapping_mul(step), kind, bank);
             cases.push(whole(&(0..n).map(one).collect::<Vec<_>>()));
         }
-        // REFs up to cycle 4,247,000,000, which each find those before.
+        // A REF now and then, up to cycle 4,247,000,000.
         let one = |k: u32| record((k * 61_000) as u16, if k % 40 == 0 { 5 } else { 255 }, 0);
         cases.push(whole(&(0..n).map(one).collect::<Vec<_>>()));
     }
     cases.push(greatest());
     for (kind, bank) in [(0, 0), (255, 1), TICK] {
-        let mut records = far(65_536);
+        // Ticks as far apart as they may be; what comes after them stands at the last cycle.
+        let mut records: Vec<[u8; 4]> = (0..=65_535).rev().map(tick_record).collect();
         records.push(record(65_535, kind, bank));
         cases.push(whole(&records));
         for stamp in [0, 65_535, 65_534] {
