@@ -31,6 +31,10 @@ static int says(skv_verdict_answer a, uint32_t refused, uint32_t position, uint3
     return a.refused == refused && a.position == position && a.edition == edition && a.rule == rule && a.copy == copy && a.record == record;
 }
 
+static int finds(skv_capture_answer a, uint32_t refused, uint32_t position, uint32_t edition, uint32_t count, uint32_t rule, uint32_t record) {
+    return a.refused == refused && a.position == position && a.edition == edition && a.count == count && a.rule == rule && a.record == record;
+}
+
 static void put(uint8_t *out, uint32_t cycle, uint8_t kind, uint8_t bank, uint16_t number) {
     const uint8_t bytes[8] = {(uint8_t)cycle, (uint8_t)(cycle >> 8), (uint8_t)(cycle >> 16), (uint8_t)(cycle >> 24),
                               kind,           bank,                  (uint8_t)number,        (uint8_t)(number >> 8)};
@@ -65,6 +69,14 @@ static void one_record(void) {
     MUST(c.refused == 0 && c.position == 0 && c.edition == 0);
     MUST(c.cycle == 0x12345678 && c.kind == 3 && c.bank == 9 && c.number == 0xabcd);
     MUST(skv_read_command(eight, 7).refused == 7);
+
+    const uint8_t seen[4] = {0x34, 0x12, 3, 9};
+    MUST(is(skv_write_capture_record(0x1234, 3, 9, out, 4), 0, 0, 0, 0, 0) && same(out, seen, 4));
+    MUST(is(skv_write_capture_record(0x1234, 3, 9, out, 3), 5, 0, 0, 0, 0));
+    skv_capture_record_answer r = skv_read_capture_record(seen, 4);
+    MUST(r.refused == 0 && r.position == 0 && r.edition == 0 && r.stamp == 0x1234 && r.kind == 3 && r.bank == 9);
+    r = skv_read_capture_record(seen, 3);
+    MUST(r.refused == 7 && r.position == 0 && r.edition == 0 && r.stamp == 0 && r.kind == 0 && r.bank == 0);
 }
 
 static void lists(void) {
@@ -131,6 +143,25 @@ static void verdicts(void) {
     MUST(says(skv_judge_pattern(EDITION, table, 32, pattern, 48, 60), 0, 0, EDITION, 7, 2, 1));
     MUST(says(skv_judge_pattern(EDITION, table, 32, pattern, 48, 0), 8, 0, EDITION, 0, 0, 0));
     MUST(says(skv_judge_pattern(1, table, 32, pattern, 48, 60), 10, EDITION, EDITION, 0, 0, 0));
+}
+
+static void captures(void) {
+    /* A tick, an ACT at 65,535, a tick over the wrap, an RDA nearer to its ACT than RCD, and an ACT that stays open. */
+    const uint8_t capture[20] = {0xfe, 0xff, 255, 0, 0xff, 0xff, 0, 3, 0, 0, 255, 0, 9, 0, 2, 3, 8, 0, 0, 1};
+    uint8_t commands[25], right[25];
+    memset(commands, 77, 25);
+    put(right, 65535, 0, 3, 0);
+    put(right + 8, 65545, 2, 3, 0);
+    put(right + 16, 131080, 0, 1, 0);
+    right[24] = 77;
+    MUST(finds(skv_judge_capture(EDITION, table, 32, capture, 20, commands, 25), 0, 0, EDITION, 3, 8, 1) && same(commands, right, 25));
+    MUST(finds(skv_judge_capture(EDITION, table, 32, capture, 8, commands, 8), 0, 0, EDITION, 1, 10, 1));
+    MUST(finds(skv_judge_capture(EDITION, table, 32, capture, 4, commands, 0), 0, 0, EDITION, 0, 0, 0));
+    MUST(finds(skv_judge_capture(EDITION, table, 32, capture, 20, commands, 23), 5, 0, EDITION, 0, 0, 0));
+    MUST(finds(skv_judge_capture(EDITION, table, 32, capture, 19, commands, 25), 7, 0, EDITION, 0, 0, 0));
+    MUST(finds(skv_judge_capture(1, table, 32, capture, 20, commands, 25), 10, EDITION, EDITION, 0, 0, 0));
+    const uint8_t again[12] = {0, 0, 255, 0, 1, 0, 0, 3, 1, 0, 2, 3};
+    MUST(finds(skv_judge_capture(EDITION, table, 32, again, 12, commands, 25), 11, 2, EDITION, 0, 0, 0));
 }
 
 static const skv_transaction three[3] = {
@@ -211,6 +242,7 @@ int main(void) {
     one_record();
     lists();
     verdicts();
+    captures();
     running_controllers();
     return wrong;
 }

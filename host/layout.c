@@ -33,6 +33,11 @@ int main(void) {
     FIELD(skv_verdict_answer, copy);
     FIELD(skv_verdict_answer, record);
     WHOLE(skv_verdict_answer);
+    HEAD(skv_capture_answer);
+    FIELD(skv_capture_answer, count);
+    FIELD(skv_capture_answer, rule);
+    FIELD(skv_capture_answer, record);
+    WHOLE(skv_capture_answer);
     HEAD(skv_table_answer);
     FIELD(skv_table_answer, numbers);
     WHOLE(skv_table_answer);
@@ -48,6 +53,11 @@ int main(void) {
     FIELD(skv_command_answer, bank);
     FIELD(skv_command_answer, number);
     WHOLE(skv_command_answer);
+    HEAD(skv_capture_record_answer);
+    FIELD(skv_capture_record_answer, stamp);
+    FIELD(skv_capture_record_answer, kind);
+    FIELD(skv_capture_record_answer, bank);
+    WHOLE(skv_capture_record_answer);
     FIELD(skv_numbers, numbers);
     WHOLE(skv_numbers);
     FIELD(skv_transaction, kind);

@@ -7,8 +7,8 @@
  * controller. A call that is not refused writes each result from its buffer's start and leaves all beyond as it stood. What a call is lent as
  * const it only reads.
  *
- * The checks go in the order of the numbers, but for 10, which goes straight after number 2: the first that applies is told. A call makes only
- * the checks that its comment names.
+ * The checks go in the order of the numbers, but for 10, which goes straight after number 2, and of a capture, whose 5 comes last, after 11: the
+ * first that applies is told. A call makes only the checks that its comment names, in the order in which it names them.
  *
  *   1  table not 32 bytes
  *   2  a table number out of range, CCD below 2 or below B
@@ -16,15 +16,17 @@
  *   4  a transaction out of range, a refresh where RFC is 0 among them; the position is the lowest such transaction's number, from 0
  *   5  too little room for commands
  *   6  fewer places for finishing cycles than transactions
- *   7  schedule bytes not a multiple of 8, or over 69,632 records
+ *   7  schedule bytes not a multiple of 8, or capture bytes not a multiple of 4, or over 69,632 records
  *   8  pattern length 0
  *   9  a controller that cannot be gone on with: its cycle at 100,000,000 or more, an edition not the table's, a stored cycle not before its
  *      own cycle, more commands gone from a queue than the list puts there, or a data command gone whose ACT has not
  *  10  the expected edition is not the table's; the position is the table's edition. Expected 0 always differs, since no table has it
+ *  11  a capture record whose stamp is equal to that of the record before it, or whose true cycle is above 4,294,967,295; the position is the
+ *      lowest such record's number, from 0, ticks counted
  *
  * Each call that is lent a table is told before it which edition the caller expects. Those that read or write one record are told none.
  *
- * The position is 0 but for numbers 4 and 10. The edition of an answer is the table's; it is 0 where no table is given, and for refusals 1
+ * The position is 0 but for numbers 4, 10 and 11. The edition of an answer is the table's; it is 0 where no table is given, and for refusals 1
  * and 2.
  *
  * What a caller owes: each pointer points to that many elements, aligned for its type; what is lent for writing overlaps nothing else that is
@@ -41,6 +43,10 @@
  *                         banks. Its banks are start, start + 1 and so on, BI of them, with bank 0 after the last. Of a refresh start, BI and
  *                         BC are 0; a table whose RFC is 0 refuses it
  *   command, 8 bytes      cycle (32 bits), kind (0 ACT, 1 RD, 2 RDA, 3 WR, 4 WRA, 5 REF), bank (of a REF 0), transaction number (16 bits)
+ *   capture record,       stamp (16 bits), kind, bank; kind 255 with bank 0 is a tick, which is no command, and any other a command. The stamp
+ *   4 bytes               runs round from 65,535 to 0. The first record's true cycle is its stamp, and each later one's is that of the record
+ *                         before it and the difference of their stamps, taken round the wrap; so no gap may reach 65,536, and ticks are sent
+ *                         where one would
  */
 #ifndef SKVORZHAN_H
 #define SKVORZHAN_H
@@ -57,7 +63,8 @@ extern "C" {
 
 /* refused: 0, or the number of the refusal; then count and cycles are 0.
  * count: commands written (skv_schedule, skv_schedule_bytes, skv_run, skv_step, skv_run_bytes), transactions read (skv_read_transactions), or
- * the bound (skv_bound); else 0, for skv_write_command too. cycles: cycles run (skv_run, skv_step and skv_run_bytes); else 0. */
+ * the bound (skv_bound); else 0, for skv_write_command and skv_write_capture_record too. cycles: cycles run (skv_run, skv_step and
+ * skv_run_bytes); else 0. */
 typedef struct skv_answer {
     uint32_t refused;
     uint32_t position;
@@ -76,6 +83,17 @@ typedef struct skv_verdict_answer {
     uint32_t copy;
     uint32_t record;
 } skv_verdict_answer;
+
+/* count: commands written. rule: 0 where they are accepted, else the first broken rule, 1 to 12. record: from 0 of the written commands; for
+ * rule 10 their count. Where refused, count, rule and record are 0; where accepted, rule and record are. */
+typedef struct skv_capture_answer {
+    uint32_t refused;
+    uint32_t position;
+    uint32_t edition;
+    uint32_t count;
+    uint32_t rule;
+    uint32_t record;
+} skv_capture_answer;
 
 /* Where refused, all sixteen numbers are 0. */
 typedef struct skv_table_answer {
@@ -106,6 +124,16 @@ typedef struct skv_command_answer {
     uint8_t bank;
     uint16_t number;
 } skv_command_answer;
+
+/* Where refused, stamp, kind and bank are 0. */
+typedef struct skv_capture_record_answer {
+    uint32_t refused;
+    uint32_t position;
+    uint32_t edition;
+    uint16_t stamp;
+    uint8_t kind;
+    uint8_t bank;
+} skv_capture_record_answer;
 
 /* The sixteen numbers of a table, in the order of its bytes. */
 typedef struct skv_numbers {
@@ -167,6 +195,13 @@ skv_command_answer skv_read_command(const uint8_t *bytes, size_t bytes_len);
  * is 0. */
 skv_answer skv_write_command(uint32_t cycle, uint8_t kind, uint8_t bank, uint16_t number, uint8_t *out, size_t out_len);
 
+/* Checks 7 (not 4 bytes). Any 4 bytes are a capture record. */
+skv_capture_record_answer skv_read_capture_record(const uint8_t *bytes, size_t bytes_len);
+
+/* Checks 5 (out under 4 bytes). Writes the 4 bytes of the capture record; any numbers are one. Bytes of out beyond the fourth stay as they
+ * stood. count is 0. */
+skv_answer skv_write_capture_record(uint16_t stamp, uint8_t kind, uint8_t bank, uint8_t *out, size_t out_len);
+
 /* Checks 1, 2, 10, 3 (bytes not a multiple of 4, over 256 transactions, or more than list has places), 4. Writes the transactions into list;
  * places beyond them stay as they stood. count is the number of transactions. */
 skv_answer skv_read_transactions(uint16_t expected, const uint8_t *table, size_t table_len, const uint8_t *bytes, size_t bytes_len,
@@ -194,6 +229,14 @@ skv_verdict_answer skv_judge(uint16_t expected, const uint8_t *table, size_t tab
  * rule. */
 skv_verdict_answer skv_judge_pattern(uint16_t expected, const uint8_t *table, size_t table_len, const uint8_t *pattern, size_t pattern_len,
                                      uint32_t length);
+
+/* Checks 1, 2, 10, 7 (not a multiple of 4, or over 69,632 records), 11, 5 (commands_len under 8 x the records that are not ticks).
+ * Writes the capture as commands, 8 bytes each, with their true cycles, ticks dropped, transaction number 0, and judges them as skv_judge does.
+ * A verdict against them is an answer and not a refusal: they stay written. Bytes beyond stay as they stood. count is the number of commands.
+ * Any legal schedule, sent in order of cycle with a tick at most at each cycle without a command, none past 4,294,967,295, the first record below
+ * cycle 65,536, no gap of 65,536 or more, and at most 69,632 records in all, comes back with its cycles, kinds and banks. */
+skv_capture_answer skv_judge_capture(uint16_t expected, const uint8_t *table, size_t table_len, const uint8_t *capture, size_t capture_len,
+                                     uint8_t *commands, size_t commands_len);
 
 /* Checks 1, 2, 10, 4 (bi or bc outside 1 to 16, or bi above banks; position 0). count is the bound: the last data command of a transaction of
  * (bi, bc) comes at most so many cycles after that of the one before it, the first's after cycle 0; where the one before is a refresh, after its

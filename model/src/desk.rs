@@ -5,6 +5,8 @@
 //! state changes" when it refuses: nothing is written until the last check has passed.
 
 #[cfg(test)]
+mod captures;
+#[cfg(test)]
 mod editions;
 #[cfg(test)]
 mod laws;
@@ -19,6 +21,7 @@ mod worked;
 #[cfg(test)]
 mod wraps;
 
+pub use crate::capture::{read_capture_record, write_capture_record, CaptureRecord};
 pub use crate::records::{read_command, read_table, read_transaction};
 pub use crate::records::{write_command, write_table, write_transaction};
 pub use crate::records::{Command, Refusal, Table, Transaction};
@@ -26,7 +29,7 @@ pub use crate::rules::{PatternVerdict, Verdict};
 pub use crate::scheduler::{Bank, State as Controller, NEVER};
 
 use crate::records::EDITION;
-use crate::{rules, scheduler};
+use crate::{capture, rules, scheduler};
 
 /// Numbers 1, 2 and 10, for every call that takes a table: "If they differ it's refused as number 10, position the table's edition,
 /// straight after number 2; expected 0 always differs", since no table of edition 0 gets past number 2.
@@ -126,6 +129,32 @@ pub fn judge_pattern(
     let table = admit(expected, table)?;
     let verdict = rules::judge_pattern(&table, bytes, length)?;
     Ok((table[EDITION], verdict))
+}
+
+/// What `judge_capture` answers: how many commands were written, and the verdict on them.
+#[derive(Debug, Clone, Copy, PartialEq, Eq)]
+pub struct Captured {
+    pub edition: u16,
+    pub commands: u32,
+    pub verdict: Verdict,
+}
+
+/// Numbers 1, 2, 10, 7, 11 and 5. "The capture is written as command records .. and judged; a verdict against it is an answer and not a
+/// refused call, and leaves them written."
+pub fn judge_capture(
+    expected: u16,
+    table: &[u8],
+    bytes: &[u8],
+    room: &mut [u8],
+) -> Result<Captured, Refusal> {
+    let table = admit(expected, table)?;
+    let commands = capture::commands(&table, bytes, room.len())?;
+    write_commands(&commands, room);
+    Ok(Captured {
+        edition: table[EDITION],
+        commands: commands.len() as u32,
+        verdict: rules::judge(&table, &room[..8 * commands.len()])?,
+    })
 }
 
 /// Numbers 1, 2, 10 and 4: "the bound gives 4, position 0, for BI or BC outside 1 to 16 or BI above banks". Answers the edition and

@@ -5,60 +5,19 @@ mod editions;
 mod refreshes;
 mod refused;
 
-use std::fs;
 use std::io;
 use std::path::Path;
 
-use crate::house::*;
+use crate::inputs::Cases;
 use crate::listing::listing;
-use crate::records::Table;
-
-/// The cases so far, and the place of each group's first.
-pub struct Cases {
-    inputs: Vec<Vec<u8>>,
-    groups: Vec<(&'static str, usize)>,
-}
-
-impl Cases {
-    fn group(&mut self, title: &'static str) {
-        self.groups.push((title, self.inputs.len()));
-    }
-
-    fn put(&mut self, input: &[u8]) {
-        self.inputs.push(input.to_vec());
-    }
-
-    /// A table's bytes and more, or what stands for them, behind the edition that they begin with; behind 7 where there is none.
-    fn own(&mut self, input: &[u8]) {
-        let edition = match *input {
-            [low, high, ..] => u16::from_le_bytes([low, high]),
-            _ => 7,
-        };
-        self.expecting(edition, input);
-    }
-
-    fn expecting(&mut self, expected: u16, input: &[u8]) {
-        self.put(&[&expected.to_le_bytes(), input].concat());
-    }
-
-    fn list(&mut self, table: &Table, list: &[[u8; 4]]) {
-        self.bytes(table, &list.concat());
-    }
-
-    fn bytes(&mut self, table: &Table, bytes: &[u8]) {
-        self.own(&[&bytes_of(table), bytes].concat());
-    }
-}
+pub use accepted::any_list;
 
 /// Examples 3 and 5 of document 01.
 const EXAMPLE_3: [[u8; 4]; 2] = [[1, 0, 1, 1], [0, 0, 1, 1]];
 const EXAMPLE_5: [[u8; 4]; 1] = [[0, 0, 4, 2]];
 
 fn cases() -> Cases {
-    let mut cases = Cases {
-        inputs: Vec::new(),
-        groups: Vec::new(),
-    };
+    let mut cases = Cases::default();
     accepted::put(&mut cases);
     refused::put(&mut cases);
     editions::put(&mut cases);
@@ -66,21 +25,9 @@ fn cases() -> Cases {
     cases
 }
 
-/// Writes `NNN.in` and `NNN.out` for each case, from 000, and tells which numbers each group has.
+/// Writes the inputs and the right outputs into the folder.
 pub fn write(folder: &Path) -> io::Result<()> {
-    let cases = cases();
-    fs::create_dir_all(folder)?;
-    for (number, input) in cases.inputs.iter().enumerate() {
-        fs::write(folder.join(format!("{number:03}.in")), input)?;
-        fs::write(folder.join(format!("{number:03}.out")), listing(input))?;
-    }
-    let count = cases.inputs.len();
-    let starts = cases.groups.iter().skip(1).map(|&(_, first)| first);
-    for (&(title, first), next) in cases.groups.iter().zip(starts.chain([count])) {
-        println!("{first:03} to {:03}: {title}", next - 1);
-    }
-    println!("{count} cases");
-    Ok(())
+    cases().write(folder, listing)
 }
 
 #[cfg(test)]

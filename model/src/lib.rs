@@ -1,20 +1,27 @@
 //! What document 01 and the customer's requests say, once more in plain Rust and from the papers alone, to hold the proved programs
 //! against.
 //!
-//! The public calls are in `desk`, and the house tables in `house`. What the calls rest on is in `records`, `rules` and `scheduler`;
-//! the other modules make the stored cases of the programs, the example files, and what must be printed for each.
+//! The public calls are in `desk`, the house tables in `house`, and captures are written by `sent`. What the calls rest on is in
+//! `records`, `rules`, `scheduler` and `capture`; the other modules make the stored cases of the programs, the example files, and what must
+//! be printed for each.
 
 mod calls;
+mod capture;
 pub mod desk;
 pub mod examples;
 mod hostile;
 pub mod hostile_listing;
+pub mod hostile_trace;
 pub mod house;
+mod inputs;
 pub mod listing;
 mod listings;
 mod records;
 mod rules;
 mod runs;
 mod scheduler;
+pub mod sent;
+pub mod trace;
+mod traces;
 pub mod vectors;
 mod verdicts;

@@ -13,9 +13,9 @@ pub fn listing(input: &[u8]) -> String {
     lines(input).unwrap_or_else(|r| format!("{r}\n"))
 }
 
-/// "Fewer than two get number 1." After them the first 32 bytes are the table, or all where there are fewer; the rest are the
-/// transactions.
-fn lines(input: &[u8]) -> Result<String, Refusal> {
+/// The expected edition, the table and the rest. "Fewer than two get number 1." After them the first 32 bytes are the table, or all where
+/// there are fewer.
+pub fn headed(input: &[u8]) -> Result<(u16, &[u8], &[u8]), Refusal> {
     if input.len() < 2 {
         return Err(Refusal {
             number: 1,
@@ -25,7 +25,12 @@ fn lines(input: &[u8]) -> Result<String, Refusal> {
     }
     let expected = u16::from_le_bytes([input[0], input[1]]);
     let rest = &input[2..];
-    let (table, list) = rest.split_at(rest.len().min(32));
+    let (table, rest) = rest.split_at(rest.len().min(32));
+    Ok((expected, table, rest))
+}
+
+fn lines(input: &[u8]) -> Result<String, Refusal> {
+    let (expected, table, list) = headed(input)?;
     schedule_lines(expected, table, list, ROOM, MOST_TRANSACTIONS)
 }
 
@@ -56,10 +61,13 @@ pub fn commands(room: &[u8], count: u32) -> Vec<Command> {
     records.map(read).collect()
 }
 
-/// One line for each: `CYCLE KIND BANK TRANSACTION`.
+/// One line for each: `CYCLE KIND BANK TRANSACTION`. A kind without a name is its number.
 pub fn command_lines(room: &[u8], count: u32) -> String {
     let line = |c: &Command| {
-        let kind = ["ACT", "RD", "RDA", "WR", "WRA", "REF"][usize::from(c.kind)];
+        let kind = match ["ACT", "RD", "RDA", "WR", "WRA", "REF"].get(usize::from(c.kind)) {
+            Some(name) => name.to_string(),
+            None => c.kind.to_string(),
+        };
         format!("{} {kind} {} {}\n", c.cycle, c.bank, c.transaction)
     };
     commands(room, count).iter().map(line).collect()

@@ -3,6 +3,7 @@
 
 use crate::examples;
 use crate::house::*;
+use crate::inputs;
 use crate::listing::listing;
 use crate::records::{Table, BANKS, CCD, EDITION, RFC};
 
@@ -20,31 +21,11 @@ const ABOUT_TENS: [u16; 10] = [9, 10, 99, 100, 999, 1000, 9999, 10000, 10001, 65
 const CYCLES: [usize; 10] = [9, 10, 99, 100, 999, 1000, 9999, 10000, 99999, 100000];
 
 pub fn lines(input: &[u8]) -> String {
-    let mut out = String::new();
-    let mut rest = input;
-    while let Some((case, after)) = first_case(rest) {
-        out.push_str("case\n");
-        out.push_str(&listing(case));
-        rest = after;
-    }
-    out
-}
-
-/// The first input and what follows it, unless it is cut short.
-fn first_case(input: &[u8]) -> Option<(&[u8], &[u8])> {
-    let (size, rest) = split(input, 2)?;
-    split(rest, u16::from_le_bytes([size[0], size[1]]).into())
+    inputs::texts(input, listing)
 }
 
 pub fn cases() -> Vec<u8> {
-    let mut out = Vec::new();
-    for input in inputs() {
-        let size = u16::try_from(input.len()).expect("a case is short");
-        out.extend(size.to_le_bytes());
-        out.extend(input);
-    }
-    out.extend([4, 0, 7]);
-    out
+    inputs::stored(&inputs())
 }
 
 fn inputs() -> Vec<Vec<u8>> {

@@ -22,7 +22,7 @@ impl fmt::Display for Refusal {
 
 /// The refusal of one record. Every position is 0, the number of the only transaction included; and so is the edition, since 1 and 2
 /// name edition 0 and the other calls are given no table.
-fn refused<T>(number: u8) -> Result<T, Refusal> {
+pub fn refused<T>(number: u8) -> Result<T, Refusal> {
     Err(Refusal {
         number,
         position: 0,

@@ -1,10 +1,11 @@
-//! What the programs `hostile`, `verdicts`, `runs` and `listings` are run on, and what they and `calls`, which is run on nothing, must write.
+//! What the programs `hostile`, `verdicts`, `runs`, `listings` and `traces` are run on, and what they and `calls`, which is run on nothing, must
+//! write.
 
 use std::fs;
 use std::io;
 use std::path::Path;
 
-use crate::{calls, hostile, listings, runs, verdicts};
+use crate::{calls, hostile, listings, runs, traces, verdicts};
 
 /// A program's name, its input and its output.
 type Stored = (&'static str, Vec<u8>, String);
@@ -12,11 +13,12 @@ type Stored = (&'static str, Vec<u8>, String);
 pub fn all() -> Vec<Stored> {
     type Cases = fn() -> Vec<u8>;
     type Lines = fn(&[u8]) -> String;
-    let programs: [(&str, Cases, Lines); 5] = [
+    let programs: [(&str, Cases, Lines); 6] = [
         ("hostile", hostile::cases, hostile::lines),
         ("verdicts", verdicts::cases, verdicts::lines),
         ("runs", runs::cases, runs::lines),
         ("listings", listings::cases, listings::lines),
+        ("traces", traces::cases, traces::lines),
         ("calls", Vec::new, |_| calls::lines()),
     ];
     programs

@@ -97,6 +97,20 @@ fn told(name: &str, answer: Result<String, Refusal>) -> String {
     }
 }
 
+/// The tables, as bytes, and the schedules of the cases that judge one: those that hold whole records.
+pub fn schedules() -> Vec<(Vec<u8>, Vec<u8>)> {
+    let input = cases();
+    let mut all = Vec::new();
+    let mut rest = &input[..];
+    while let Some((case, after)) = first_case(rest) {
+        if case.call == JUDGE && case.bytes.len() % 8 == 0 {
+            all.push((case.table.to_vec(), case.bytes.to_vec()));
+        }
+        rest = after;
+    }
+    all
+}
+
 #[cfg(test)]
 mod tests {
     use super::*;

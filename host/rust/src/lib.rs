@@ -4,11 +4,13 @@
 //! buffer's start and leaves all beyond as it stood. Each call that is lent a table is told before it which edition is expected.
 //! `skvorzhan.h` says what each call checks and writes.
 
+mod captures;
 pub mod raw;
 mod records;
 mod running;
 mod schedules;
 
+pub use captures::*;
 pub use raw::{Controller, HostBank, Transaction};
 pub use records::*;
 pub use running::*;

@@ -26,6 +26,17 @@ pub struct VerdictAnswer {
 
 #[repr(C)]
 #[derive(Debug, Clone, Copy, PartialEq, Eq)]
+pub struct CaptureAnswer {
+    pub refused: u32,
+    pub position: u32,
+    pub edition: u32,
+    pub count: u32,
+    pub rule: u32,
+    pub record: u32,
+}
+
+#[repr(C)]
+#[derive(Debug, Clone, Copy, PartialEq, Eq)]
 pub struct TableAnswer {
     pub refused: u32,
     pub position: u32,
@@ -55,6 +66,17 @@ pub struct CommandAnswer {
     pub kind: u8,
     pub bank: u8,
     pub number: u16,
+}
+
+#[repr(C)]
+#[derive(Debug, Clone, Copy, PartialEq, Eq)]
+pub struct CaptureRecordAnswer {
+    pub refused: u32,
+    pub position: u32,
+    pub edition: u32,
+    pub stamp: u16,
+    pub kind: u8,
+    pub bank: u8,
 }
 
 #[repr(C)]
@@ -121,6 +143,8 @@ extern "C" {
     pub fn skv_write_transaction(kind: u8, start: u8, bi: u8, bc: u8, out: *mut u8, out_len: usize) -> Answer;
     pub fn skv_read_command(bytes: *const u8, bytes_len: usize) -> CommandAnswer;
     pub fn skv_write_command(cycle: u32, kind: u8, bank: u8, number: u16, out: *mut u8, out_len: usize) -> Answer;
+    pub fn skv_read_capture_record(bytes: *const u8, bytes_len: usize) -> CaptureRecordAnswer;
+    pub fn skv_write_capture_record(stamp: u16, kind: u8, bank: u8, out: *mut u8, out_len: usize) -> Answer;
     pub fn skv_read_transactions(expected: u16, table: *const u8, table_len: usize, bytes: *const u8, bytes_len: usize,
         list: *mut Transaction, list_len: usize) -> Answer;
     pub fn skv_schedule(expected: u16, table: *const u8, table_len: usize, list: *const Transaction, list_len: usize,
@@ -130,6 +154,8 @@ extern "C" {
     pub fn skv_judge(expected: u16, table: *const u8, table_len: usize, schedule: *const u8, schedule_len: usize) -> VerdictAnswer;
     pub fn skv_judge_pattern(expected: u16, table: *const u8, table_len: usize, pattern: *const u8, pattern_len: usize,
         length: u32) -> VerdictAnswer;
+    pub fn skv_judge_capture(expected: u16, table: *const u8, table_len: usize, capture: *const u8, capture_len: usize,
+        commands: *mut u8, commands_len: usize) -> CaptureAnswer;
     pub fn skv_bound(expected: u16, table: *const u8, table_len: usize, bi: u8, bc: u8) -> Answer;
     pub fn skv_start(expected: u16, table: *const u8, table_len: usize) -> ControllerAnswer;
     pub fn skv_run(c: *mut Controller, expected: u16, table: *const u8, table_len: usize, list: *const Transaction, list_len: usize,

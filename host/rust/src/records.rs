@@ -73,3 +73,29 @@ pub fn write_command(c: Command, out: &mut [u8]) -> Result<(), Refusal> {
     };
     a.told(())
 }
+
+#[derive(Debug, Clone, Copy, PartialEq, Eq)]
+pub struct CaptureRecord {
+    pub stamp: u16,
+    /// A command's, or any other number; 255 with bank 0 is a tick.
+    pub kind: u8,
+    pub bank: u8,
+}
+
+/// Refused with 7.
+pub fn read_capture_record(bytes: &[u8]) -> Result<CaptureRecord, Refusal> {
+    let a = unsafe { skv_read_capture_record(bytes.as_ptr(), bytes.len()) };
+    let r = CaptureRecord {
+        stamp: a.stamp,
+        kind: a.kind,
+        bank: a.bank,
+    };
+    told(a.refused, a.position, a.edition, r)
+}
+
+/// Refused with 5. The buffer may be longer than 4 bytes.
+pub fn write_capture_record(r: CaptureRecord, out: &mut [u8]) -> Result<(), Refusal> {
+    let a =
+        unsafe { skv_write_capture_record(r.stamp, r.kind, r.bank, out.as_mut_ptr(), out.len()) };
+    a.told(())
+}

@@ -1,6 +1,7 @@
 //! Document 01's examples through the safe functions, and a refusal of each kind.
 
 mod banks;
+mod captures;
 mod refreshes;
 
 use skvorzhan::*;
@@ -277,6 +278,11 @@ fn first_of_all(e: u16, table: &[u8], told: (u32, u32, u32)) {
                 told
             );
         }
+    }
+    for (size, room) in [(0, 0), (8, 16), (8, 0), (9, 18)] {
+        let mut commands = vec![5; room];
+        let answer = judge_capture(e, table, &vec![0; size], &mut commands);
+        assert_eq!((refused(answer), commands), (told, vec![5; room]));
     }
     for bi in [1, 9, 0] {
         assert_eq!(refused(bound(e, table, bi, 1)), told);

@@ -86,6 +86,10 @@ fn verdict(a: VerdictAnswer) -> Vec<u32> {
     vec![a.refused, a.position, a.edition, a.rule, a.copy, a.record]
 }
 
+fn captured(a: CaptureAnswer) -> Vec<u32> {
+    vec![a.refused, a.position, a.edition, a.count, a.rule, a.record]
+}
+
 impl Archive {
     pub fn new() -> Archive {
         assert_eq!(size_of::<Controller>(), 4 * NUMBERS);
@@ -159,6 +163,15 @@ impl Archive {
                 Call::WriteCommand => numbers(skv_write_command(
                     v0, v1 as u8, v2 as u8, v3 as u16, room, rn,
                 )),
+                Call::ReadCaptureRecord => {
+                    let a = skv_read_capture_record(list, bn);
+                    let (kind, bank) = (a.kind.into(), a.bank.into());
+                    let head = vec![a.refused, a.position, a.edition];
+                    [head, vec![a.stamp.into(), kind, bank]].concat()
+                }
+                Call::WriteCaptureRecord => numbers(skv_write_capture_record(
+                    v0 as u16, v1 as u8, v2 as u8, room, rn,
+                )),
                 Call::ReadTransactions => numbers(skv_read_transactions(
                     e,
                     t,
@@ -176,6 +189,7 @@ impl Archive {
                 )),
                 Call::Judge => verdict(skv_judge(e, t, tn, list, bn)),
                 Call::JudgePattern => verdict(skv_judge_pattern(e, t, tn, list, bn, v0)),
+                Call::JudgeCapture => captured(skv_judge_capture(e, t, tn, list, bn, room, rn)),
                 Call::Bound => numbers(skv_bound(e, t, tn, v0 as u8, v1 as u8)),
                 Call::Start => keep(skv_start(e, t, tn)),
                 Call::Run => numbers(skv_run(c, e, t, tn, xs, bn / 4, v0, room, rn)),

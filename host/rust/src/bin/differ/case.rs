@@ -2,7 +2,8 @@
 
 mod text;
 
-use model::house::REFRESH_BYTES;
+use model::house::{due, REFRESH_BYTES};
+use model::sent::TICK;
 
 #[derive(Debug, Clone, Copy, PartialEq, Eq)]
 pub enum Call {
@@ -12,11 +13,14 @@ pub enum Call {
     WriteTransaction,
     ReadCommand,
     WriteCommand,
+    ReadCaptureRecord,
+    WriteCaptureRecord,
     ReadTransactions,
     Schedule,
     ScheduleBytes,
     Judge,
     JudgePattern,
+    JudgeCapture,
     Bound,
     Start,
     Run,
@@ -26,19 +30,24 @@ pub enum Call {
 
 use Call::*;
 
+pub const COUNT: usize = 19;
+
 /// In the order of the header.
-pub const CALLS: [(Call, &str); 16] = [
+pub const CALLS: [(Call, &str); COUNT] = [
     (ReadTable, "skv_read_table"),
     (WriteTable, "skv_write_table"),
     (ReadTransaction, "skv_read_transaction"),
     (WriteTransaction, "skv_write_transaction"),
     (ReadCommand, "skv_read_command"),
     (WriteCommand, "skv_write_command"),
+    (ReadCaptureRecord, "skv_read_capture_record"),
+    (WriteCaptureRecord, "skv_write_capture_record"),
     (ReadTransactions, "skv_read_transactions"),
     (Schedule, "skv_schedule"),
     (ScheduleBytes, "skv_schedule_bytes"),
     (Judge, "skv_judge"),
     (JudgePattern, "skv_judge_pattern"),
+    (JudgeCapture, "skv_judge_capture"),
     (Bound, "skv_bound"),
     (Start, "skv_start"),
     (Run, "skv_run"),
@@ -55,7 +64,7 @@ impl Call {
         matches!(self, Run | Step | RunBytes)
     }
 
-    /// Whether a table is lent, and with it an edition expected: all but the first six, which read and write one record.
+    /// Whether a table is lent, and with it an edition expected: all but the first eight, which read and write one record.
     pub fn expects(self) -> bool {
         self as usize >= ReadTransactions as usize
     }
@@ -65,12 +74,13 @@ impl Call {
         match self {
             ReadTable | WriteTable => &[1, 2],
             ReadTransaction | WriteTransaction => &[3, 4],
-            ReadCommand => &[7],
-            WriteCommand => &[5],
+            ReadCommand | ReadCaptureRecord => &[7],
+            WriteCommand | WriteCaptureRecord => &[5],
             ReadTransactions => &[1, 2, 10, 3, 4],
             Schedule | ScheduleBytes => &[1, 2, 10, 3, 4, 5, 6],
             Judge => &[1, 2, 10, 7],
             JudgePattern => &[1, 2, 10, 7, 8],
+            JudgeCapture => &[1, 2, 10, 7, 11, 5],
             Bound => &[1, 2, 10, 4],
             Start => &[1, 2, 10],
             Run | Step | RunBytes => &[1, 2, 10, 3, 4, 5, 9],
@@ -81,8 +91,17 @@ impl Call {
     pub fn record(self) -> usize {
         match self {
             Judge | JudgePattern => 8,
-            ReadTransaction | ReadCommand => 1,
+            ReadTransaction | ReadCommand | ReadCaptureRecord => 1,
             _ => 4,
+        }
+    }
+
+    /// How many commands there must be room for with such bytes: those due, or those of a capture.
+    pub fn room_in_commands(self, bytes: &[u8]) -> usize {
+        let records = records(bytes);
+        match self {
+            JudgeCapture => records.iter().filter(|x| !is_tick(x)).count(),
+            _ => due(&records),
         }
     }
 }
@@ -115,6 +134,16 @@ pub fn records(bytes: &[u8]) -> Vec<[u8; 4]> {
     bytes.chunks_exact(4).map(record).collect()
 }
 
+/// Of a capture record.
+pub fn is_tick(x: &[u8; 4]) -> bool {
+    x[2..] == [TICK.0, TICK.1]
+}
+
+/// Of a capture record.
+pub fn stamp(x: &[u8; 4]) -> u16 {
+    u16::from_le_bytes([x[0], x[1]])
+}
+
 #[derive(Debug, Clone, PartialEq, Eq)]
 pub struct Case {
     pub call: Call,
@@ -122,7 +151,7 @@ pub struct Case {
     pub expected: u16,
     /// The table's bytes; for `skv_write_table` the sixteen numbers.
     pub table: Vec<u8>,
-    /// The list, the schedule, the pattern, or the one record to be read.
+    /// The list, the schedule, the pattern, the capture, or the one record to be read.
     pub bytes: Vec<u8>,
     /// What is passed as plain numbers, in the order of the parameters.
     pub values: [u32; 4],
@@ -184,9 +213,21 @@ impl Case {
         self.given().contains(&REFRESH_BYTES)
     }
 
-    /// The records of the bytes, for a reader: commands as cycle, kind, bank and number.
+    /// Of a capture, how many records are ticks, and how often the stamp goes round.
+    pub fn ticks_and_wraps(&self) -> (usize, usize) {
+        let records = self.records();
+        let ticks = records.iter().filter(|x| is_tick(x)).count();
+        let goes_round = |pair: &&[[u8; 4]]| stamp(&pair[1]) < stamp(&pair[0]);
+        (ticks, records.windows(2).filter(goes_round).count())
+    }
+
+    /// The records of the bytes, for a reader: commands as cycle, kind, bank and number; capture records as stamp, kind and bank.
     pub fn shown(&self) -> Vec<Vec<u32>> {
         let record = |x: &[u8]| match *x {
+            [a, b, kind, bank] if self.call == JudgeCapture => {
+                let stamp = u16::from_le_bytes([a, b]);
+                vec![stamp.into(), kind.into(), bank.into()]
+            }
             [a, b, c, d, kind, bank, e, f] => {
                 let cycle = u32::from_le_bytes([a, b, c, d]);
                 let number = u16::from_le_bytes([e, f]);

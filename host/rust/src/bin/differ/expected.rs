@@ -108,6 +108,13 @@ pub fn expected(case: &Case, noise: &Noise) -> Outcome {
         Call::WriteCommand => {
             answer(desk::write_command(a, b as u8, c as u8, d as u16, &mut room).map(whole))
         }
+        Call::ReadCaptureRecord => answer(
+            desk::read_capture_record(bytes)
+                .map(|r| (0, [r.stamp.into(), r.kind.into(), r.bank.into()])),
+        ),
+        Call::WriteCaptureRecord => answer(
+            desk::write_capture_record(a as u16, b as u8, c as u8, &mut room).map(whole),
+        ),
         Call::ReadTransactions => {
             let told = desk::read_transactions(e, table, bytes, &mut places);
             answer(told.map(|d| (d.edition, [d.transactions, 0])))
@@ -135,6 +142,16 @@ pub fn expected(case: &Case, noise: &Noise) -> Outcome {
                 }
             },
         )),
+        Call::JudgeCapture => {
+            let told = desk::judge_capture(e, table, bytes, &mut room);
+            answer(told.map(|c| {
+                let (rule, record) = match c.verdict {
+                    Verdict::Accepted => (0, 0),
+                    Verdict::Broken { rule, record } => (rule, record),
+                };
+                (c.edition, [c.commands, rule.into(), record as u32])
+            }))
+        }
         Call::Bound => {
             let told = desk::bound(e, table, a as u8, b as u8);
             answer(told.map(|(edition, bound)| (edition, [bound as u32, 0])))

@@ -1,5 +1,6 @@
 //! Cases: random and hostile, for every call.
 
+mod captures;
 mod lists;
 mod refreshes;
 mod refusals;
@@ -15,7 +16,7 @@ use crate::numbers::Random;
 pub use states::too_long;
 
 /// How often each call is made, in the order of the header.
-const SHARES: [usize; 16] = [3, 3, 2, 2, 1, 2, 6, 12, 8, 14, 10, 3, 1, 14, 6, 8];
+const SHARES: [usize; COUNT] = [3, 3, 2, 2, 1, 2, 1, 2, 6, 12, 8, 14, 10, 12, 3, 1, 14, 6, 8];
 
 /// Case `index` of a seed.
 pub fn case(seed: u64, index: u64) -> Case {
@@ -46,6 +47,11 @@ pub fn case(seed: u64, index: u64) -> Case {
             case.values = [r.edge(), r.u8().into(), r.u8().into(), r.u32() & 0xffff];
             case.room = room(r, 8);
         }
+        Call::ReadCaptureRecord => case.bytes = record(r, 4),
+        Call::WriteCaptureRecord => {
+            case.values = [r.u32() & 0xffff, r.u8().into(), r.u8().into(), 0];
+            case.room = room(r, 4);
+        }
         Call::ReadTransactions => {
             let table = tables::some(r, &mut case);
             case.bytes = lists::some(r, &table);
@@ -64,6 +70,11 @@ pub fn case(seed: u64, index: u64) -> Case {
         Call::JudgePattern => {
             let table = tables::for_judges(r, &mut case);
             schedules::pattern(r, &table, &mut case);
+        }
+        Call::JudgeCapture => {
+            let table = tables::for_judges(r, &mut case);
+            case.bytes = captures::some(r, &table);
+            case.room = room(r, 8 * case.call.room_in_commands(&case.bytes));
         }
         Call::Bound => {
             tables::some(r, &mut case);
@@ -130,7 +141,7 @@ fn slots(r: &mut Random, due: usize) -> usize {
 }
 
 /// Cases that random ones seldom meet or may miss: the greatest sizes, a run that idles from the first cycle to the last, lists from every
-/// start, many refreshes, and every refusal of every call.
+/// start, many refreshes, captures up to the last cycle, and every refusal of every call.
 pub fn last() -> Vec<Case> {
     let table = |t: &model::desk::Table| model::house::bytes_of(t);
     let mut cases = Vec::new();
@@ -183,6 +194,7 @@ pub fn last() -> Vec<Case> {
     cases.push(idles);
     cases.extend(over_the_last_bank());
     cases.extend(refreshes::all());
+    cases.extend(captures::last());
     cases.extend(refusals::all());
     cases
 }

@@ -54,7 +54,7 @@ fn cut(
             let with_less_room = {
                 let gone = &least.bytes[at..at + size];
                 let mut next = next.clone();
-                next.room = next.room.saturating_sub(8 * due(&records(gone)));
+                next.room = next.room.saturating_sub(8 * next.call.room_in_commands(gone));
                 next.slots = next.slots.saturating_sub(size / 4);
                 next
             };
@@ -155,7 +155,7 @@ fn changes(case: &Case) -> Vec<Change> {
         }
     }
     // Records of a list: simplest numbers, with the room that goes with them, and without.
-    if case.call.record() == 4 {
+    if case.call.record() == 4 && case.call != Call::JudgeCapture {
         for at in (0..case.bytes.len() / 4 * 4).step_by(4).take(100) {
             all.push(Box::new(move |c| {
                 let before = due(&c.records());

@@ -2,28 +2,30 @@
 
 use std::ops::RangeInclusive;
 
-use crate::case::{Call, Case, CALLS};
+use crate::case::{Call, Case, CALLS, COUNT};
 use crate::expected::{refused, Outcome};
 
 #[derive(Default)]
 pub struct Tally {
-    calls: [u64; 16],
+    calls: [u64; COUNT],
     /// By the refusal's number; 0 is accepted.
-    refused: [[u64; 11]; 16],
+    refused: [[u64; 12]; COUNT],
     /// With another edition expected than the table's: those refused by what goes before it, 1 and 2, and in place of 10 what would be told
     /// with the table's own; 0 is nothing.
-    others: [[u64; 11]; 16],
+    others: [[u64; 12]; COUNT],
     /// Not refused, with a transaction that goes over the last bank; of these, with one that takes all banks.
-    over: [[u64; 2]; 16],
+    over: [[u64; 2]; COUNT],
     /// Not refused, with a refresh.
-    refreshes: [u64; 16],
-    /// By the broken rule; 0 is an accepted schedule or pattern.
-    rules: [[u64; 13]; 2],
+    refreshes: [u64; COUNT],
+    /// By the broken rule; 0 is an accepted schedule, pattern or capture.
+    rules: [[u64; 13]; 3],
     /// Broken patterns, by the copy from 1; the last place has all later ones.
     copies: [u64; 6],
+    /// Captures not refused: with a tick, whose stamp goes round, and with a true cycle past 4,000,000,000.
+    captures: [u64; 3],
 }
 
-fn by_number(counts: &[u64; 11], numbers: RangeInclusive<usize>) -> String {
+fn by_number(counts: &[u64; 12], numbers: RangeInclusive<usize>) -> String {
     let by: Vec<String> = numbers
         .filter(|&number| counts[number] > 0)
         .map(|number| format!("{number}: {}", counts[number]))
@@ -47,17 +49,30 @@ impl Tally {
             self.over[call as usize][1] += u64::from(wraps.contains(&true));
             self.refreshes[call as usize] += u64::from(case.refreshes());
         }
-        let judge = match call {
-            Call::Judge => 0,
-            Call::JudgePattern => 1,
-            _ => return,
-        };
-        if number == 0 {
-            self.rules[judge][told.answer[3] as usize] += 1;
-            let copy = told.answer[4] as usize;
-            if copy > 0 {
-                self.copies[copy.min(6) - 1] += 1;
+        if number > 0 {
+            return;
+        }
+        match call {
+            Call::Judge => self.rules[0][told.answer[3] as usize] += 1,
+            Call::JudgePattern => {
+                self.rules[1][told.answer[3] as usize] += 1;
+                let copy = told.answer[4] as usize;
+                if copy > 0 {
+                    self.copies[copy.min(6) - 1] += 1;
+                }
             }
+            Call::JudgeCapture => {
+                self.rules[2][told.answer[4] as usize] += 1;
+                let (ticks, wraps) = case.ticks_and_wraps();
+                for (count, met) in self.captures.iter_mut().zip([
+                    ticks > 0,
+                    wraps > 0,
+                    wraps * 65_536 > 4_000_000_000,
+                ]) {
+                    *count += u64::from(met);
+                }
+            }
+            _ => (),
         }
     }
 
@@ -80,36 +95,36 @@ impl Tally {
 
     pub fn print(&self) {
         println!(
-            "{:22}{:>9}{:>9}  refused, by number; each again with all that is lent in read-only pages",
+            "{:25}{:>9}{:>9}  refused, by number; each again with all that is lent in read-only pages",
             "", "calls", "not ref."
         );
         for (at, (_, name)) in CALLS.iter().enumerate() {
-            let by = by_number(&self.refused[at], 1..=10);
+            let by = by_number(&self.refused[at], 1..=11);
             let (calls, accepted) = (self.calls[at], self.refused[at][0]);
-            println!("{name:22}{calls:>9}{accepted:>9}  {by}");
+            println!("{name:25}{calls:>9}{accepted:>9}  {by}");
         }
         println!("with another edition expected: refused as 1 and 2; as 10, by what else there was to refuse");
         for (at, (call, name)) in CALLS.iter().enumerate() {
             if call.expects() {
                 let [nothing, first, second, ..] = self.others[at];
-                let rest = by_number(&self.others[at], 3..=9);
-                println!("{name:22}  1: {first}, 2: {second}; 10 with nothing: {nothing}  {rest}");
+                let rest = by_number(&self.others[at], 3..=11);
+                println!("{name:25}  1: {first}, 2: {second}; 10 with nothing: {nothing}  {rest}");
             }
         }
         println!("not refused, with a transaction that goes over the last bank; of these, with one that takes all banks");
         for (at, (_, name)) in CALLS.iter().enumerate() {
             let [some, all] = self.over[at];
             if some > 0 {
-                println!("{name:22}{some:>9}{all:>9}");
+                println!("{name:25}{some:>9}{all:>9}");
             }
         }
         let with = |&at: &usize| self.refreshes[at] > 0;
-        let by: Vec<String> = (0..16)
+        let by: Vec<String> = (0..COUNT)
             .filter(with)
             .map(|at| format!("{}: {}", CALLS[at].1, self.refreshes[at]))
             .collect();
         println!("not refused, with a refresh: {}", by.join(", "));
-        for (name, rules) in ["schedules", "patterns"].iter().zip(&self.rules) {
+        for (name, rules) in ["schedules", "patterns", "captures"].iter().zip(&self.rules) {
             let by: Vec<String> = (1..=12)
                 .map(|rule| format!("{rule}: {}", rules[rule]))
                 .collect();
@@ -123,5 +138,7 @@ impl Tally {
         println!(
             "patterns broken, by copy: 1: {first}, 2: {second}, 3: {third}, 4: {fourth}, 5: {fifth}, later: {later}"
         );
+        let [ticks, wraps, late] = self.captures;
+        println!("captures not refused, with ticks: {ticks}, with stamps that go round: {wraps}, past cycle 4,000,000,000: {late}");
     }
 }

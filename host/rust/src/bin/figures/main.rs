@@ -7,6 +7,7 @@
 
 mod archives;
 mod builds;
+mod captures;
 mod judgements;
 mod ordinary;
 mod steps;
@@ -126,4 +127,5 @@ fn main() {
     builds::measure();
     steps::measure(emulated);
     judgements::measure(emulated);
+    captures::measure(emulated);
 }

@@ -1,9 +1,11 @@
-//! What an ordinary Rust program would do for a schedule, a step and a verdict: state per bank, the latest RD and WR of all, no proof.
+//! What an ordinary Rust program would do for a schedule, a step, a verdict and a capture: state per bank, the latest RD and WR of all, no proof.
 
+mod capture;
 mod judge;
 mod schedule;
 mod step;
 
+pub use capture::judge_capture;
 pub use judge::judge;
 pub use schedule::{schedule, schedule_bytes};
 pub use step::step;

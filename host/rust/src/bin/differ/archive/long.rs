@@ -5,7 +5,7 @@ use std::time::{Duration, Instant};
 use model::house::{bytes_of, TABLE_A};
 use skvorzhan::raw::*;
 
-use super::{controller, numbers, verdict, Archive};
+use super::{captured, controller, numbers, verdict, Archive};
 use crate::case::{fresh, Call, Case};
 use crate::lent::untouchable;
 use crate::trap;
@@ -16,12 +16,13 @@ pub const ENTRIES: usize = 100_000_000;
 const AT_ONCE: Duration = Duration::from_millis(10);
 
 /// Each call that is lent a list, with the number that its length is refused by.
-const LENT_A_LIST: [(Call, usize); 8] = [
+const LENT_A_LIST: [(Call, usize); 9] = [
     (Call::ReadTransactions, 3),
     (Call::Schedule, 3),
     (Call::ScheduleBytes, 3),
     (Call::Judge, 7),
     (Call::JudgePattern, 7),
+    (Call::JudgeCapture, 7),
     (Call::Run, 3),
     (Call::Step, 3),
     (Call::RunBytes, 3),
@@ -104,6 +105,9 @@ impl Archive {
                 )),
                 Call::Judge => verdict(skv_judge(e, t, tn, list, bytes)),
                 Call::JudgePattern => verdict(skv_judge_pattern(e, t, tn, list, bytes, 9)),
+                Call::JudgeCapture => {
+                    captured(skv_judge_capture(e, t, tn, list, bytes, room, 64))
+                }
                 Call::Run => numbers(skv_run(c, e, t, tn, xs, n, 9, room, 64)),
                 Call::Step => numbers(skv_step(c, e, t, tn, xs, n, room, 64)),
                 _ => numbers(skv_run_bytes(by_value, e, t, tn, list, bytes, 9, room, 64).answer),

@@ -27,6 +27,8 @@ fn accepted(call: Call) -> Case {
         Call::ReadTransaction => vec![0, 0, 1, 1],
         Call::ReadCommand => vec![0; 8],
         Call::Judge | Call::JudgePattern => Vec::new(),
+        Call::ReadCaptureRecord => vec![0; 4],
+        Call::JudgeCapture => CAPTURE.concat(),
         _ => vec![1, 0, 1, 1, 0, 0, 1, 1],
     };
     case.values = match call {
@@ -38,11 +40,16 @@ fn accepted(call: Call) -> Case {
     case.room = match call {
         Call::WriteTransaction => 4,
         Call::WriteCommand | Call::Step => 8,
+        Call::WriteCaptureRecord => 4,
+        Call::JudgeCapture => 16,
         _ => 32,
     };
     case.slots = 2;
     case
 }
+
+/// An ACT at 65,535, a tick, and an RDA ten cycles after the ACT.
+const CAPTURE: [[u8; 4]; 3] = [[255, 255, 0, 0], [3, 0, 255, 0], [9, 0, 2, 0]];
 
 /// A refresh that is none.
 const WITH_BC: [u8; 4] = [2, 0, 0, 1];
@@ -74,6 +81,13 @@ fn refuse(case: &mut Case, number: usize, way: u8) {
         }
         (5, _) => case.room -= 1,
         (6, _) => case.slots -= 1,
+        // The tick's stamp, or that of the RDA or of another tick after it, is the one before it.
+        (11, _) => match way {
+            0 => case.bytes[4..6].copy_from_slice(&[255, 255]),
+            1 => case.bytes[8] = 3,
+            2 => case.bytes.extend([9, 0, 255, 0]),
+            _ => case.bytes.extend([9, 0, 0, 1, 9, 0, 0, 1]),
+        },
         (8, _) => case.values[0] = 0,
         (9, _) => match way {
             0 => case.state[CYCLE] = 100_000_000,

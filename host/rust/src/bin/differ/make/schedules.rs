@@ -91,7 +91,8 @@ fn shift(r: &mut Random, records: &mut [[u8; 8]]) {
     }
 }
 
-fn records(r: &mut Random, table: &Table, most: usize) -> Vec<[u8; 8]> {
+/// Built ones, any others, and both with a record changed.
+pub fn records(r: &mut Random, table: &Table, most: usize) -> Vec<[u8; 8]> {
     let mut records = match r.below(16) {
         0 => Vec::new(),
         1 => (0..r.below(6)).map(|_| r.any().to_le_bytes()).collect(),
@@ -104,6 +105,12 @@ fn records(r: &mut Random, table: &Table, most: usize) -> Vec<[u8; 8]> {
     if r.one_in(3) {
         change(r, &mut records);
     }
+    records
+}
+
+/// The same, now and then as late as can be.
+fn early_or_late(r: &mut Random, table: &Table, most: usize) -> Vec<[u8; 8]> {
+    let mut records = records(r, table, most);
     if r.one_in(12) {
         shift(r, &mut records);
     }
@@ -126,14 +133,14 @@ pub fn some(r: &mut Random, table: &Table) -> Vec<u8> {
         13..=100 => 60,
         _ => 16,
     };
-    let records = records(r, table, most);
+    let records = early_or_late(r, table, most);
     whole_or_cut(r, &records)
 }
 
 /// The bytes of a pattern and a length: often the least that is accepted, or one below.
 pub fn pattern(r: &mut Random, table: &Table, case: &mut Case) {
     let most = if r.one_in(10) { 30 } else { 1 + r.below(9) };
-    let records = records(r, table, most);
+    let records = early_or_late(r, table, most);
     let (first, last) = (
         records.first().map_or(0, cycle),
         records.last().map_or(0, cycle),

@@ -3,6 +3,7 @@
 use super::*;
 use model::desk;
 use model::house::*;
+use model::sent::{capture, of_schedule, tick, with_ticks, Sent, MOST_GAP};
 
 /// From any start, over the last bank too; now and then all banks, and now and then one beyond a limit. Refreshes where the table has them, and
 /// seldom where it has none.
@@ -98,6 +99,68 @@ fn steps_as_the_model_says() {
         told.iter().all(|&n| n > 50) && refs > 20,
         "{told:?}, {refs}"
     );
+}
+
+/// Captures of built schedules with some commands far apart, and those with a byte changed.
+#[test]
+fn captures_as_the_model_says() {
+    let mut numbers = Numbers(9);
+    let (mut accepted, mut broken, mut refused) = (0, 0, [0; 12]);
+    for round in 0..3000 {
+        let t = [TABLE_A, LEAST, REFRESHED, ODD[1]][round % 4];
+        let (edition, table) = (t[0], bytes_of(&t));
+        let list = [[0, 0, 3, 2], [1, 1, 2, 1], [0, 3, 4, 1]];
+        let (bytes, _) = built(&t, &list[..round % 4]);
+        let mut commands = of_schedule(&bytes);
+        for at in 0..commands.len() {
+            let by = numbers.of(&[0, 0, 1, 9, 60_000, 65_530, 131_072]);
+            commands[at..].iter_mut().for_each(|c| c.0 += by);
+        }
+        let mut bytes = capture(&with_ticks(&commands, || numbers.byte().into()));
+        for _ in 0..round % 3 {
+            if bytes.len() > 4 {
+                let at = 4 + (256 * numbers.below(256) + numbers.below(256)) % (bytes.len() - 4);
+                match numbers.below(3) {
+                    0 => bytes[at] = bytes[at].wrapping_sub(1),
+                    1 => bytes[at] = numbers.of(&[0, 255]),
+                    // The stamp of the record before.
+                    _ => bytes.copy_within(at / 4 * 4 - 4..at / 4 * 4 - 2, at / 4 * 4),
+                }
+            }
+        }
+        bytes.truncate(bytes.len() - numbers.below(30) / 29);
+        let size = 8 * commands.len() + numbers.of(&[0, 0, 3, 8]);
+        let (mut room, mut own_room) = (vec![9; size], vec![9; size]);
+        let told = desk::judge_capture(edition, &table, &bytes, &mut room);
+        let own = judge_capture(edition, &table, &bytes, &mut own_room);
+        let right = told.ok().map(|told| {
+            let verdict = match told.verdict {
+                desk::Verdict::Accepted => None,
+                desk::Verdict::Broken { rule, record } => Some((rule, record)),
+            };
+            (told.commands as usize, verdict)
+        });
+        assert_eq!(own, right);
+        assert!(own_room == room);
+        match (told, right) {
+            (Err(r), _) => refused[usize::from(r.number)] += 1,
+            (_, Some((_, None))) => accepted += 1,
+            _ => broken += 1,
+        }
+    }
+    assert!(accepted > 500 && broken > 100, "{accepted}, {broken}");
+    let met = |number: usize| refused[number] > 20;
+    assert!(met(5) && met(7) && met(11), "{refused:?}");
+    // Past the last cycle, and at it.
+    let far: Vec<Sent> = (1..=65_537).map(|k| tick(k * MOST_GAP)).collect();
+    let mut far = capture(&far);
+    let table = bytes_of(&TABLE_A);
+    assert_eq!(judge_capture(7, &table, &far, &mut []), Some((0, None)));
+    far.extend([0, 0, 255, 0]);
+    assert_eq!(judge_capture(7, &table, &far, &mut []), None);
+    far.truncate(4);
+    assert_eq!(judge_capture(7, &table, &far.repeat(2), &mut []), None);
+    assert_eq!(judge_capture(7, &table, &[0; 4 * 69_633], &mut []), None);
 }
 
 /// Built schedules, and judged ones with a byte changed.
