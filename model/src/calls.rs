@@ -80,13 +80,26 @@ fn cases() -> Vec<Case> {
     ]
 }
 
+/// By table A.
+const CAPTURES: [&[u8]; 3] = [
+    &[250, 255, 0, 0, 255, 255, 255, 0, 4, 0, 2, 0],
+    &[250, 255, 0, 0, 255, 255, 255, 0, 3, 0, 2, 0],
+    &[
+        250, 255, 0, 0, 255, 255, 255, 0, 255, 255, 255, 0, 4, 0, 2, 0,
+    ],
+];
+
 pub fn lines() -> String {
     let mut out = Lines(String::new());
     for case in cases() {
         out.records(&case);
+        out.captures(&case);
         out.lists(&case);
         out.schedules(&case);
         out.runs(&case);
+    }
+    for bytes in CAPTURES {
+        out.capture(bytes);
     }
     out.0
 }
@@ -127,6 +140,39 @@ impl Lines {
         let written = write_command(case.count, kind, start, bi.into(), &mut room);
         let written = host(written.map(|e| (e, 0, 0)));
         self.line("skv_write_command", &[written, hex(&room)]);
+    }
+
+    fn captures(&mut self, case: &Case) {
+        let three = |x: CaptureRecord| (0, vec![x.stamp.into(), x.kind.into(), x.bank.into()]);
+        let read = flat(read_capture_record(case.bytes), three, 3);
+        self.line("skv_read_capture_record", &[read]);
+        let [kind, start, _, _] = case.list[0];
+        let mut room = [255; 5];
+        let written = write_capture_record(case.expected, kind, start, &mut room);
+        let written = host(written.map(|e| (e, 0, 0)));
+        self.line("skv_write_capture_record", &[written, hex(&room)]);
+        self.judged(case.expected, &case.table(), case.bytes);
+    }
+
+    fn capture(&mut self, bytes: &[u8]) {
+        let mut table = [0; 32];
+        let written = host(write_table(TABLE_A, &mut table).map(|e| (e, 0, 0)));
+        self.line("skv_write_table", &[written, hex(&table)]);
+        self.judged(7, &table, bytes);
+    }
+
+    fn judged(&mut self, expected: u16, table: &[u8], bytes: &[u8]) {
+        let mut room = [9; 25];
+        let answer = judge_capture(expected, table, bytes, &mut room);
+        let told = |seen: Captured| match seen.verdict {
+            Verdict::Accepted => (seen.edition, vec![seen.commands, 0, 0]),
+            Verdict::Broken { rule, record } => (
+                seen.edition,
+                vec![seen.commands, rule.into(), record as u32],
+            ),
+        };
+        let answer = flat(answer, told, 3);
+        self.line("skv_judge_capture", &[answer, hex(&room)]);
     }
 
     fn lists(&mut self, case: &Case) {

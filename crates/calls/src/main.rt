@@ -1,11 +1,15 @@
 // Makes every public call to which something is lent, and every call of the host, on the cases below. What it must print is stored beside it,
 // from `model/`, which has the same cases.
+mod captured;
 mod lent;
 mod lent_host;
 mod one_record;
 mod told;
 mod whole;
 
+use captured::capture_record_read;
+use captured::capture_record_written;
+use captured::captures;
 use lent::lent_read;
 use lent_host::host_read;
 use one_record::command_written;
@@ -112,6 +116,29 @@ fn main() {
         &[0, 0, 1, 1, 2, 0, 0, 1],
         5,
     );
+    // Captures that go round the wrap, with a tick: accepted, and with the RDA too early; a gap of 65,536
+    capture(&[250, 255, 0, 0, 255, 255, 255, 0, 4, 0, 2, 0]);
+    capture(&[250, 255, 0, 0, 255, 255, 255, 0, 3, 0, 2, 0]);
+    capture(
+        &[
+            250,
+            255,
+            0,
+            0,
+            255,
+            255,
+            255,
+            0,
+            255,
+            255,
+            255,
+            0,
+            4,
+            0,
+            2,
+            0,
+        ],
+    );
 }
 
 fn of(kind: u8, start: u8, bi: u8, bc: u8) -> Transaction {
@@ -139,6 +166,9 @@ fn case(
     records_read(table, bytes);
     transaction_written(x);
     command_written(count, x);
+    capture_record_read(bytes);
+    capture_record_written(expected, x);
+    captures(expected, table, bytes);
     lent_read(expected, table, bytes, list);
     host_read(expected, table, bytes, list);
     schedules(expected, table, list, count);
@@ -147,4 +177,12 @@ fn case(
     bounded(expected, table, x);
     starts(expected, table);
     runs(started_as, expected, table, list, bytes, count);
+}
+
+// A capture by table A.
+fn capture(bytes: &[u8]) {
+    let mut t = [0u8; 32];
+    let table = &mut t[..];
+    table_written(table_a(), table);
+    captures(7, table, bytes);
 }

@@ -1,6 +1,6 @@
 -- Laws for the list of worked calls: what every answer that keeps a promise tells, and calls by the length of their bytes alone.
 -- Assumes nothing.
-use Prim.Native.Nat.{ℕ, zero, suc, _%_, _/_}
+use Prim.Native.Nat.{ℕ, zero, suc, _*_, _%_, _/_}
 use native.Mathlib.Omega.{arith}
 use mathlib.Core.Bool.{Bool, true, false, not, _&&_, _||_}
 use mathlib.Core.Path.{_≡_, refl, sym, ap, subst}
@@ -10,11 +10,11 @@ use lib.ListN.{length, replicate}
 use borrow.Author.Tests.{le-ltb}
 use Rattle.records.specs.declared.transaction.Transaction.{Transaction}
 use Rattle.records.specs.Tests.{pick, every}
-use Rattle.records.specs.Told.{refusal}
+use Rattle.records.specs.Told.{refusal, firstFailed, over}
 use Rattle.records.specs.declared.command.Kind.the-variants.{Act, Ref}
 use Rattle.records.specs.Table.{readTable}
 use Rattle.records.specs.Transaction.{transactionsIn, fits}
-use Rattle.records.specs.Command.{command, commandsIn}
+use Rattle.records.specs.Command.{command, commandsIn, bytesOfAll}
 use Rattle.records.specs.House.{tableA, tableB}
 use Rattle.rules.specs.declared.verdict.Rule.the-variants.{Precharge, Faw, End, Rfc}
 use Rattle.rules.specs.declared.verdict.PatternVerdict.the-variants.{Accepted as AllPassed, Refused as BrokenAt}
@@ -25,6 +25,9 @@ use Rattle.judge.specs.declared.answer.Judged.{Judged}
 use Rattle.judge.specs.declared.answer.Judged.the-variants.{Verdict, Refused as NotJudged}
 use Rattle.judge.specs.declared.answer.PatternJudged.{PatternJudged}
 use Rattle.judge.specs.Answer.{scheduleRefusal, judged}
+use Rattle.capture.specs.declared.answer.CaptureJudged.the-variants.{Verdict as CaptureSays, Refused as NotCaptured}
+use Rattle.capture.specs.Capture.{timedIn, lowest}
+use Rattle.capture.specs.Answer.{notACapture, captureCount, commandsSeen, captureRefusal, positionOf, Captured, captured}
 use Rattle.builder.specs.declared.build.BuildAnswer.{BuildAnswer}
 use Rattle.builder.specs.declared.build.BuildAnswer.the-variants.{Refused as NotBuilt}
 use Rattle.lists.specs.declared.check.Checked.{Checked}
@@ -33,12 +36,13 @@ use Rattle.lists.specs.Check.{rangeFrom, checkList, checkBytes, checkInto}
 use Rattle.lists.specs.Decode.{decodedBy, decoding}
 use Rattle.desk.specs.Admit.{admitted}
 use Rattle.desk.specs.Judging.{judging, PatternTold}
+use Rattle.desk.specs.Tracing.{capturing}
 use Rattle.desk.specs.Transactions.{reading}
 use Rattle.desk.specs.Schedules.{BuildsChecked, Schedules}
 use Rattle.desk.specs.Running.{runsChecked, running}
-use Rattle.desk.specs.Numbers.{Numbers, judgedNumbers, patternNumbers, readNumbers, buildNumbers, runNumbers}
+use Rattle.desk.specs.Numbers.{Numbers, judgedNumbers, patternNumbers, captureNumbers, readNumbers, buildNumbers, runNumbers}
 use Rattle.demands.specs.Causes.{row, FirstRow, lowestOut, fewInto}
-use Rattle.demands.specs.Handed.{A, told, judgesBytes, Patterns, reads, Builds, BuildsBytes, runsBytes}
+use Rattle.demands.specs.Handed.{A, told, judgesBytes, Patterns, Traces, reads, Builds, BuildsBytes, runsBytes}
 use Rattle.desk.proofs.Unique.{only}
 use Rattle.demands.proofs.Causes.{causes}
 use Rattle.controller.specs.declared.controller.Controller.{Controller}
@@ -71,6 +75,37 @@ many-records s e = by (scheduleRefusal (length s)) (Verdict 7 (judge tableA (com
   where
     by : (z : ℕ) (x : Judged) → z ≡ 7 → judgedNumbers (pick (eqb z 0) x (NotJudged (refusal z 0 7))) ≡ told 7 0 7
     by z x e = rw e refl
+
+-- what a capture leaves, by whether number 7 applies
+module _ (s b : List ℕ) where
+  abbrev number : Bool → ℕ
+  number x =
+      firstFailed
+      ((7, x) ∷ (11, ltb (lowest (timedIn s)) (captureCount s)) ∷ (5, ltb (length b) (8 * length (commandsSeen s))) ∷ [])
+
+  abbrev left : ℕ → Captured
+  left z =
+      pick (eqb z 0)
+      (record { answer = CaptureSays 7 (length (commandsSeen s)) (judge tableA (commandsSeen s)); buffer = over (bytesOfAll (commandsSeen s)) b })
+      (record { answer = NotCaptured (refusal z (positionOf z s) 7); buffer = b })
+
+  pub few-captured : length s ≡ 278528 → captureNumbers (capturing (admitted 7 A) s b .answer) .refused ≡ 7 → ⊥
+  unfolding admitted readTable capturing captured captureRefusal
+  few-captured e = by (notACapture (length s)) (ap notACapture e) (ltb (lowest (timedIn s)) (captureCount s)) (ltb (length b) (8 * length (commandsSeen s)))
+    where
+      by : (x : Bool) → x ≡ false → (y z : Bool) → captureNumbers (left (firstFailed ((7, x) ∷ (11, y) ∷ (5, z) ∷ [])) .answer) .refused ≡ 7 → ⊥
+      by true e y z h = let q : _≡_ {A = ℕ} 0 1 = cc in omega arith
+      by false e true z h = omega (arith, h)
+      by false e false true h = omega (arith, h)
+      by false e false false h = omega (arith, h)
+
+  pub many-captured : length s ≡ 278532 → Traces 7 A s b (told 7 0 7) b
+  unfolding admitted readTable capturing captured captureRefusal
+  many-captured e = by (notACapture (length s)) (ap notACapture e)
+    where
+      by : (x : Bool) → x ≡ true → (captureNumbers (left (number x) .answer) ≡ told 7 0 7) × (left (number x) .buffer ≡ b)
+      by true e = (refl, refl)
+      by false e = let q : _≡_ {A = ℕ} 0 1 = cc in absurd (omega arith)
 
 pub few-transactions : (s : List ℕ) (l : List Transaction) → length s ≡ 1024 → length l ≡ 256 → reads 7 A s l .refused ≡ 3 → ⊥
 few-transactions s l e k = not-three (fewInto s (length l)) (not (every (fits tableA) (transactionsIn s))) (lowestOut tableA (transactionsIn s)) (reads 7 A s l) good (causes 7 A .readTransactions s l)

@@ -17,6 +17,9 @@ use Rattle.rules.specs.Worked.{refresh, tableR, one, All}
 use Rattle.rules.proofs.Pattern.{five-legal}
 use Rattle.judge.specs.declared.answer.PatternJudged.the-variants.{Verdict as PatternVerdict, Refused as PatternNotJudged}
 use Rattle.judge.specs.Answer.{judged}
+use Rattle.capture.specs.Record.{readCaptureRecord, writeCaptureRecord}
+use Rattle.capture.specs.Capture.{recordsFrom, gap, timedIn, lowest, commandsOf}
+use Rattle.capture.specs.Answer.{commandsSeen, captureRefusal, captured}
 use Rattle.builder.specs.declared.build.BuildAnswer.the-variants.{Built, Refused as NotBuilt}
 use Rattle.builder.specs.Bound.{boundTold}
 use Rattle.lists.specs.Check.{rangeFrom, checkList, checkBytes, checkInto}
@@ -27,14 +30,15 @@ use Rattle.controller.specs.Controller.{tells, kept}
 use Rattle.controller.specs.Run.{runController}
 use Rattle.desk.specs.Admit.{admitted}
 use Rattle.desk.specs.Judging.{judging, PatternTold}
+use Rattle.desk.specs.Tracing.{capturing}
 use Rattle.desk.specs.Bounds.{bounding}
 use Rattle.desk.specs.Transactions.{reading}
 use Rattle.desk.specs.Schedules.{BuildsChecked, Schedules}
 use Rattle.desk.specs.Running.{starting, runsChecked, running}
 use Rattle.demands.specs.Handed.{A, B, R, fine, out}
-use Rattle.demands.specs.Calls.{recordCalls, judgeCalls, listCalls, scheduleCalls, runCalls, calls}
+use Rattle.demands.specs.Calls.{recordCalls, judgeCalls, captureCalls, listCalls, scheduleCalls, runCalls, calls}
 use Rattle.demands.proofs.NeverRuns.{refused-start}
-use Rattle.demands.proofs.CallLaws.{pattern-tells, build-tells, bytes-tell, some, few-records, many-records, few-transactions, many-transactions, many-built, many-run, refused-37, left-open, refused-38, refused-49}
+use Rattle.demands.proofs.CallLaws.{pattern-tells, build-tells, bytes-tell, some, few-records, many-records, few-captured, many-captured, few-transactions, many-transactions, many-built, many-run, refused-37, left-open, refused-38, refused-49}
 
 infixr 4 _⨾_
 -- a proof of the first statement, and of the rest
@@ -42,7 +46,7 @@ abbrev _⨾_ : {P Q : Type 0} → P → Q → P × Q
 p ⨾ ps = (p, ps)
 
 of-records : All recordCalls
-unfolding readTable writeTable readTransaction writeTransaction readCommand writeCommand
+unfolding readTable writeTable readTransaction writeTransaction readCommand writeCommand readCaptureRecord writeCaptureRecord
 of-records =
     refl
     ⨾ refl
@@ -70,6 +74,12 @@ of-records =
     ⨾ refl
     ⨾ refl
     ⨾ refl
+    ⨾ refl
+    ⨾ refl
+    ⨾ refl
+    ⨾ refl
+    ⨾ (refl, refl)
+    ⨾ (refl, refl)
     ⨾ refl
     ⨾ refl
     ⨾ refl
@@ -119,6 +129,30 @@ of-judges =
     ⨾ pattern-tells 7 B (bytesOfAll one) 38 (PatternVerdict 7 (BrokenAt Faw 5 0)) (refl, refl, refused-38)
     ⨾ pattern-tells 7 R (bytesOfAll (command 0 Ref 0 0 ∷ [])) 50 (PatternVerdict 7 AllPassed) (refl, refl, five-legal tableR 50 (command 0 Ref 0 0 ∷ []) .0 refl)
     ⨾ pattern-tells 7 R (bytesOfAll (command 0 Ref 0 0 ∷ [])) 49 (PatternVerdict 7 (BrokenAt Rfc 2 0)) (refl, refl, refused-49)
+    ⨾ tt
+
+of-captures : All captureCalls
+unfolding admitted readTable capturing captured captureRefusal commandsSeen commandsOf lowest timedIn gap recordsFrom
+of-captures =
+    (refl, refl)
+    ⨾ (refl, refl)
+    ⨾ (refl, refl)
+    ⨾ (refl, refl)
+    ⨾ (refl, refl)
+    ⨾ (refl, refl)
+    ⨾ (refl, refl)
+    ⨾ few-captured
+    ⨾ many-captured
+    ⨾ (refl, refl)
+    ⨾ (refl, refl)
+    ⨾ (refl, refl)
+    ⨾ (refl, refl)
+    ⨾ (refl, refl)
+    ⨾ (refl, refl)
+    ⨾ (refl, refl)
+    ⨾ (refl, refl)
+    ⨾ (refl, refl)
+    ⨾ (refl, refl)
     ⨾ tt
 
 of-lists : All listCalls
@@ -221,4 +255,4 @@ of-runs =
     ⨾ tt
 
 pub called : All calls
-called = of-records ⨾ of-judges ⨾ of-lists ⨾ of-schedules ⨾ of-runs ⨾ tt
+called = of-records ⨾ of-judges ⨾ of-captures ⨾ of-lists ⨾ of-schedules ⨾ of-runs ⨾ tt

@@ -14,16 +14,18 @@ use Rattle.records.specs.Transaction.{readTransaction, writeTransaction}
 use Rattle.records.specs.Command.{command, bytesOfAll, readCommand, writeCommand}
 use Rattle.records.specs.House.{house, numbersA}
 use Rattle.rules.specs.Worked.{read, refresh, one, eleven, thenRef, All}
+use Rattle.capture.specs.Record.{captureRecord, readCaptureRecord, writeCaptureRecord}
 use Rattle.lists.specs.Check.{checkList}
 use Rattle.lists.specs.Packed.{recordsOf}
 use Rattle.controller.specs.declared.controller.Controller.{Controller}
 use Rattle.desk.specs.declared.running.StartAnswer.the-variants.{Refused as NotStarted}
 use Rattle.desk.specs.Admit.{admitted}
+use Rattle.desk.specs.Tracing.{capturing}
 use Rattle.desk.specs.Transactions.{reading}
 use Rattle.desk.specs.Running.{starting, running}
 use Rattle.demands.specs.Runs.{NeverRuns}
-use Rattle.desk.specs.Numbers.{telling, tableNumbers, transactionNumbers, commandNumbers, startNumbers}
-use Rattle.demands.specs.Handed.{A, B, C, A50, ccd1, cut, withRfc, R, R200, fine, out, refreshed, gone, told, judges, judgesBytes, Patterns, bounds, reads, Builds, BuildsBytes, runs, runsBytes, Writes}
+use Rattle.desk.specs.Numbers.{telling, tableNumbers, transactionNumbers, commandNumbers, captureRecordNumbers, captureNumbers, startNumbers}
+use Rattle.demands.specs.Handed.{A, B, C, A50, ccd1, cut, withRfc, R, R200, fine, out, trace, tick, seen, refreshed, gone, told, judges, judgesBytes, Patterns, Traces, bounds, reads, Builds, BuildsBytes, runs, runsBytes, Writes}
 
 -- ---- the calls on one record
 
@@ -65,6 +67,13 @@ recordCalls =
     ∷ (commandNumbers (readCommand (replicate 9 0)) ≡ told 7 0 0)
     ∷ Writes (writeCommand (command 10 Rda 3 1) (replicate 9 9)) (telling 0 []) (10 ∷ 0 ∷ 0 ∷ 0 ∷ 2 ∷ 3 ∷ 1 ∷ 0 ∷ 9 ∷ [])
     ∷ Writes (writeCommand (command 10 Rda 3 1) (replicate 7 9)) (told 5 0 0) (replicate 7 9)
+    -- a record of a capture: any 4 bytes; 7 for any other size, 5 for a buffer under 4
+    ∷ (captureRecordNumbers (readCaptureRecord (1 ∷ 2 ∷ 3 ∷ 4 ∷ [])) ≡ telling 0 (513 ∷ 3 ∷ 4 ∷ []))
+    ∷ (captureRecordNumbers (readCaptureRecord (255 ∷ 255 ∷ 255 ∷ 0 ∷ [])) ≡ telling 0 (65535 ∷ 255 ∷ 0 ∷ []))
+    ∷ (captureRecordNumbers (readCaptureRecord (replicate 3 0)) ≡ told 7 0 0)
+    ∷ (captureRecordNumbers (readCaptureRecord (replicate 5 0)) ≡ told 7 0 0)
+    ∷ Writes (writeCaptureRecord (captureRecord 513 3 4) (replicate 5 9)) (telling 0 []) (1 ∷ 2 ∷ 3 ∷ 4 ∷ 9 ∷ [])
+    ∷ Writes (writeCaptureRecord (captureRecord 513 3 4) (replicate 3 9)) (told 5 0 0) (replicate 3 9)
     ∷ []
 
 -- ---- the judges
@@ -114,6 +123,40 @@ judgeCalls =
     ∷ Patterns 7 B (bytesOfAll one) 38 (telling 7 (7 ∷ 5 ∷ 0 ∷ []))
     ∷ Patterns 7 R (bytesOfAll (command 0 Ref 0 0 ∷ [])) 50 (telling 7 [])
     ∷ Patterns 7 R (bytesOfAll (command 0 Ref 0 0 ∷ [])) 49 (telling 7 (12 ∷ 2 ∷ 0 ∷ []))
+    ∷ []
+
+-- ---- captures
+
+abbrev pub captureCalls : List (Type 0)
+captureCalls =
+    -- 1 before 2, 2 before 10, 10 before 7, 7 before 11, 11 before 5, 5: nothing is written
+    Traces 8 cut (0 ∷ []) (9 ∷ []) (told 1 0 0) (9 ∷ [])
+    ∷ Traces 8 ccd1 (0 ∷ []) (9 ∷ []) (told 2 0 0) (9 ∷ [])
+    ∷ Traces 8 A (0 ∷ []) (9 ∷ []) (told 10 7 7) (9 ∷ [])
+    ∷ Traces 0 A (0 ∷ []) (9 ∷ []) (told 10 7 7) (9 ∷ [])
+    ∷ Traces 7 A (trace (tick 5 ∷ tick 5 ∷ []) ++ (0 ∷ [])) (9 ∷ []) (told 7 0 7) (9 ∷ [])
+    ∷ Traces 7 A (trace (seen 5 0 ∷ tick 5 ∷ [])) (9 ∷ []) (told 11 1 7) (9 ∷ [])
+    ∷ Traces 7 A (trace (seen 5 0 ∷ tick 6 ∷ [])) (replicate 7 9) (told 5 0 7) (replicate 7 9)
+    -- 69,632 records, and one more
+    ∷ ((s b : List ℕ) → length s ≡ 278528 → captureNumbers (capturing (admitted 7 A) s b .answer) .refused ≡ 7 → ⊥)
+    ∷ ((s b : List ℕ) → length s ≡ 278532 → Traces 7 A s b (told 7 0 7) b)
+    -- 11 at the lowest such record, ticks counted; the first record has none before it; a gap of 65,535
+    ∷ Traces 7 A (trace (tick 5 ∷ tick 6 ∷ seen 6 0 ∷ seen 6 2 ∷ [])) (replicate 16 9) (told 11 2 7) (replicate 16 9)
+    ∷ Traces 7 A (trace (tick 0 ∷ tick 65535 ∷ tick 65534 ∷ [])) [] (telling 7 (0 ∷ [])) []
+    ∷ Traces 7 A [] [] (telling 7 (0 ∷ [])) []
+    -- accepted: ACT at 65,530 and, round the wrap, RDA at 65,540; ticks are not written, and what is beyond the commands stands
+    ∷ Traces 7 A (trace (tick 100 ∷ seen 65530 0 ∷ tick 65535 ∷ tick 3 ∷ seen 4 2 ∷ tick 34464 ∷ [])) (replicate 17 9) (telling 7 (2 ∷ []))
+    (bytesOfAll (command 65530 Act 0 0 ∷ command 65540 Rda 0 0 ∷ []) ++ (9 ∷ []))
+    -- a verdict against it leaves the commands written: a rule and a record, rule 10 and how many there are
+    ∷ Traces 7 A (trace (tick 4 ∷ seen 5 0 ∷ tick 10 ∷ seen 14 2 ∷ [])) (replicate 17 9) (telling 7 (2 ∷ 8 ∷ 1 ∷ []))
+    (bytesOfAll (command 5 Act 0 0 ∷ command 14 Rda 0 0 ∷ []) ++ (9 ∷ []))
+    ∷ Traces 7 A (trace (tick 4 ∷ seen 5 0 ∷ [])) (replicate 9 9) (telling 7 (1 ∷ 10 ∷ 1 ∷ [])) (bytesOfAll (command 5 Act 0 0 ∷ []) ++ (9 ∷ []))
+    -- kind 255 with another bank than 0 is a command, and so is any other kind; a REF
+    ∷ Traces 7 A (trace (tick 4 ∷ captureRecord 5 255 1 ∷ [])) (replicate 8 9) (telling 7 (1 ∷ 1 ∷ 0 ∷ [])) (bytesOfAll (command 5 (Other 255) 1 0 ∷ []))
+    ∷ Traces 7 A (trace (seen 5 6 ∷ [])) (replicate 8 9) (telling 7 (1 ∷ 1 ∷ 0 ∷ [])) (bytesOfAll (command 5 (Other 6) 0 0 ∷ []))
+    ∷ Traces 7 R (trace (seen 65500 5 ∷ seen 14 5 ∷ [])) (replicate 16 9) (telling 7 (2 ∷ [])) (bytesOfAll (command 65500 Ref 0 0 ∷ command 65550 Ref 0 0 ∷ []))
+    ∷ Traces 7 R (trace (seen 65500 5 ∷ seen 13 5 ∷ [])) (replicate 16 9) (telling 7 (2 ∷ 12 ∷ 1 ∷ []))
+    (bytesOfAll (command 65500 Ref 0 0 ∷ command 65549 Ref 0 0 ∷ []))
     ∷ []
 
 -- ---- the bound, and lists
@@ -235,4 +278,4 @@ runCalls =
     ∷ []
 
 abbrev pub calls : List (Type 0)
-calls = All recordCalls ∷ All judgeCalls ∷ All listCalls ∷ All scheduleCalls ∷ All runCalls ∷ []
+calls = All recordCalls ∷ All judgeCalls ∷ All captureCalls ∷ All listCalls ∷ All scheduleCalls ∷ All runCalls ∷ []

@@ -1,7 +1,7 @@
 -- What the worked calls are handed, and how what they tell is written.
 use Prim.Native.Nat.{ℕ}
 use mathlib.Core.Path.{_≡_}
-use mathlib.Core.List.{List, [], _∷_}
+use mathlib.Core.List.{List, [], _∷_, _++_}
 use lib.ListN.{take, replicate}
 use Rattle.records.specs.declared.transaction.Transaction.{Transaction}
 use Rattle.records.specs.declared.command.Command.{Command}
@@ -12,16 +12,19 @@ use Rattle.records.specs.Command.{bytesOfAll}
 use Rattle.records.specs.House.{house, numbersA, numbersB, numbersC}
 use Rattle.rules.specs.Worked.{read}
 use Rattle.judge.specs.declared.answer.PatternJudged.{PatternJudged}
+use Rattle.capture.specs.declared.one_record.CaptureRecord.{CaptureRecord}
+use Rattle.capture.specs.Record.{captureRecord, bytesOfRecord}
 use Rattle.builder.specs.declared.build.BuildAnswer.{BuildAnswer}
 use Rattle.lists.specs.Check.{checkList, checkBytes}
 use Rattle.controller.specs.declared.controller.Controller.{Controller}
 use Rattle.desk.specs.Admit.{admitted}
 use Rattle.desk.specs.Judging.{judging, PatternTold}
+use Rattle.desk.specs.Tracing.{capturing}
 use Rattle.desk.specs.Bounds.{bounding}
 use Rattle.desk.specs.Transactions.{reading}
 use Rattle.desk.specs.Schedules.{Schedules}
 use Rattle.desk.specs.Running.{running}
-use Rattle.desk.specs.Numbers.{Numbers, refusing, writtenNumbers, judgedNumbers, patternNumbers, boundNumbers, readNumbers, buildNumbers, runNumbers}
+use Rattle.desk.specs.Numbers.{Numbers, refusing, writtenNumbers, judgedNumbers, patternNumbers, captureNumbers, boundNumbers, readNumbers, buildNumbers, runNumbers}
 
 -- ---- what is handed in
 
@@ -61,6 +64,17 @@ fine = read 0 1 1
 abbrev pub out : Transaction
 out = read 8 1 1
 
+-- the bytes of a capture; its ticks, and commands of a kind at a stamp, on bank 0
+abbrev pub trace : List CaptureRecord → List ℕ
+trace [] = []
+trace (x ∷ l) = bytesOfRecord x ++ trace l
+
+abbrev pub tick : ℕ → CaptureRecord
+tick t = captureRecord t 255 0
+
+abbrev pub seen : ℕ → ℕ → CaptureRecord
+seen t kind = captureRecord t kind 0
+
 -- a controller of an edition and a cycle, from whose queues so many commands have gone, and whose last REF went at a cycle; nothing else has
 -- happened to it
 abbrev pub refreshed : ℕ → ℕ → ℕ → ℕ → ℕ → Controller
@@ -96,6 +110,10 @@ judgesBytes e t s = judgedNumbers (judging (admitted e t) s)
 -- whatever answer keeps the promise tells these numbers
 abbrev pub Patterns : ℕ → List ℕ → List ℕ → ℕ → Numbers → Type 0
 Patterns e t s L n = (r : PatternJudged) → PatternTold (admitted e t) s L r → patternNumbers r ≡ n
+
+-- judging a capture, with a buffer that held b₀, tells these numbers, and leaves b in it
+abbrev pub Traces : ℕ → List ℕ → List ℕ → List ℕ → Numbers → List ℕ → Type 0
+Traces e t s b₀ n b = (captureNumbers (capturing (admitted e t) s b₀ .answer) ≡ n) × (capturing (admitted e t) s b₀ .buffer ≡ b)
 
 abbrev pub bounds : ℕ → List ℕ → ℕ → ℕ → Numbers
 bounds e t bi bc = boundNumbers (bounding (admitted e t) bi bc)

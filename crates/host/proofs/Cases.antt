@@ -38,4 +38,9 @@ each-case =
     ⨾ refl
     ⨾ refl
     ⨾ refl
+    ⨾ refl
+    ⨾ refl
+    ⨾ refl
+    ⨾ refl
+    ⨾ refl
     ⨾ tt

@@ -1,26 +1,32 @@
--- A built schedule's commands are counted in 32 bits.
+-- The commands of a built schedule, and of a capture, are counted in 32 bits.
 -- Assumes nothing.
 use Prim.Native.Nat.{ℕ, _+_, _≤_, _<_}
-use mathlib.Core.Bool.{true}
+use mathlib.Core.Bool.{Bool, true, false}
 use mathlib.Core.Path.{_≡_, refl, _∙_}
 use mathlib.Core.List.{List}
 use native.Mathlib.Omega.{arith}
-use lib.Dec.{leb}
+use lib.Dec.{leb, eqb}
 use lib.ListN.{length}
-use borrow.Author.Tests.{leb-true}
+use borrow.Author.Tests.{leb-true, eqb-true}
 use Rattle.records.specs.declared.table.Table.{Table}
 use Rattle.records.specs.declared.table.TableRead.{TableRead}
 use Rattle.records.specs.declared.table.TableRead.the-variants.{Read, Refused}
 use Rattle.records.specs.declared.transaction.Transaction.{Transaction}
 use Rattle.records.specs.declared.refusal.Refusal.{Refusal}
-use Rattle.records.specs.Tests.{every}
+use Rattle.records.specs.Tests.{every, pick}
+use Rattle.records.specs.Told.{refusal, over}
 use Rattle.records.specs.Table.{Accepted}
 use Rattle.records.specs.Transaction.{transactionsIn, fits, listFits}
+use Rattle.records.specs.Command.{bytesOfAll}
+use Rattle.rules.specs.Verdict.{judge}
 use Rattle.rules.specs.Queues.{actQueue, dataQueue}
 use Rattle.rules.proofs.TestLaws.{and-fst}
 use Rattle.rules.proofs.Queue.{act-length, data-length}
 use Rattle.rules.proofs.Built.{each-fits, built-count}
 use Rattle.heads.proofs.Laws.{acts-most, datas-most}
+use Rattle.capture.specs.declared.answer.CaptureJudged.the-variants.{Verdict, Refused as NotCaptured}
+use Rattle.capture.specs.Answer.{commandsSeen, captureRefusal, positionOf, Captured, captured}
+use Rattle.capture.proofs.Refusals.{taken}
 use Rattle.lists.specs.declared.check.Checked.{Checked}
 use Rattle.lists.specs.declared.check.Checked.the-variants.{Fine, Refused as NotFine}
 use Rattle.lists.specs.Check.{checkList, checkBytes}
@@ -30,8 +36,10 @@ use Rattle.builder.specs.declared.build.BuildAnswer.the-variants.{Built, Refuse
 use Rattle.builder.specs.Build.{LeavesBuild}
 use Rattle.desk.specs.Admit.{admitted}
 use Rattle.desk.specs.Schedules.{NothingBuilt, BuildsChecked, Schedules}
+use Rattle.desk.specs.Tracing.{capturing}
 use Rattle.desk.proofs.Laws.{read-accepted}
 use Rattle.host.specs.Answers.{countOf}
+use Rattle.host.specs.Verdicts.{commandsWritten}
 
 module _ (l : List Transaction) (b₀ b f₀ f : List ℕ) where
   -- 256 transactions of at most 16 ACTs and 256 data commands
@@ -72,3 +80,23 @@ module _ (expected : ℕ) (table b₀ b f₀ f : List ℕ) (v : BuildAnswer) whe
   few-of-list l h =
       let few = schedules-few l b₀ b f₀ f (λ τ. checkList τ l) (λ τ. fine-fits τ l) (admitted expected table) (read-accepted expected table) v h in
       omega (arith, few)
+
+-- a capture that is judged has at most 69,632 records
+module _ (s b : List ℕ) where
+  abbrev z : ℕ
+  z = captureRefusal s (length b)
+
+  captured-few : (τ : Table) → commandsWritten (captured τ s b .answer) < 4294967296
+  unfolding captured
+  captured-few τ = on (eqb z 0) refl
+    where
+      on : (t : Bool) → eqb z 0 ≡ t → commandsWritten (pick {A = Captured} t
+          (record { answer = Verdict (τ .edition) (length (commandsSeen s)) (judge τ (commandsSeen s)); buffer = over (bytesOfAll (commandsSeen s)) b })
+          (record { answer = NotCaptured (refusal z (positionOf z s) (τ .edition)); buffer = b }) .answer) < 4294967296
+      on true e = let k = taken s (length b) (eqb-true z 0 e) in omega (arith, k .few, k .commands)
+      on false e = omega arith
+
+  pub few-seen : (a : TableRead) → commandsWritten (capturing a s b .answer) < 4294967296
+  unfolding capturing
+  few-seen (Read τ) = captured-few τ
+  few-seen (Refused x) = omega arith

@@ -8,16 +8,18 @@ use Rattle.records.specs.Table.{readTable, writeTable}
 use Rattle.records.specs.Transaction.{transaction, readTransaction, writeTransaction, transactionsIn}
 use Rattle.records.specs.Command.{command, kindOf, readCommand, writeCommand}
 use Rattle.records.proofs.Unique.{one-answer}
+use Rattle.capture.specs.Record.{captureRecord, readCaptureRecord, writeCaptureRecord}
 use Rattle.lists.specs.Check.{checkList, checkBytes}
 use Rattle.desk.specs.Admit.{admitted}
 use Rattle.desk.specs.Judging.{judging}
+use Rattle.desk.specs.Tracing.{capturing}
 use Rattle.desk.specs.Bounds.{bounding}
 use Rattle.desk.specs.Transactions.{reading}
 use Rattle.desk.specs.Running.{starting, running}
 use Rattle.desk.proofs.Unique.{only as desk-only}
 use Rattle.host.specs.declared.answer.Answer.{Answer}
-use Rattle.host.specs.Answers.{ofWritten, ofTable, ofTransaction, ofCommand, ofRead, ofBuild, ofBound, startOf, ofRun, runOf}
-use Rattle.host.specs.Verdicts.{verdictOf, patternOf}
+use Rattle.host.specs.Answers.{ofWritten, ofTable, ofTransaction, ofCommand, ofCaptureRecord, ofRead, ofBuild, ofBound, startOf, ofRun, runOf}
+use Rattle.host.specs.Verdicts.{verdictOf, patternOf, captureOf}
 use Rattle.host.specs.Promises.{Writes}
 use Rattle.host.specs.Only.{OnlyRecord, Only}
 
@@ -37,6 +39,8 @@ only-record s =
       transactionWritten = λ kind start bi bc. one-written (writeTransaction (transaction kind start bi bc) s);
       commandRead = one-answer (ofCommand (readCommand s));
       commandWritten = λ cycle kind bank number. one-written (writeCommand (command cycle (kindOf kind) bank number) s);
+      captureRecordRead = one-answer (ofCaptureRecord (readCaptureRecord s));
+      captureRecordWritten = λ stamp kind bank. one-written (writeCaptureRecord (captureRecord stamp kind bank) s);
     }
 
 pub only : (expected : ℕ) (table : List ℕ) → Only expected table
@@ -44,6 +48,9 @@ only expected table =
     record {
       judge = λ s. one-answer (verdictOf (judging (admitted expected table) s));
       judgePattern = λ s L x y p q. made patternOf (p .0) (q .0) x y (desk-only expected table .judgePattern s L (p .0) (q .0) (p .1) (q .1)) (p .2) (q .2);
+      judgeCapture = λ s b₀ x y b d p q.
+          let w = capturing (admitted expected table) s b₀ in
+          (one-answer (captureOf (w .answer)) x y (p .0) (q .0), one-answer (w .buffer) b d (p .1) (q .1));
       bound = λ bi bc. one-answer (ofBound (bounding (admitted expected table) bi bc));
       readTransactions = λ s l x y b d p q.
           let w = reading (admitted expected table) s l in

@@ -12,6 +12,7 @@ use Rattle.records.specs.declared.command.Command.{Command}
 use Rattle.records.specs.declared.command.CommandRead.{CommandRead}
 use Rattle.records.specs.declared.command.CommandRead.the-variants.{Read as CommandIs}
 use Rattle.records.specs.Table.{numbersOf}
+use Rattle.capture.specs.declared.one_record.CaptureRecordRead.{CaptureRecordRead}
 use Rattle.builder.specs.declared.bound.BoundAnswer.{BoundAnswer}
 use Rattle.builder.specs.declared.build.BuildAnswer.{BuildAnswer}
 use Rattle.lists.specs.declared.decode.Decoded.{Decoded}
@@ -20,11 +21,12 @@ use Rattle.controller.specs.declared.run.RunTold.{RunTold}
 use Rattle.controller.specs.declared.run.RunAnswer.{RunAnswer as RunSaid}
 use Rattle.desk.specs.declared.running.StartTold.{StartTold}
 use Rattle.desk.specs.declared.running.StartAnswer.{StartAnswer as StartSaid}
-use Rattle.desk.specs.Numbers.{Numbers, refusing as refusalNumbers, writtenNumbers, tableNumbers, transactionNumbers, commandNumbers, readNumbers, buildNumbers, boundNumbers, startNumbers, runNumbers}
+use Rattle.desk.specs.Numbers.{Numbers, refusing as refusalNumbers, writtenNumbers, tableNumbers, transactionNumbers, commandNumbers, captureRecordNumbers, readNumbers, buildNumbers, boundNumbers, startNumbers, runNumbers}
 use Rattle.host.specs.declared.answer.Answer.{Answer}
 use Rattle.host.specs.declared.reader.TableAnswer.{TableAnswer}
 use Rattle.host.specs.declared.reader.TransactionAnswer.{TransactionAnswer}
 use Rattle.host.specs.declared.reader.CommandAnswer.{CommandAnswer}
+use Rattle.host.specs.declared.reader.CaptureRecordAnswer.{CaptureRecordAnswer}
 use Rattle.host.specs.declared.answer.StartAnswer.{StartAnswer}
 use Rattle.host.specs.declared.answer.RunAnswer.{RunAnswer}
 use Rattle.host.specs.declared.transactions.PlanTold.{PlanTold}
@@ -73,6 +75,12 @@ commandAnswer c = commandSaid (commandNumbers (CommandIs c))
 
 abbrev pub ofCommand : CommandRead → CommandAnswer
 ofCommand r = commandSaid (commandNumbers r)
+
+abbrev pub captureRecordAnswer : Numbers → CaptureRecordAnswer
+captureRecordAnswer a = record { refused = a .refused; position = a .position; edition = a .edition; stamp = value a 0; kind = value a 1; bank = value a 2 }
+
+abbrev pub ofCaptureRecord : CaptureRecordRead → CaptureRecordAnswer
+ofCaptureRecord r = captureRecordAnswer (captureRecordNumbers r)
 
 -- ---- lists, schedules, the bound
 

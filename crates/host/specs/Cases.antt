@@ -18,6 +18,9 @@ use Rattle.rules.specs.declared.verdict.Verdict.the-variants.{Accepted, Refused
 use Rattle.rules.specs.declared.verdict.PatternVerdict.the-variants.{Accepted as AllAccepted, Refused as RefusedAt}
 use Rattle.judge.specs.declared.answer.Judged.the-variants.{Verdict as Says, Refused as NotJudged}
 use Rattle.judge.specs.declared.answer.PatternJudged.the-variants.{Verdict as PatternSays, Refused as PatternNotJudged}
+use Rattle.capture.specs.declared.one_record.CaptureRecordRead.the-variants.{Read as RecordIs, Refused as NoRecord}
+use Rattle.capture.specs.declared.answer.CaptureJudged.the-variants.{Verdict as CaptureSays, Refused as NotCaptured}
+use Rattle.capture.specs.Record.{captureRecord}
 use Rattle.builder.specs.declared.bound.BoundAnswer.the-variants.{Bound, Refused as NoBound}
 use Rattle.builder.specs.declared.build.BuildAnswer.the-variants.{Built, Refused as NotBuilt}
 use Rattle.lists.specs.declared.decode.Decoded.the-variants.{Done as Stored, Refused as NotStored}
@@ -25,8 +28,9 @@ use Rattle.controller.specs.declared.run.RunAnswer.the-variants.{Ran, Refused a
 use Rattle.desk.specs.declared.running.StartAnswer.the-variants.{Started, Refused as NotStarted}
 use Rattle.host.specs.declared.answer.Answer.{Answer}
 use Rattle.host.specs.declared.verdict.VerdictAnswer.{VerdictAnswer}
-use Rattle.host.specs.Answers.{ofWritten, ofTable, ofTransaction, ofCommand, ofRead, ofBuild, ofBound, ofStart, ofRun}
-use Rattle.host.specs.Verdicts.{verdictOf, patternOf}
+use Rattle.host.specs.declared.verdict.CaptureAnswer.{CaptureAnswer}
+use Rattle.host.specs.Answers.{ofWritten, ofTable, ofTransaction, ofCommand, ofCaptureRecord, ofRead, ofBuild, ofBound, ofStart, ofRun}
+use Rattle.host.specs.Verdicts.{verdictOf, patternOf, captureOf}
 
 -- number, position, edition, count, cycles
 abbrev pub plain : ℕ → ℕ → ℕ → ℕ → ℕ → Answer
@@ -35,6 +39,10 @@ plain n p e c m = record { refused = n; position = p; edition = e; count = c; cy
 -- number, position, edition, rule, copy, record
 abbrev pub verdict : ℕ → ℕ → ℕ → ℕ → ℕ → ℕ → VerdictAnswer
 verdict n p e rule copy i = record { refused = n; position = p; edition = e; rule = rule; copy = copy; «record» = i }
+
+-- number, position, edition, count, rule, record
+abbrev pub traced : ℕ → ℕ → ℕ → ℕ → ℕ → ℕ → CaptureAnswer
+traced n p e c rule i = record { refused = n; position = p; edition = e; count = c; rule = rule; «record» = i }
 
 -- a refusal with three different numbers
 abbrev pub no3 : Refusal
@@ -51,6 +59,8 @@ cases =
     ∷ (ofCommand (CommandIs (command 10 Wra 2 3)) ≡ record { refused = 0; position = 0; edition = 0; cycle = 10; kind = 4; bank = 2; number = 3 })
     ∷ (ofCommand (CommandIs (command 10 Ref 0 3)) ≡ record { refused = 0; position = 0; edition = 0; cycle = 10; kind = 5; bank = 0; number = 3 })
     ∷ (ofCommand (NoCommand no3) ≡ record { refused = 3; position = 5; edition = 7; cycle = 0; kind = 0; bank = 0; number = 0 })
+    ∷ (ofCaptureRecord (RecordIs (captureRecord 10 4 2)) ≡ record { refused = 0; position = 0; edition = 0; stamp = 10; kind = 4; bank = 2 })
+    ∷ (ofCaptureRecord (NoRecord no3) ≡ record { refused = 3; position = 5; edition = 7; stamp = 0; kind = 0; bank = 0 })
     ∷ (ofRead (Stored 7 2) ≡ plain 0 0 7 2 0)
     ∷ (ofRead (NotStored no3) ≡ plain 3 5 7 0 0)
     ∷ (ofBuild (Built 7 2) ≡ plain 0 0 7 2 0)
@@ -70,4 +80,8 @@ cases =
     ∷ (patternOf (PatternSays 7 (RefusedAt Rrd 2 3)) ≡ verdict 0 0 7 6 2 3)
     ∷ (patternOf (PatternSays 7 (RefusedAt Rfc 2 3)) ≡ verdict 0 0 7 12 2 3)
     ∷ (patternOf (PatternNotJudged no3) ≡ verdict 3 5 7 0 0 0)
+    -- a verdict against a capture leaves its commands written
+    ∷ (captureOf (CaptureSays 7 4 Accepted) ≡ traced 0 0 7 4 0 0)
+    ∷ (captureOf (CaptureSays 7 4 (Refused Rc 3)) ≡ traced 0 0 7 4 5 3)
+    ∷ (captureOf (NotCaptured no3) ≡ traced 3 5 7 0 0 0)
     ∷ []

@@ -7,10 +7,12 @@ use Rattle.records.specs.declared.transaction.Transaction.{Transaction}
 use Rattle.records.specs.Table.{readTable, writeTable}
 use Rattle.records.specs.Transaction.{transaction, readTransaction, writeTransaction, transactionsIn}
 use Rattle.records.specs.Command.{command, kindOf, readCommand, writeCommand}
+use Rattle.capture.specs.Record.{captureRecord, readCaptureRecord, writeCaptureRecord}
 use Rattle.lists.specs.Check.{checkList, checkBytes}
 use Rattle.controller.specs.declared.controller.Controller.{Controller}
 use Rattle.desk.specs.Admit.{admitted}
 use Rattle.desk.specs.Judging.{judging}
+use Rattle.desk.specs.Tracing.{capturing}
 use Rattle.desk.specs.Bounds.{bounding}
 use Rattle.desk.specs.Transactions.{reading}
 use Rattle.desk.specs.Running.{starting, running}
@@ -18,12 +20,14 @@ use Rattle.host.specs.declared.answer.Answer.{Answer}
 use Rattle.host.specs.declared.reader.TableAnswer.{TableAnswer}
 use Rattle.host.specs.declared.reader.TransactionAnswer.{TransactionAnswer}
 use Rattle.host.specs.declared.reader.CommandAnswer.{CommandAnswer}
+use Rattle.host.specs.declared.reader.CaptureRecordAnswer.{CaptureRecordAnswer}
 use Rattle.host.specs.declared.answer.StartAnswer.{StartAnswer}
 use Rattle.host.specs.declared.answer.RunAnswer.{RunAnswer}
 use Rattle.host.specs.declared.verdict.VerdictAnswer.{VerdictAnswer}
-use Rattle.host.specs.Answers.{ofTable, ofTransaction, ofCommand, ofBound, startOf}
+use Rattle.host.specs.declared.verdict.CaptureAnswer.{CaptureAnswer}
+use Rattle.host.specs.Answers.{ofTable, ofTransaction, ofCommand, ofCaptureRecord, ofBound, startOf}
 use Rattle.host.specs.Verdicts.{verdictOf}
-use Rattle.host.specs.Promises.{Writes, PatternSaid, ReadsInto, Scheduled, RunsIn, RunsBack}
+use Rattle.host.specs.Promises.{Writes, PatternSaid, Traces, ReadsInto, Scheduled, RunsIn, RunsBack}
 
 -- x and y are two results that keep the promise; b and d, f and g, c and e are a buffer or a controller as either leaves it. First the calls
 -- on one record: s is the bytes read, or what the buffer held
@@ -38,11 +42,17 @@ pub record OnlyRecord (s : List ℕ) : Type 0 where
   pub commandWritten : (cycle kind bank number : ℕ) (x y : Answer) (b d : List ℕ)
       → Writes (writeCommand (command cycle (kindOf kind) bank number) s) x b → Writes (writeCommand (command cycle (kindOf kind) bank number) s) y d
       → (x ≡ y) × (b ≡ d)
+  pub captureRecordRead : (x y : CaptureRecordAnswer) → x ≡ ofCaptureRecord (readCaptureRecord s) → y ≡ ofCaptureRecord (readCaptureRecord s) → x ≡ y
+  pub captureRecordWritten : (stamp kind bank : ℕ) (x y : Answer) (b d : List ℕ)
+      → Writes (writeCaptureRecord (captureRecord stamp kind bank) s) x b → Writes (writeCaptureRecord (captureRecord stamp kind bank) s) y d
+      → (x ≡ y) × (b ≡ d)
 
 -- the calls that take a table
 pub record Only (expected : ℕ) (table : List ℕ) : Type 0 where
   pub judge : (s : List ℕ) (x y : VerdictAnswer) → x ≡ verdictOf (judging (admitted expected table) s) → y ≡ verdictOf (judging (admitted expected table) s) → x ≡ y
   pub judgePattern : (s : List ℕ) (L : ℕ) (x y : VerdictAnswer) → PatternSaid (admitted expected table) s L x → PatternSaid (admitted expected table) s L y → x ≡ y
+  pub judgeCapture : (s b₀ : List ℕ) (x y : CaptureAnswer) (b d : List ℕ) → Traces (capturing (admitted expected table) s b₀) x b
+      → Traces (capturing (admitted expected table) s b₀) y d → (x ≡ y) × (b ≡ d)
   pub bound : (bi bc : ℕ) (x y : Answer) → x ≡ ofBound (bounding (admitted expected table) bi bc) → y ≡ ofBound (bounding (admitted expected table) bi bc) → x ≡ y
   pub readTransactions : (s : List ℕ) (l : List Transaction) (x y : Answer) (b d : List Transaction)
       → ReadsInto (reading (admitted expected table) s l) x b → ReadsInto (reading (admitted expected table) s l) y d → (x ≡ y) × (b ≡ d)

@@ -7,6 +7,7 @@ use Rattle.records.specs.declared.table.TableRead.{TableRead}
 use Rattle.records.specs.declared.transaction.Transaction.{Transaction}
 use Rattle.records.specs.Told.{Wrote}
 use Rattle.judge.specs.declared.answer.PatternJudged.{PatternJudged}
+use Rattle.capture.specs.Answer.{Captured}
 use Rattle.lists.specs.declared.check.Checked.{Checked}
 use Rattle.lists.specs.Decode.{Decoding}
 use Rattle.builder.specs.declared.build.BuildAnswer.{BuildAnswer}
@@ -17,8 +18,9 @@ use Rattle.desk.specs.Schedules.{Schedules}
 use Rattle.host.specs.declared.answer.Answer.{Answer}
 use Rattle.host.specs.declared.answer.RunAnswer.{RunAnswer}
 use Rattle.host.specs.declared.verdict.VerdictAnswer.{VerdictAnswer}
+use Rattle.host.specs.declared.verdict.CaptureAnswer.{CaptureAnswer}
 use Rattle.host.specs.Answers.{ofWritten, ofRead, ofBuild, ofRun, runOf}
-use Rattle.host.specs.Verdicts.{patternOf}
+use Rattle.host.specs.Verdicts.{patternOf, captureOf}
 
 -- one record written: r is the answer, b what the buffer holds as the call returns
 abbrev pub Writes : Wrote → Answer → List ℕ → Type 0
@@ -27,6 +29,10 @@ Writes w r b = (r ≡ ofWritten (w .answer)) × (b ≡ w .buffer)
 -- a pattern judged: r is the numbers of the one verdict that the desk's judge may give
 abbrev pub PatternSaid : TableRead → List ℕ → ℕ → VerdictAnswer → Type 0
 PatternSaid a s L r = (v : PatternJudged) × PatternTold a s L v × (r ≡ patternOf v)
+
+-- a capture judged: b is what the buffer of the commands holds as the call returns
+abbrev pub Traces : Captured → CaptureAnswer → List ℕ → Type 0
+Traces w r b = (r ≡ captureOf (w .answer)) × (b ≡ w .buffer)
 
 -- transactions read: l is what the run of records holds
 abbrev pub ReadsInto : Decoding → Answer → List Transaction → Type 0

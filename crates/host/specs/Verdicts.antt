@@ -8,8 +8,11 @@ use Rattle.judge.specs.declared.answer.Judged.{Judged}
 use Rattle.judge.specs.declared.answer.Judged.the-variants.{Verdict as Says}
 use Rattle.judge.specs.declared.answer.PatternJudged.{PatternJudged}
 use Rattle.judge.specs.declared.answer.PatternJudged.the-variants.{Verdict as PatternSays}
-use Rattle.desk.specs.Numbers.{Numbers, refusing, judgedNumbers, patternNumbers}
+use Rattle.capture.specs.declared.answer.CaptureJudged.{CaptureJudged}
+use Rattle.capture.specs.declared.answer.CaptureJudged.the-variants.{Verdict as CaptureSays}
+use Rattle.desk.specs.Numbers.{Numbers, refusing, judgedNumbers, patternNumbers, captureNumbers}
 use Rattle.host.specs.declared.verdict.VerdictAnswer.{VerdictAnswer}
+use Rattle.host.specs.declared.verdict.CaptureAnswer.{CaptureAnswer}
 use Rattle.host.specs.Answers.{value}
 
 -- the table's edition, the rule broken (0 where none is), the copy and the record in it
@@ -36,3 +39,17 @@ patternOf r = let a = patternNumbers r in sayingOf a (value a 0) (value a 1) (va
 
 abbrev pub patternSaid : ℕ → PatternVerdict → VerdictAnswer
 patternSaid e v = patternOf (PatternSays e v)
+
+-- on a capture: how many commands were written, then the rule and the record among those commands
+abbrev pub captureAnswer : Numbers → CaptureAnswer
+captureAnswer a = record { refused = a .refused; position = a .position; edition = a .edition; count = value a 0; rule = value a 1; «record» = value a 2 }
+
+abbrev pub captureOf : CaptureJudged → CaptureAnswer
+captureOf r = captureAnswer (captureNumbers r)
+
+abbrev pub captureSaid : ℕ → ℕ → Verdict → CaptureAnswer
+captureSaid e n v = captureOf (CaptureSays e n v)
+
+-- how many commands were written
+abbrev pub commandsWritten : CaptureJudged → ℕ
+commandsWritten r = value (captureNumbers r) 0

@@ -6,5 +6,6 @@ pub mod one_record;
 pub mod reader;
 pub mod running;
 pub mod schedules;
+pub mod tracing;
 pub mod transactions;
 pub mod verdict;

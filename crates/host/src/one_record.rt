@@ -1,12 +1,17 @@
-// One record read or written: a table, a transaction, a command.
+// One record read or written: a table, a transaction, a command, a record of a capture.
 use crate::answer::Answer;
 use crate::answer::of_written;
+use crate::reader::CaptureRecordAnswer;
 use crate::reader::CommandAnswer;
 use crate::reader::TableAnswer;
 use crate::reader::TransactionAnswer;
+use crate::reader::of_capture_record;
 use crate::reader::of_command;
 use crate::reader::of_table;
 use crate::reader::of_transaction;
+use capture::one_record::CaptureRecord;
+use capture::one_record::read_capture_record;
+use capture::one_record::write_capture_record;
 use commands::command::read_command;
 use commands::command::write_command;
 use records::table::read_table;
@@ -18,7 +23,8 @@ ghost use mathlib.Core.Path.{_≡_};
 ghost use Rattle.records.specs.Table.{readTable, writeTable};
 ghost use Rattle.records.specs.Transaction.{transaction, readTransaction, writeTransaction};
 ghost use Rattle.records.specs.Command.{kindOf, command, readCommand, writeCommand};
-ghost use Rattle.host.specs.Answers.{ofTable, ofTransaction, ofCommand};
+ghost use Rattle.capture.specs.Record.{captureRecord, readCaptureRecord, writeCaptureRecord};
+ghost use Rattle.host.specs.Answers.{ofTable, ofTransaction, ofCommand, ofCaptureRecord};
 ghost use Rattle.host.specs.Promises.{Writes};
 
 // A table's sixteen numbers.
@@ -86,4 +92,23 @@ pub extern "C" fn skv_write_command(
     ensures { λ r. ⌜ Writes (writeCommand (command cycle (kindOf kind) bank number) (now (out .entry))) r (now (out .exit)) ⌝ }
 {
     of_written(write_command(cycle, kind, bank, number, out))
+}
+
+#[no_mangle]
+pub extern "C" fn skv_read_capture_record(bytes: &[u8]) -> CaptureRecordAnswer
+    ensures { λ r. ⌜ r ≡ ofCaptureRecord (readCaptureRecord (now (bytes .entry))) ⌝ }
+{
+    of_capture_record(read_capture_record(bytes))
+}
+
+#[no_mangle]
+pub extern "C" fn skv_write_capture_record(stamp: u16, kind: u8, bank: u8, out: &mut [u8]) -> Answer
+    ensures { λ r. ⌜ Writes (writeCaptureRecord (captureRecord stamp kind bank) (now (out .entry))) r (now (out .exit)) ⌝ }
+{
+    let x = CaptureRecord {
+        stamp: stamp,
+        kind: kind,
+        bank: bank,
+    };
+    of_written(write_capture_record(x, out))
 }

@@ -1,6 +1,7 @@
 // What a reader of one record answers, as structs of plain numbers.
 use crate::answer::from_16;
 use crate::answer::refused;
+use capture::one_record::CaptureRecordRead;
 use commands::command::kind_number;
 use records::command::Command;
 use records::command::CommandRead;
@@ -9,7 +10,7 @@ use records::table::TableRead;
 use records::transaction::TransactionRead;
 ghost use mathlib.Core.Path.{_≡_};
 ghost use Rattle.records.specs.Table.{numbersOf};
-ghost use Rattle.host.specs.Answers.{ofTable, ofTransaction, commandAnswer, ofCommand};
+ghost use Rattle.host.specs.Answers.{ofTable, ofTransaction, commandAnswer, ofCommand, ofCaptureRecord};
 
 #[repr(C)]
 pub struct TableAnswer {
@@ -39,6 +40,16 @@ pub struct CommandAnswer {
     pub kind: u8,
     pub bank: u8,
     pub number: u16,
+}
+
+#[repr(C)]
+pub struct CaptureRecordAnswer {
+    pub refused: u32,
+    pub position: u32,
+    pub edition: u32,
+    pub stamp: u16,
+    pub kind: u8,
+    pub bank: u8,
 }
 
 pub fn numbers_of(t: Table) -> [u16; 16]
@@ -147,6 +158,32 @@ pub fn of_command(a: CommandRead) -> CommandAnswer
                 kind: 0,
                 bank: 0,
                 number: 0,
+            }
+        }
+    }
+}
+
+pub fn of_capture_record(a: CaptureRecordRead) -> CaptureRecordAnswer
+    ensures { λ r. ⌜ r ≡ ofCaptureRecord a ⌝ }
+{
+    match a {
+        CaptureRecordRead::Read(x) => CaptureRecordAnswer {
+            refused: 0,
+            position: 0,
+            edition: 0,
+            stamp: x.stamp,
+            kind: x.kind,
+            bank: x.bank,
+        },
+        CaptureRecordRead::Refused(x) => {
+            let r = refused(x);
+            CaptureRecordAnswer {
+                refused: r.refused,
+                position: r.position,
+                edition: r.edition,
+                stamp: 0,
+                kind: 0,
+                bank: 0,
             }
         }
     }

@@ -1,6 +1,7 @@
 // The judges' verdicts as structs of plain numbers.
 use crate::answer::from_16;
 use crate::answer::refused;
+use capture::answer::CaptureJudged;
 use desk::numbers::rule_number;
 use judge::answer::Judged;
 use judge::answer::PatternJudged;
@@ -8,7 +9,8 @@ use records::refusal::Refusal;
 use rules::verdict::PatternVerdict;
 use rules::verdict::Verdict;
 ghost use mathlib.Core.Path.{_≡_};
-ghost use Rattle.host.specs.Verdicts.{saying, notSaying, verdictSaid, verdictOf, patternSaid, patternOf};
+ghost use Prim.Native.Nat.{_<_};
+ghost use Rattle.host.specs.Verdicts.{saying, notSaying, verdictSaid, verdictOf, patternSaid, patternOf, captureSaid, captureOf, commandsWritten};
 
 // `rule` is 0 where the records are accepted; `copy` counts from 1, and is 0 for a schedule; `record` counts from 0.
 #[repr(C)]
@@ -18,6 +20,17 @@ pub struct VerdictAnswer {
     pub edition: u32,
     pub rule: u32,
     pub copy: u32,
+    pub record: u32,
+}
+
+// `count` is how many commands were written; `rule` is 0 where they are accepted; `record` counts them from 0.
+#[repr(C)]
+pub struct CaptureAnswer {
+    pub refused: u32,
+    pub position: u32,
+    pub edition: u32,
+    pub count: u32,
+    pub rule: u32,
     pub record: u32,
 }
 
@@ -81,5 +94,40 @@ pub fn pattern_of(j: PatternJudged) -> VerdictAnswer
     match j {
         PatternJudged::Verdict(e, v) => pattern_said(e, v),
         PatternJudged::Refused(x) => not_said(x),
+    }
+}
+
+pub fn capture_said(edition: u16, count: u32, v: Verdict) -> CaptureAnswer
+    ensures { λ r. ⌜ r ≡ captureSaid edition count v ⌝ }
+{
+    let a = verdict_said(edition, v);
+    CaptureAnswer {
+        refused: a.refused,
+        position: a.position,
+        edition: a.edition,
+        count: count,
+        rule: a.rule,
+        record: a.record,
+    }
+}
+
+// A capture's commands are counted in 32 bits: there are at most 69,632.
+pub(crate) fn capture_of(j: CaptureJudged) -> CaptureAnswer
+    requires { ⌜ commandsWritten j < 4294967296 ⌝ }
+    ensures { λ r. ⌜ r ≡ captureOf j ⌝ }
+{
+    match j {
+        CaptureJudged::Verdict(e, n, v) => capture_said(e, n as u32, v),
+        CaptureJudged::Refused(x) => {
+            let r = refused(x);
+            CaptureAnswer {
+                refused: r.refused,
+                position: r.position,
+                edition: r.edition,
+                count: 0,
+                rule: 0,
+                record: 0,
+            }
+        }
     }
 }
