@@ -64,7 +64,7 @@ command-after p c u r =
           number = getD (bytesOf c ++ u) 6 0 + getD (bytesOf c ++ u) 7 0 * 256;
         }) (ap (λ (i : ℕ). getD (p ++ (bytesOf c ++ u)) i 0) z ∙ at 0))
 
-read-back : (p : List ℕ) (cs : List Command) (u : List ℕ) → Each Readable cs → commandsFrom (p ++ (bytesOfAll cs ++ u)) (length cs) (length p) ≡ cs
+pub read-back : (p : List ℕ) (cs : List Command) (u : List ℕ) → Each Readable cs → commandsFrom (p ++ (bytesOfAll cs ++ u)) (length cs) (length p) ≡ cs
 unfolding commandsFrom
 read-back p [] u r = refl
 read-back p (c ∷ cs) u r =
