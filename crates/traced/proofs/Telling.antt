@@ -37,10 +37,11 @@ use Rattle.lines.specs.Lines.{acceptedLine, brokenLine, refusedLine, commandsTe
 use Rattle.traced.specs.Trace.{verdictLine, traceText, answerText, emptyRoom, callText, behindText, traceOf, Writes}
 
 pub writes : (told text : List ℕ) (r : ℕ) (s l : List ℕ) → told ≡ text → Puts text 0 r s l → Writes told r s l
-writes told text r s l e p = (
-  p .place ∙ zero-add (length text) ∙ ap length (sym e),
-  p .left ∙ ap (λ (n : ℕ). text ++ drop n s) (zero-add (length text)) ∙ ap (λ (t : List ℕ). over t s) (sym e),
-)
+writes told text r s l e p =
+    record {
+      size = p .place ∙ zero-add (length text) ∙ ap length (sym e);
+      left = p .left ∙ ap (λ (n : ℕ). text ++ drop n s) (zero-add (length text)) ∙ ap (λ (t : List ℕ). over t s) (sym e);
+    }
 
 -- ---- a verdict
 
@@ -142,4 +143,4 @@ long-enough s e r b l h p =
 
 -- what is written lies within the buffer
 pub within : (text : List ℕ) (n : ℕ) (s l : List ℕ) → Writes text n s l → n ≤ length l
-within text n s l w = omega (arith, w .0, ap length (w .1), length-append text (drop (length text) s))
+within text n s l w = omega (arith, w .size, ap length (w .left), length-append text (drop (length text) s))

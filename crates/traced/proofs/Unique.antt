@@ -6,4 +6,4 @@ use Prim.Native.Nat.{ℕ}
 use Rattle.traced.specs.Only.{Only}
 
 pub only : (input : List ℕ) → Only input
-only input s m n k l p q = (p .0 ∙ sym (q .0), p .1 ∙ sym (q .1))
+only input s m n k l p q = (p .size ∙ sym (q .size), p .left ∙ sym (q .left))

@@ -55,5 +55,6 @@ traceOf input = pick (ltb (length input) 2) (refusedLine (refusal 1 0 0)) (behin
 
 -- what a function that writes such a text leaves: the text from the buffer's start, all beyond as it stood, and n, its length; s and l are the
 -- buffer before and after
-abbrev pub Writes : List ℕ → ℕ → List ℕ → List ℕ → Type 0
-Writes text n s l = (n ≡ length text) × (l ≡ over text s)
+pub record Writes (text : List ℕ) (n : ℕ) (s l : List ℕ) : Type 0 where
+  pub size : n ≡ length text
+  pub left : l ≡ over text s

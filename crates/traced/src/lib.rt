@@ -8,6 +8,7 @@ use lines::answer::put_refusal;
 use records::little::num_at;
 use records::refusal::refuse;
 use verdict::put_trace;
+ghost use mathlib.Core.Path.{_≡_};
 ghost use Prim.Native.Nat.{_≤_};
 ghost use lib.ListN.{length};
 ghost use Rattle.traced.specs.Trace.{callText, behindText, traceOf, Writes};
@@ -49,4 +50,18 @@ pub fn trace_of(input: &[u8], out: &mut [u8]) -> usize
         return put_refusal(out, refuse(1, 0, 0));
     }
     trace_behind(num_at(input, 0), &input[2..], out)
+}
+
+// 1,741,000 zeros. The length is all that who lends them must know.
+pub fn text_buffer() -> [u8; 1741000]
+    ensures { λ r. ⌜ 1741000 ≡ length r ⌝ }
+{
+    [0; 1741000]
+}
+
+// 34 + 278,528 zeros, and one: an input that fills them all holds a capture of one byte more than 69,632 records, which is refused however it goes on.
+pub fn input_buffer() -> [u8; 278563]
+    ensures { λ r. ⌜ 278563 ≡ length r ⌝ }
+{
+    [0; 278563]
 }

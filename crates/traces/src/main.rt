@@ -5,6 +5,7 @@
 use libc::STDIN_FILENO;
 use libc::STDOUT_FILENO;
 use records::little::num_at;
+use traced::text_buffer;
 use traced::trace_of;
 ghost use mathlib.Core.Path.{_≡_};
 
@@ -35,7 +36,7 @@ fn size(n: u16) -> usize
 }
 
 fn trace(input: &[u8]) {
-    let mut out = [0u8; 1741000];
+    let mut out = text_buffer();
     let n = trace_of(input, &mut out);
     io::write_all(STDOUT_FILENO, b"case\n");
     io::write_all(STDOUT_FILENO, &out[..n]);

@@ -1,4 +1,7 @@
 use borrow.Author.Needs.{needs}
+use Prim.Native.Nat.{ℕ}
+use mathlib.Core.Path.{sym}
+use lib.ListN.{length-replicate}
 use Rattle.traced.proofs.Telling.{writes, call-judged, call-refused, call-room, refusal-room}
 use Rattle.traced.proofs.trace_call.Statement.{statement}
 use Rattle.traced.proofs.trace_call.Tie as tie
@@ -17,5 +20,5 @@ returns-2 c = writes _ _ _ _ _ (call-refused _ _ _ _ _ (c .before .before .befor
 
 pub trace-call-spec : {M : Type 1} → statement M
 trace-call-spec =
-    tie.close (tie.spec (λ c. search needs) (λ c κs. search needs) (λ c. search needs) put-trace-requires (λ c. search needs) put-refusal-requires
+    tie.close (tie.spec (λ c. sym (length-replicate {A = ℕ} 557056 0)) (λ c κs. search needs) (λ c. search needs) put-trace-requires (λ c. search needs) put-refusal-requires
     (λ c. c .before .before .before .put-trace .ensures .size) returns (λ c. c .before .before .put-refusal .ensures .size) returns-2)
