@@ -6,13 +6,13 @@ use mathlib.Core.Path.{_≡_, refl, sym, ap, _∙_}
 use mathlib.Core.Bool.{Bool, true, false, not, _||_}
 use mathlib.Core.List.{List, [], _∷_}
 use lib.Dec.{ltb, eqb}
-use lib.ListN.{length, take}
+use lib.ListN.{length, take, drop}
 use borrow.Author.Tests.{le-ltb, ltb-false}
 use Rattle.records.specs.Tests.{pick}
 use Rattle.records.specs.Told.{refusal, firstFailed, over}
 use Rattle.records.specs.declared.refusal.Refusal.{Refusal}
 use Rattle.records.specs.declared.table.Table.{Table}
-use Rattle.records.specs.Command.{kindOf, commandsIn, bytesOfAll}
+use Rattle.records.specs.Command.{kindOf, commandsFrom, commandsIn, bytesOfAll}
 use Rattle.records.proofs.Laws.{refuses, answers, passes}
 use Rattle.records.proofs.Inverse.{kind-number}
 use Rattle.rules.specs.declared.verdict.Verdict as Verdicts
@@ -23,7 +23,7 @@ use Rattle.capture.specs.declared.scan.Scanned.{Scanned}
 use Rattle.capture.specs.declared.answer.CaptureJudged.the-variants.{Verdict, Refused}
 use Rattle.capture.specs.Capture.{Timed, recordsFrom, recordsIn, gap, timedAfter, timedOf, timedIn, tooLate, badAfter, lowestAfter, lowest, isTick, commandOf, commandsOf}
 use Rattle.capture.specs.Answer.{notACapture, captureCount, commandsSeen, captureRefusal, positionOf, Captured, captured, LeavesCapture, Scans}
-use Rattle.records.proofs.Written.{Each, Readable, bytes-stand, read-whole}
+use Rattle.records.proofs.Written.{Each, Readable, read-back, bytes-stand, read-whole}
 
 -- ---- counts
 
@@ -187,6 +187,13 @@ readable (x ∷ l) h = on (tooLate (x .cycle)) refl h
 pub read-seen : (s : List ℕ) → lowest (timedIn s) ≡ captureCount s → commandsIn (bytesOfAll (commandsSeen s)) ≡ commandsSeen s
 unfolding commandsSeen
 read-seen s e = read-whole (commandsSeen s) (readable (timedIn s) (omega (arith, length-in s)))
+
+-- and from the start of a buffer that held b
+pub stand-seen : (s b : List ℕ) → lowest (timedIn s) ≡ captureCount s
+    → commandsFrom (over (bytesOfAll (commandsSeen s)) b) (length (commandsSeen s)) 0 ≡ commandsSeen s
+unfolding commandsSeen
+stand-seen s b e =
+    read-back [] (commandsSeen s) (drop (length (bytesOfAll (commandsSeen s))) b) (readable (timedIn s) (omega (arith, length-in s)))
 
 -- ---- what is left
 

@@ -16,7 +16,7 @@ use Rattle.records.specs.Little.{num, num32}
 use Rattle.records.specs.Command.{kindOf, kindNumber, commandAt}
 use Rattle.records.proofs.Inverse.{Bytes, kind-number}
 use Rattle.lines.specs.Words.{space, newline, kindText}
-use Rattle.lines.specs.Lines.{firstLine, commandLine, finishLine, refusedLine}
+use Rattle.lines.specs.Lines.{firstLine, commandLine, finishLine, refusedLine, brokenLine}
 
 pub first-long : (e n : ℕ) → length (firstLine e n) ≡ 8 + length (decimal e) + 10 + length (decimal n ++ newline)
 unfolding firstLine
@@ -38,6 +38,10 @@ pub refused-long : (x : Refusal) → length (refusedLine x)
     ≡ 8 + length (decimal (x .number)) + 4 + length (decimal (x .position)) + 9 + length (decimal (x .edition) ++ newline)
 unfolding refusedLine
 refused-long x = simp length-append
+
+pub broken-long : (n r : ℕ) → length (brokenLine n r) ≡ 7 + length (decimal n) + 13 + length (decimal r ++ newline)
+unfolding brokenLine
+broken-long n r = simp length-append
 
 -- ---- a kind that is known
 
@@ -95,3 +99,6 @@ refused-most x h i j =
       at-most 9 (x .position) (omega arith),
       at-most 4 (x .edition) (omega arith),
     )
+
+pub broken-most : (n r : ℕ) → n < 4294967296 → r < 4294967296 → length (brokenLine n r) ≤ 41
+broken-most n r h i = omega (arith, broken-long n r, then-long r 10, at-most 9 n (omega arith), at-most 9 r (omega arith))

@@ -11,7 +11,7 @@ use Rattle.records.specs.declared.command.Command.{Command}
 use Rattle.records.specs.Command.{commandAt, commandsFrom}
 use Rattle.text.specs.Puts.{Puts}
 use Rattle.text.proofs.Putting.{puts-then}
-use Rattle.lines.specs.Lines.{firstLine, commandLine, finishLine, commandLines, finishLines, scheduleText}
+use Rattle.lines.specs.Lines.{firstLine, commandLine, finishLine, commandLines, finishLines, commandsText, scheduleText}
 
 -- ---- commands
 
@@ -81,8 +81,12 @@ unfolding commandsFrom
 commands-count s zero at = refl
 commands-count s (suc n) at = ap suc (commands-count s n (at + 8))
 
-pub schedule-put : (e n : ℕ) (s f : List ℕ) (p q r : ℕ) (b t u v : List ℕ) → Puts (firstLine e n) 0 p b t → Puts (commandLines (commandsFrom s n 0)) p q t u
-    → Puts (finishLines 0 f) q r u v → Puts (scheduleText e (commandsFrom s n 0) f) 0 r b v
+pub commands-put : (e n : ℕ) (s : List ℕ) (p q : ℕ) (b t u : List ℕ) → Puts (firstLine e n) 0 p b t → Puts (commandLines (commandsFrom s n 0)) p q t u
+    → Puts (commandsText e (commandsFrom s n 0)) 0 q b u
+unfolding commandsText
+commands-put e n s p q b t u x y = puts-then (subst (λ (k : ℕ). Puts (firstLine e k) 0 p b t) (sym (commands-count s n 0)) x) y
+
+pub schedule-put : (e : ℕ) (l : List Command) (f : List ℕ) (q r : ℕ) (b u v : List ℕ) → Puts (commandsText e l) 0 q b u → Puts (finishLines 0 f) q r u v
+    → Puts (scheduleText e l f) 0 r b v
 unfolding scheduleText
-schedule-put e n s f p q r b t u v x y z =
-    puts-then (puts-then (subst (λ (k : ℕ). Puts (firstLine e k) 0 p b t) (sym (commands-count s n 0)) x) y) z
+schedule-put e l f q r b u v x y = puts-then x y

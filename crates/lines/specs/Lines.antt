@@ -1,4 +1,4 @@
--- The listing's lines. Document 01 shows the whole of example 3: `edition 7 commands 4`, then a line for each command, as `10 WRA 0 0`, then one
+-- The lines of the listing and of the trace. Document 01 shows the whole of example 3: `edition 7 commands 4`, then a line for each command, as `10 WRA 0 0`, then one
 -- for each transaction, as `finish 0 10`; "A refusal prints only `refused N at P edition E`."
 use Prim.Native.Nat.{ℕ, _+_}
 use mathlib.Core.List.{List, [], _∷_, _++_}
@@ -6,7 +6,7 @@ use lib.ListN.{length}
 use Rattle.text.specs.Decimal.{decimal}
 use Rattle.records.specs.declared.command.Command.{Command}
 use Rattle.records.specs.declared.refusal.Refusal.{Refusal}
-use Rattle.lines.specs.Words.{editionWord, commandsWord, finishWord, refusedWord, atWord, space, newline, kindText}
+use Rattle.lines.specs.Words.{editionWord, commandsWord, finishWord, refusedWord, atWord, acceptedWord, recordWord, breaksWord, space, newline, kindText}
 
 -- `edition E commands N`
 unfoldable pub firstLine : ℕ → ℕ → List ℕ
@@ -24,6 +24,14 @@ finishLine k cycle = finishWord ++ (decimal k ++ space) ++ (decimal cycle ++ new
 unfoldable pub refusedLine : Refusal → List ℕ
 refusedLine x = refusedWord ++ decimal (x .number) ++ atWord ++ decimal (x .position) ++ (space ++ editionWord) ++ (decimal (x .edition) ++ newline)
 
+-- `accepted`: the verdict on a capture that is legal
+abbrev pub acceptedLine : List ℕ
+acceptedLine = acceptedWord ++ newline
+
+-- `record N breaks rule R`: the verdict against a capture
+unfoldable pub brokenLine : ℕ → ℕ → List ℕ
+brokenLine n r = recordWord ++ decimal n ++ breaksWord ++ (decimal r ++ newline)
+
 -- a line for each command
 unfoldable pub commandLines : List Command → List ℕ
 commandLines [] = []
@@ -34,6 +42,10 @@ unfoldable pub finishLines : ℕ → List ℕ → List ℕ
 finishLines k [] = []
 finishLines k (cycle ∷ l) = finishLine k cycle ++ finishLines (k + 1) l
 
+-- how every text begins that is no refusal's: the table's edition, and the commands
+unfoldable pub commandsText : ℕ → List Command → List ℕ
+commandsText e commands = firstLine e (length commands) ++ commandLines commands
+
 -- a schedule's listing: the edition of its table, its commands, its finishing cycles
 unfoldable pub scheduleText : ℕ → List Command → List ℕ → List ℕ
-scheduleText e commands finishes = firstLine e (length commands) ++ commandLines commands ++ finishLines 0 finishes
+scheduleText e commands finishes = commandsText e commands ++ finishLines 0 finishes

@@ -1,4 +1,4 @@
--- The listing's words, as bytes.
+-- The words of the listing and of the trace, as bytes.
 use Prim.Native.Nat.{ℕ}
 use mathlib.Core.List.{List, [], _∷_}
 use Rattle.text.specs.Decimal.{decimal}
@@ -25,6 +25,18 @@ refusedWord = 114 ∷ 101 ∷ 102 ∷ 117 ∷ 115 ∷ 101 ∷ 100 ∷ 32 ∷ []
 abbrev pub atWord : List ℕ
 atWord = 32 ∷ 97 ∷ 116 ∷ 32 ∷ []
 
+-- `accepted`
+abbrev pub acceptedWord : List ℕ
+acceptedWord = 97 ∷ 99 ∷ 99 ∷ 101 ∷ 112 ∷ 116 ∷ 101 ∷ 100 ∷ []
+
+-- `record `
+abbrev pub recordWord : List ℕ
+recordWord = 114 ∷ 101 ∷ 99 ∷ 111 ∷ 114 ∷ 100 ∷ 32 ∷ []
+
+-- ` breaks rule `
+abbrev pub breaksWord : List ℕ
+breaksWord = 32 ∷ 98 ∷ 114 ∷ 101 ∷ 97 ∷ 107 ∷ 115 ∷ 32 ∷ 114 ∷ 117 ∷ 108 ∷ 101 ∷ 32 ∷ []
+
 -- a space, and the end of a line
 abbrev pub space : List ℕ
 space = 32 ∷ []
@@ -32,7 +44,7 @@ space = 32 ∷ []
 abbrev pub newline : List ℕ
 newline = 10 ∷ []
 
--- `ACT`, `RD`, `RDA`, `WR`, `WRA`, `REF`; any other kind is its number, and no schedule has one
+-- `ACT`, `RD`, `RDA`, `WR`, `WRA`, `REF`; any other kind is its number. No schedule has one, but a capture may
 unfoldable pub kindText : Kind → List ℕ
 kindText Act = 65 ∷ 67 ∷ 84 ∷ []
 kindText Rd = 82 ∷ 68 ∷ []

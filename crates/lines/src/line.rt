@@ -11,7 +11,7 @@ ghost use mathlib.Core.List.{_++_};
 ghost use lib.ListN.{length};
 ghost use Rattle.text.specs.Puts.{Puts};
 ghost use Rattle.lines.specs.Words.{space, kindText};
-ghost use Rattle.lines.specs.Lines.{firstLine, commandLine, finishLine, refusedLine};
+ghost use Rattle.lines.specs.Lines.{firstLine, commandLine, finishLine, refusedLine, acceptedLine, brokenLine};
 
 pub fn put_first_line(out: &mut [u8], at: usize, edition: u16, commands: usize) -> usize
     requires { ⌜ at + length (firstLine edition commands) ≤ length (now out) ⌝ }
@@ -76,4 +76,21 @@ pub fn put_refused_line(out: &mut [u8], at: usize, x: Refusal) -> usize
     let d = put_number(out, c, x.position as u64);
     let e = put_word(out, d, b" edition ");
     put_number_then(out, e, x.edition as u64, b'\n')
+}
+
+pub fn put_accepted_line(out: &mut [u8], at: usize) -> usize
+    requires { ⌜ at + length acceptedLine ≤ length (now out) ⌝ }
+    ensures { λ r. ⌜ Puts acceptedLine at r (now (out .entry)) (now (out .exit)) ⌝ }
+{
+    put_word(out, at, b"accepted\n")
+}
+
+pub fn put_broken_line(out: &mut [u8], at: usize, n: u32, rule: u32) -> usize
+    requires { ⌜ at + length (brokenLine n rule) ≤ length (now out) ⌝ }
+    ensures { λ r. ⌜ Puts (brokenLine n rule) at r (now (out .entry)) (now (out .exit)) ⌝ }
+{
+    let a = put_word(out, at, b"record ");
+    let b = put_number(out, a, n as u64);
+    let c = put_word(out, b, b" breaks rule ");
+    put_number_then(out, c, rule as u64, b'\n')
 }

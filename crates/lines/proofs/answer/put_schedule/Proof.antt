@@ -1,6 +1,5 @@
 use borrow.Author.Needs.{needs}
 use native.Mathlib.Omega.{arith}
-use Rattle.lines.proofs.Long.{first-most}
 use Rattle.lines.proofs.Turns.{schedule-put}
 use Rattle.lines.proofs.answer.put_schedule.Statement.{statement}
 use Rattle.lines.proofs.answer.put_schedule.Tie as tie
@@ -8,8 +7,7 @@ use Rattle.lines.proofs.answer.put_schedule.Tie as tie
 pub put-schedule-spec : {M : Type 1} → statement M
 put-schedule-spec =
     tie.close (tie.spec
-    (λ c κs. omega (arith, first-most (c .before .before .before .before .args .edition) (c .before .before .before .before .args .written) (omega arith) (omega arith)))
-    (λ c κs. (c .before .before .before .before .before .before .before .before .pre .0, omega (arith, c .before .before .before .put-first-line .ensures .place, first-most (c .before .before .before .before .before .before .before .before .args .edition) (c .before .before .before .before .before .before .before .before .args .written) (omega arith) (omega arith))))
-    (λ c κs. (c .before .before .before .before .before .before .before .before .before .before .before .before .pre .1, omega (arith, c .before .before .before .put-command-lines .ensures .1, c .before .before .before .before .before .before .before .put-first-line .ensures .place, first-most (c .before .before .before .before .before .before .before .before .before .before .before .before .args .edition) (c .before .before .before .before .before .before .before .before .before .before .before .before .args .written) (omega arith) (omega arith))))
+    (λ c κs. (c .before .before .before .before .pre .0, omega arith))
+    (λ c κs. (c .before .before .before .before .before .before .before .before .pre .1, omega (arith, c .before .before .before .put-commands .ensures .1)))
     (λ c. search needs)
-    (λ c. schedule-put _ _ _ _ _ _ _ _ _ _ _ (c .before .before .before .before .before .before .before .before .before .before .put-first-line .ensures) (c .before .before .before .before .before .before .put-command-lines .ensures .0) (c .before .before .put-finish-lines .ensures .0)))
+    (λ c. schedule-put _ _ _ _ _ _ _ _ (c .before .before .before .before .before .before .put-commands .ensures .0) (c .before .before .put-finish-lines .ensures .0)))
