@@ -56,7 +56,7 @@ const LAST_CYCLE: u64 = 4_294_967_295;
 
 /// The true cycle of each record, or the lowest that number 11 refuses: "a stamp equal to the one before it, or a true cycle above
 /// 4,294,967,295".
-fn true_cycles(records: &[CaptureRecord]) -> Result<Vec<u64>, usize> {
+pub fn true_cycles(records: &[CaptureRecord]) -> Result<Vec<u64>, usize> {
     let mut rounds = 0;
     let mut cycles = Vec::new();
     for (at, r) in records.iter().enumerate() {

@@ -1,6 +1,7 @@
-//! The example files: an expected edition, a table and transactions as the listing reads them, with a text beside each that says what
-//! it holds.
+//! The example files: an expected edition, a table and transactions as the listing reads them, or a capture as the trace does, with a text
+//! beside each that says what it holds.
 
+mod captures;
 mod text;
 
 use std::fs;
@@ -153,14 +154,21 @@ pub fn all() -> Vec<Example> {
 pub fn write(root: &Path) -> io::Result<()> {
     let folder = root.join("examples");
     fs::create_dir_all(&folder)?;
-    for example in all() {
-        let name = example.name;
-        let bytes = example.bytes();
+    for (name, bytes, text) in files() {
         fs::write(folder.join(format!("{name}.bin")), &bytes)?;
-        fs::write(folder.join(format!("{name}.txt")), example.text())?;
+        fs::write(folder.join(format!("{name}.txt")), text)?;
         println!("{name}: {} bytes", bytes.len());
     }
     Ok(())
+}
+
+/// Each file's name, its bytes and the text beside it.
+fn files() -> Vec<(&'static str, Vec<u8>, String)> {
+    let listed = all().into_iter().map(|e| (e.name, e.bytes(), e.text()));
+    let traced = captures::all()
+        .into_iter()
+        .map(|e| (e.name, e.bytes(), e.text()));
+    listed.chain(traced).collect()
 }
 
 #[cfg(test)]
@@ -177,13 +185,9 @@ mod tests {
     fn the_stored_files_stay_as_they_are() {
         let folder = Path::new(env!("CARGO_MANIFEST_DIR")).join("../examples");
         let stored = |name| fs::read(folder.join(name)).expect("it's stored");
-        for example in all() {
-            let name = example.name;
-            assert!(stored(format!("{name}.bin")) == example.bytes(), "{name}");
-            assert!(
-                stored(format!("{name}.txt")) == example.text().as_bytes(),
-                "{name}"
-            );
+        for (name, bytes, text) in files() {
+            assert!(stored(format!("{name}.bin")) == bytes, "{name}");
+            assert!(stored(format!("{name}.txt")) == text.as_bytes(), "{name}");
         }
     }
 

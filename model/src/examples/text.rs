@@ -5,6 +5,7 @@ use std::fmt::Write;
 use super::Example;
 use crate::house::REFRESH_BYTES;
 use crate::listing::listing;
+use crate::records::Table;
 
 /// Of a listing with more lines than this, only so many from each end stand in the text.
 const MOST_LINES: usize = 40;
@@ -50,7 +51,7 @@ impl Example {
         let mut parts = vec![
             format!("{name}.bin, {size} bytes: {title}.\n"),
             format!("Bytes 0 and 1, the expected edition, low byte first: {expected}.\n"),
-            self.table_text(),
+            table_text(self.table_title, &self.table),
             self.list_text(),
             format!("The listing prints:\n\n{}", printed_text(&printed)),
         ];
@@ -60,16 +61,6 @@ impl Example {
             parts.push(FINISHES.to_string() + of_refreshes);
         }
         parts.join("\n")
-    }
-
-    fn table_text(&self) -> String {
-        let title = self.table_title;
-        let mut out =
-            format!("Bytes 2 to 33, the table ({title}): 16-bit numbers, low byte first.\n\n");
-        for ((field, words), number) in FIELDS.iter().zip(self.table) {
-            writeln!(out, "    {field:<8}{number:<6}{words}").expect("a string takes it");
-        }
-        out
     }
 
     /// Neighbours that are alike stand in one line.
@@ -100,7 +91,16 @@ impl Example {
     }
 }
 
-fn printed_text(printed: &str) -> String {
+pub fn table_text(title: &str, table: &Table) -> String {
+    let mut out =
+        format!("Bytes 2 to 33, the table ({title}): 16-bit numbers, low byte first.\n\n");
+    for ((field, words), number) in FIELDS.iter().zip(table) {
+        writeln!(out, "    {field:<8}{number:<6}{words}").expect("a string takes it");
+    }
+    out
+}
+
+pub fn printed_text(printed: &str) -> String {
     let lines: Vec<String> = printed.lines().map(|l| format!("    {l}\n")).collect();
     if lines.len() <= MOST_LINES {
         return lines.concat();
