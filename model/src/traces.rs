@@ -1,6 +1,7 @@
 //! The cases of the program `traces`, each an input of `trace` behind its length in two bytes, and the text of each behind a line `case`.
 //!
-//! A capture that reaches the last cycle has 65,537 records, which is more than is stored: `hostile_trace` has those.
+//! A capture that reaches the last cycle has 65,537 records, which is more than is stored: the program makes three behind the head of the
+//! first case. `hostile_trace` has more of them.
 
 use crate::house::*;
 use crate::inputs;
@@ -9,7 +10,18 @@ use crate::sent::{capture, of_schedule, record, tick_record as tick, with_ticks,
 use crate::trace::trace;
 
 pub fn lines(input: &[u8]) -> String {
-    inputs::texts(input, trace)
+    let mut out = inputs::texts(input, trace);
+    for last in [tick(65_535), record(65_535, 0, 3), tick(0)] {
+        out.push_str("case\n");
+        out.push_str(&trace(&at_the_last_cycle(&input[2..36], last)));
+    }
+    out
+}
+
+/// Ticks, each 65,535 cycles after the one before it; the record behind them is at cycle 4,294,967,295 if its stamp is 65,535.
+fn at_the_last_cycle(head: &[u8], last: [u8; 4]) -> Vec<u8> {
+    let ticks: Vec<[u8; 4]> = (0..=u16::MAX).rev().map(tick).collect();
+    [head, &ticks.concat(), &last].concat()
 }
 
 pub fn cases() -> Vec<u8> {
