@@ -11,6 +11,11 @@ static const skv_numbers numbers = {{EDITION, 16, 4, 5, 11, 12, 28, 41, 6, 155, 
 static const uint8_t table[32] = {0x34, 0x12, 16, 0, 4,  0, 5,  0, 11, 0, 12, 0, 28, 0, 41, 0,
                                   6,    0,    155, 0, 13, 0, 10, 0, 7,  0, 14, 0, 3,  0, 50, 0};
 
+/* The same in five groups, with long CCD 8, long RRD 9, long WTR 15. */
+static const skv_group_numbers group_numbers = {{EDITION, 16, 4, 5, 11, 12, 28, 41, 6, 155, 13, 10, 7, 14, 3, 50, 5, 8, 9, 15}};
+static const uint8_t group_table[40] = {0x34, 0x12, 16,  0, 4,  0, 5,  0, 11, 0, 12, 0, 28, 0, 41, 0, 6, 0, 155, 0,
+                                        13,   0,    10,  0, 7,  0, 14, 0, 3,  0, 50, 0, 5,  0, 8,  0, 9, 0, 15,  0};
+
 static int wrong;
 
 static void must(int holds, int line, const char *what) {
@@ -42,13 +47,20 @@ static void put(uint8_t *out, uint32_t cycle, uint8_t kind, uint8_t bank, uint16
 }
 
 static void one_record(void) {
-    uint8_t out[32];
+    uint8_t out[40];
     MUST(is(skv_write_table(numbers, out, 32), 0, 0, EDITION, 0, 0) && same(out, table, 32));
     MUST(is(skv_write_table(numbers, out, 31), 1, 0, 0, 0, 0));
     skv_table_answer t = skv_read_table(table, 32);
     MUST(t.refused == 0 && t.position == 0 && t.edition == EDITION && same(t.numbers, numbers.numbers, 32));
+    MUST(t.numbers[16] == 1 && t.numbers[17] == 5 && t.numbers[18] == 6 && t.numbers[19] == 3);
     t = skv_read_table(table, 31);
     MUST(t.refused == 1 && t.position == 0 && t.edition == 0 && t.numbers[0] == 0);
+    MUST(is(skv_write_group_table(group_numbers, out, 40), 0, 0, EDITION, 0, 0) && same(out, group_table, 40));
+    MUST(is(skv_write_group_table(group_numbers, out, 32), 1, 0, 0, 0, 0));
+    t = skv_read_table(group_table, 40);
+    MUST(t.refused == 0 && t.position == 0 && t.edition == EDITION && same(t.numbers, group_numbers.numbers, 40));
+    t = skv_read_table(group_table, 39);
+    MUST(t.refused == 1 && t.position == 0 && t.edition == 0 && t.numbers[19] == 0);
 
     const uint8_t four[4] = {1, 2, 3, 4};
     MUST(is(skv_write_transaction(1, 2, 3, 4, out, 4), 0, 0, 0, 0, 0) && same(out, four, 4));
@@ -135,6 +147,12 @@ static void verdicts(void) {
     put(schedule + 8, 50, 0, 0, 1);
     put(schedule + 16, 500, 5, 0, 2);
     MUST(says(skv_judge(EDITION, table, 32, schedule, 24), 0, 0, EDITION, 11, 0, 2));
+    /* Banks 0 and 5 are of one group, banks 0 and 1 are not. */
+    put(schedule, 0, 0, 0, 0);
+    put(schedule + 8, 8, 0, 5, 1);
+    MUST(says(skv_judge(EDITION, group_table, 40, schedule, 16), 0, 0, EDITION, 6, 0, 1));
+    put(schedule + 8, 8, 0, 1, 1);
+    MUST(says(skv_judge(EDITION, group_table, 40, schedule, 16), 0, 0, EDITION, 10, 0, 2));
     for (uint8_t bank = 0; bank < 3; bank++) {
         put(pattern + 8 * bank, 6u * bank, 0, bank, bank);
         put(pattern + 24 + 8 * bank, 17 + 5u * bank, 2, bank, bank);
@@ -168,11 +186,16 @@ static const skv_transaction three[3] = {
     {.kind = 1, .start = 3, .bi = 1, .bc = 2}, {.kind = 0, .start = 9, .bi = 1, .bc = 2}, {.kind = 2, .start = 0, .bi = 0, .bc = 0}};
 static const uint8_t three_bytes[12] = {1, 3, 1, 2, 0, 9, 1, 2, 2, 0, 0, 0};
 
-/* All numbers differ. The list's ACTs go to banks 3 and 9, its data commands are WR, WRA to bank 3, RD, RDA to bank 9; then comes a REF. */
+/* All numbers differ. The list's ACTs go to banks 3 and 9, of groups 3 and 4, its data commands are WR, WRA to bank 3, RD, RDA to bank 9; then
+ * comes a REF. What stands past the five groups is not looked at. */
 static skv_controller running(uint32_t acts, uint32_t datas) {
-    skv_controller c = {.edition = EDITION, .cycle = 1000, .acts = acts, .datas = datas, .rd = 400, .wr = 401, .refresh = 402};
+    skv_controller c = {.edition = EDITION, .cycle = 1000, .acts = acts, .datas = datas, .refresh = 402};
     for (uint32_t k = 0; k < 16; k++) c.banks[k] = (skv_bank){.opened = 500 + k, .act = 100 + 10 * k, .rd = 101 + 10 * k, .wr = 102 + 10 * k};
     for (uint32_t k = 0; k < 4; k++) c.last[k] = 300 + k;
+    for (uint32_t k = 0; k < 8; k++) {
+        uint32_t from = k < 5 ? 600 + 10 * k : 6000 + 10 * k;
+        c.groups[k] = (skv_group){.act = from, .rd = from + 1, .wr = from + 2};
+    }
     return c;
 }
 
@@ -181,50 +204,54 @@ static void goes(skv_controller c, skv_controller want, uint8_t kind, uint8_t ba
     uint8_t room[8], right[8];
     put(right, 1000, kind, bank, number);
     skv_controller lent = c;
-    MUST(is(skv_step(&lent, EDITION, table, 32, three, 3, room, 8), 0, 0, EDITION, 1, 1));
+    MUST(is(skv_step(&lent, EDITION, group_table, 40, three, 3, room, 8), 0, 0, EDITION, 1, 1));
     MUST(same(&lent, &want, sizeof want) && same(room, right, 8));
     lent = c;
     memset(room, 0, 8);
-    MUST(is(skv_run(&lent, EDITION, table, 32, three, 3, 1, room, 8), 0, 0, EDITION, 1, 1));
+    MUST(is(skv_run(&lent, EDITION, group_table, 40, three, 3, 1, room, 8), 0, 0, EDITION, 1, 1));
     MUST(same(&lent, &want, sizeof want) && same(room, right, 8));
     memset(room, 0, 8);
-    skv_controller_answer a = skv_run_bytes(c, EDITION, table, 32, three_bytes, 12, 1, room, 8);
+    skv_controller_answer a = skv_run_bytes(c, EDITION, group_table, 40, three_bytes, 12, 1, room, 8);
     MUST(is(a.answer, 0, 0, EDITION, 1, 1) && same(&a.controller, &want, sizeof want) && same(room, right, 8));
     /* Another edition, and a stored cycle that is not before its own: all stays. */
     c.edition += 65536;
-    a = skv_run_bytes(c, EDITION, table, 32, three_bytes, 12, 1, room, 8);
+    a = skv_run_bytes(c, EDITION, group_table, 40, three_bytes, 12, 1, room, 8);
     MUST(is(a.answer, 9, 0, EDITION, 0, 0) && same(&a.controller, &c, sizeof c));
     c.edition -= 65536, c.refresh = c.cycle;
-    a = skv_run_bytes(c, EDITION, table, 32, three_bytes, 12, 1, room, 8);
+    a = skv_run_bytes(c, EDITION, group_table, 40, three_bytes, 12, 1, room, 8);
+    MUST(is(a.answer, 9, 0, EDITION, 0, 0) && same(&a.controller, &c, sizeof c));
+    c.refresh = 402, c.groups[4].wr = c.cycle;
+    a = skv_run_bytes(c, EDITION, group_table, 40, three_bytes, 12, 1, room, 8);
     MUST(is(a.answer, 9, 0, EDITION, 0, 0) && same(&a.controller, &c, sizeof c));
 }
 
 static void running_controllers(void) {
     skv_controller_answer fresh = skv_start(EDITION, table, 32);
-    skv_controller c = {.edition = EDITION, .rd = SKV_NEVER, .wr = SKV_NEVER, .refresh = SKV_NEVER}, want;
+    skv_controller c = {.edition = EDITION, .refresh = SKV_NEVER}, want;
     for (int k = 0; k < 16; k++) c.banks[k] = (skv_bank){.opened = 0, .act = SKV_NEVER, .rd = SKV_NEVER, .wr = SKV_NEVER};
     for (int k = 0; k < 4; k++) c.last[k] = SKV_NEVER;
+    for (int k = 0; k < 8; k++) c.groups[k] = (skv_group){.act = SKV_NEVER, .rd = SKV_NEVER, .wr = SKV_NEVER};
     MUST(is(fresh.answer, 0, 0, EDITION, 0, 0) && same(&fresh.controller, &c, sizeof c));
     MUST(is(skv_start(1, table, 32).answer, 10, EDITION, EDITION, 0, 0));
 
     want = c = running(1, 0); /* WR to bank 3 */
-    want.cycle = 1001, want.datas = 1, want.banks[3].opened = 1, want.banks[3].wr = 1000, want.wr = 1000;
+    want.cycle = 1001, want.datas = 1, want.banks[3].opened = 1, want.banks[3].wr = 1000, want.groups[3].wr = 1000;
     goes(c, want, 3, 3, 0);
     want = c = running(1, 1); /* WRA */
-    want.cycle = 1001, want.datas = 2, want.banks[3].opened = 0, want.banks[3].wr = 1000, want.wr = 1000;
+    want.cycle = 1001, want.datas = 2, want.banks[3].opened = 0, want.banks[3].wr = 1000, want.groups[3].wr = 1000;
     goes(c, want, 4, 3, 0);
     c = running(1, 2);
     c.banks[9].opened = 0;
     want = c; /* ACT to bank 9 */
     want.cycle = 1001, want.acts = 2;
     want.banks[9] = (skv_bank){.opened = 1, .act = 1000, .rd = SKV_NEVER, .wr = SKV_NEVER};
-    want.last[0] = 1000, want.last[1] = 300, want.last[2] = 301, want.last[3] = 302;
+    want.last[0] = 1000, want.last[1] = 300, want.last[2] = 301, want.last[3] = 302, want.groups[4].act = 1000;
     goes(c, want, 0, 9, 1);
     want = c = running(2, 2); /* RD to bank 9 */
-    want.cycle = 1001, want.datas = 3, want.banks[9].opened = 1, want.banks[9].rd = 1000, want.rd = 1000;
+    want.cycle = 1001, want.datas = 3, want.banks[9].opened = 1, want.banks[9].rd = 1000, want.groups[4].rd = 1000;
     goes(c, want, 1, 9, 1);
     want = c = running(2, 3); /* RDA */
-    want.cycle = 1001, want.datas = 4, want.banks[9].opened = 0, want.banks[9].rd = 1000, want.rd = 1000;
+    want.cycle = 1001, want.datas = 4, want.banks[9].opened = 0, want.banks[9].rd = 1000, want.groups[4].rd = 1000;
     goes(c, want, 2, 9, 1);
     c = running(2, 4);
     for (int k = 0; k < 16; k++) c.banks[k].opened = 0;

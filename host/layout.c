@@ -60,6 +60,8 @@ int main(void) {
     WHOLE(skv_capture_record_answer);
     FIELD(skv_numbers, numbers);
     WHOLE(skv_numbers);
+    FIELD(skv_group_numbers, numbers);
+    WHOLE(skv_group_numbers);
     FIELD(skv_transaction, kind);
     FIELD(skv_transaction, start);
     FIELD(skv_transaction, bi);
@@ -70,14 +72,17 @@ int main(void) {
     FIELD(skv_bank, rd);
     FIELD(skv_bank, wr);
     WHOLE(skv_bank);
+    FIELD(skv_group, act);
+    FIELD(skv_group, rd);
+    FIELD(skv_group, wr);
+    WHOLE(skv_group);
     FIELD(skv_controller, edition);
     FIELD(skv_controller, cycle);
     FIELD(skv_controller, acts);
     FIELD(skv_controller, datas);
     FIELD(skv_controller, banks);
     FIELD(skv_controller, last);
-    FIELD(skv_controller, rd);
-    FIELD(skv_controller, wr);
+    FIELD(skv_controller, groups);
     FIELD(skv_controller, refresh);
     WHOLE(skv_controller);
     FIELD(skv_controller_answer, controller);

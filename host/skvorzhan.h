@@ -10,16 +10,17 @@
  * The checks go in the order of the numbers, but for 10, which goes straight after number 2, and of a capture, whose 5 comes last, after 11: the
  * first that applies is told. A call makes only the checks that its comment names, in the order in which it names them.
  *
- *   1  table not 32 bytes
- *   2  a table number out of range, CCD below 2 or below B
+ *   1  table neither 32 nor 40 bytes
+ *   2  a table number out of range, CCD below 2 or below B, a long number below its short one
  *   3  transaction bytes not a multiple of 4, or over 256 transactions, or too few places to decode into
  *   4  a transaction out of range, a refresh where RFC is 0 among them; the position is the lowest such transaction's number, from 0
  *   5  too little room for commands
  *   6  fewer places for finishing cycles than transactions
  *   7  schedule bytes not a multiple of 8, or capture bytes not a multiple of 4, or over 69,632 records
  *   8  pattern length 0
- *   9  a controller that cannot be gone on with: its cycle at 100,000,000 or more, an edition not the table's, a stored cycle not before its
- *      own cycle, more commands gone from a queue than the list puts there, or a data command gone whose ACT has not
+ *   9  a controller that cannot be gone on with: its cycle at 100,000,000 or more, an edition not the table's, a stored cycle (of the table's
+ *      banks and groups, of the four ACTs, of the last REF) not before its own cycle, more commands gone from a queue than the list puts
+ *      there, or a data command gone whose ACT has not
  *  10  the expected edition is not the table's; the position is the table's edition. Expected 0 always differs, since no table has it
  *  11  a capture record whose stamp is equal to that of the record before it, or whose true cycle is above 4,294,967,295; the position is the
  *      lowest such record's number, from 0, ticks counted
@@ -39,6 +40,11 @@
  *   table, 32 bytes       sixteen 16-bit numbers: edition, banks, B, CCD, RCD, RP, RAS, RC, RRD, FAW, RL, WL, RTP, WR, WTR, RFC. Edition is
  *                         1 to 65,535, banks 1 to 16, RFC 0 to 1,023, 0 meaning that the table has no refresh, the others 1 to 1,023; CCD is
  *                         at least 2 and at least B
+ *   table, 40 bytes       the sixteen numbers, then the group count, long CCD, long RRD and long WTR. The group count is 1 to 8 and at most
+ *                         banks, each long number at most 1,023 and not below the short one. A bank's group is its number modulo the group
+ *                         count. Between commands of one group CCD, RRD and WTR are the long ones, across groups the short ones; in the bound
+ *                         they are the long ones. A table of 32 bytes counts as one group, each long number equal to its short one. Every call
+ *                         that is lent a table takes either
  *   transaction, 4 bytes  type (0 read, 1 write, 2 refresh), start bank, BI, BC. BI and BC are 1 to 16; start is below banks and BI is at most
  *                         banks. Its banks are start, start + 1 and so on, BI of them, with bank 0 after the last. Of a refresh start, BI and
  *                         BC are 0; a table whose RFC is 0 refuses it
@@ -95,12 +101,12 @@ typedef struct skv_capture_answer {
     uint32_t record;
 } skv_capture_answer;
 
-/* Where refused, all sixteen numbers are 0. */
+/* The twenty numbers, of a table of 32 bytes with 1 group and the short CCD, RRD and WTR again. Where refused, all twenty are 0. */
 typedef struct skv_table_answer {
     uint32_t refused;
     uint32_t position;
     uint32_t edition;
-    uint16_t numbers[16];
+    uint16_t numbers[20];
 } skv_table_answer;
 
 /* Where refused, kind, start, bi and bc are 0. */
@@ -135,10 +141,15 @@ typedef struct skv_capture_record_answer {
     uint8_t bank;
 } skv_capture_record_answer;
 
-/* The sixteen numbers of a table, in the order of its bytes. */
+/* The sixteen numbers of a table of 32 bytes, in the order of its bytes. */
 typedef struct skv_numbers {
     uint16_t numbers[16];
 } skv_numbers;
+
+/* The twenty numbers of a table of 40 bytes, in the order of its bytes. */
+typedef struct skv_group_numbers {
+    uint16_t numbers[20];
+} skv_group_numbers;
 
 typedef struct skv_transaction {
     uint8_t kind;  /* 0 read, 1 write, 2 refresh; of a refresh the others are 0 */
@@ -157,8 +168,15 @@ typedef struct skv_bank {
     uint32_t wr;
 } skv_bank;
 
-/* A running controller. Any bits are one; what number 9 says of them is checked by the calls. Of the banks only the table's are read or
- * changed. No byte lies between the fields: it is 75 numbers in 300 bytes. */
+/* A group of banks: the cycles of its latest ACT, RD and WR. */
+typedef struct skv_group {
+    uint32_t act;
+    uint32_t rd;
+    uint32_t wr;
+} skv_group;
+
+/* A running controller. Any bits are one; what number 9 says of them is checked by the calls. Of the banks and of the groups only the table's
+ * are read or changed. No byte lies between the fields: it is 97 numbers in 388 bytes. */
 typedef struct skv_controller {
     uint32_t edition;
     uint32_t cycle; /* the next to be tried */
@@ -166,8 +184,7 @@ typedef struct skv_controller {
     uint32_t datas; /* gone from the data queue */
     skv_bank banks[16];
     uint32_t last[4]; /* the last four ACTs, newest first */
-    uint32_t rd;      /* the last RD of all */
-    uint32_t wr;      /* the last WR of all */
+    skv_group groups[8];
     uint32_t refresh; /* the last REF */
 } skv_controller;
 
@@ -176,11 +193,14 @@ typedef struct skv_controller_answer {
     skv_answer answer;
 } skv_controller_answer;
 
-/* Checks 1, 2. Answers the sixteen numbers and the table's edition. */
+/* Checks 1, 2. Answers the twenty numbers and the table's edition. */
 skv_table_answer skv_read_table(const uint8_t *bytes, size_t bytes_len);
 
 /* Checks 1 (out is not 32 bytes), 2. Writes the 32 bytes of the table. The edition is the table's, count is 0. */
 skv_answer skv_write_table(skv_numbers numbers, uint8_t *out, size_t out_len);
+
+/* Checks 1 (out is not 40 bytes), 2. Writes the 40 bytes of the table. The edition is the table's, count is 0. */
+skv_answer skv_write_group_table(skv_group_numbers numbers, uint8_t *out, size_t out_len);
 
 /* Checks 3 (not 4 bytes), 4 (out of range, banks counting as 16, a refresh accepted; position 0). Answers the four numbers. */
 skv_transaction_answer skv_read_transaction(const uint8_t *bytes, size_t bytes_len);
@@ -251,7 +271,8 @@ skv_controller_answer skv_start(uint16_t expected, const uint8_t *table, size_t 
 /* Checks 1, 2, 10, 3 (over 256 transactions), 4, 5 (room_len under 8 x the lesser of count and the commands left in the two queues), 9.
  * Runs the cycle rule on from what c tells, and stops after count cycles, when the list is served, or at cycle 100,000,000, whichever is first.
  * Writes the commands that go, 8 bytes each, into room, and changes c to what it then tells. Bytes beyond, and what c keeps past the table's
- * banks, stay as they stood. count is the number of commands, cycles the number of cycles run. */
+ * banks and past its groups, stay as they stood. Of the four ACTs rule 7 reads the fourth; rule 6 reads the groups' ACTs, rule 9 their RDs and
+ * WRs. count is the number of commands, cycles the number of cycles run. */
 skv_answer skv_run(skv_controller *c, uint16_t expected, const uint8_t *table, size_t table_len, const skv_transaction *list, size_t list_len,
                    uint32_t count, uint8_t *room, size_t room_len);
 

@@ -1,5 +1,6 @@
 //! Finds the archive: the file that SKVORZHAN_ARCHIVE names, or what `rt staticlib host` leaves in the repository. Where SKVORZHAN_BEFORE names
-//! an archive from before a change, with the same calls and structs, that is linked too, each of its calls with `before_` in front of its name.
+//! an archive from before a change, with the same calls and structs but for the controller's end, that is linked too, each of its calls with
+//! `before_` in front of its name.
 
 use std::env;
 use std::path::{Path, PathBuf};

@@ -3,22 +3,24 @@
 use std::fmt::{Display, Write};
 
 use crate::desk::*;
-use crate::house::{bytes_of, REFRESHED, TABLE_A, TABLE_T};
+use crate::house::{bytes_of, grouped, REFRESHED, TABLE_A, TABLE_D, TABLE_T};
+use crate::records::whole;
 
 struct Case {
     started_as: u16,
     expected: u16,
-    numbers: Table,
+    /// Sixteen, or twenty.
+    numbers: Vec<u16>,
     list: [[u8; 4]; 3],
     bytes: &'static [u8],
     count: u32,
 }
 
 fn cases() -> Vec<Case> {
-    let case = |editions: (u16, u16), numbers, list, bytes, count| Case {
+    let case = |editions: (u16, u16), numbers: &[u16], list, bytes, count| Case {
         started_as: editions.0,
         expected: editions.1,
-        numbers,
+        numbers: numbers.to_vec(),
         list,
         bytes,
         count,
@@ -27,56 +29,64 @@ fn cases() -> Vec<Case> {
     vec![
         case(
             (7, 7),
-            TABLE_A,
+            &TABLE_A,
             [[1, 0, 1, 1], [0, 0, 1, 1], [0, 7, 2, 2]],
             &[0, 3, 1, 2, 1, 4, 2, 1],
             60,
         ),
         case(
             (9, 9),
-            TABLE_T,
+            &TABLE_T,
             [[0, 0, 1, 2], [1, 1, 1, 2], [0, 2, 1, 1]],
             &[0, 0, 1, 2, 1, 1, 1, 2, 0, 2, 1, 1],
             49,
         ),
         case(
             (7, 7),
-            TABLE_A,
+            &TABLE_A,
             [[0, 1, 1, 1], [1, 2, 1, 1], [0, 3, 1, 1]],
             &[0, 0, 1, 1, 0, 1, 1, 1, 0, 2, 1, 1, 0, 3, 1, 1],
             0,
         ),
         case(
             (7, 7),
-            TABLE_A,
+            &TABLE_A,
             [[0, 0, 8, 16], [0, 0, 1, 1], [0, 0, 1, 1]],
             &[0, 0, 1, 1, 0],
             1000,
         ),
         case(
             (9, 9),
-            TABLE_T,
+            &TABLE_T,
             [[0, 0, 1, 1], [0, 6, 1, 1], [2, 0, 1, 1]],
             &[0, 0, 1, 1, 0, 0, 17, 1],
             5,
         ),
-        case((0, 7), TABLE_T, same, &[0, 0, 1, 1], 5),
-        case((7, 9), TABLE_T, same, &[0, 0, 1, 1, 0, 1, 1, 1], 5),
-        case((7, 7), [0; 16], same, &[], 5),
+        case((0, 7), &TABLE_T, same, &[0, 0, 1, 1], 5),
+        case((7, 9), &TABLE_T, same, &[0, 0, 1, 1, 0, 1, 1, 1], 5),
+        case((7, 7), &[0; 16], same, &[], 5),
         case(
             (70, 70),
-            REFRESHED,
+            &REFRESHED,
             [[1, 0, 1, 1], [2, 0, 0, 0], [0, 0, 1, 1]],
             &[2, 0, 0, 0],
             60,
         ),
         case(
             (7, 7),
-            TABLE_A,
+            &TABLE_A,
             [[0, 0, 1, 1], [0, 1, 1, 1], [2, 0, 0, 0]],
             &[0, 0, 1, 1, 2, 0, 0, 1],
             5,
         ),
+        case(
+            (7, 7),
+            &TABLE_D,
+            [[1, 0, 1, 1], [0, 4, 1, 1], [0, 1, 2, 2]],
+            &[0, 3, 1, 2, 1, 7, 2, 1],
+            60,
+        ),
+        case((7, 7), &grouped(&TABLE_A, 4, [9, 5, 13]), same, &[], 5),
     ]
 }
 
@@ -113,13 +123,13 @@ impl Lines {
     }
 
     fn records(&mut self, case: &Case) {
-        let mut table = [0; 32];
-        let written = host(write_table(case.numbers, &mut table).map(|e| (e, 0, 0)));
-        self.line("skv_write_table", &[written, hex(&table)]);
+        let (name, written, table) = case.written();
+        let written = host(written.map(|e| (e, 0, 0)));
+        self.line(name, &[written, hex(&table)]);
         let read = flat(
             read_table(&table),
             |t| (t[0], t.map(u32::from).to_vec()),
-            16,
+            20,
         );
         self.line("skv_read_table", &[read]);
         let four = |x: Transaction| (0, [x.kind, x.start, x.bi, x.bc].map(u32::from).to_vec());
@@ -244,13 +254,25 @@ impl Lines {
 }
 
 impl Case {
-    /// The table as the writer leaves it: all zeros where it refuses.
-    fn table(&self) -> Vec<u8> {
-        let mut table = vec![0; 32];
-        if write_table(self.numbers, &mut table).is_ok() {
+    /// The writer's name and answer, and the table as it leaves it: all zeros where it refuses.
+    fn written(&self) -> (&'static str, Result<u16, Refusal>, Vec<u8>) {
+        let mut table = vec![0; 2 * self.numbers.len()];
+        let (name, answer) = match Table::try_from(&self.numbers[..]) {
+            Ok(numbers) => ("skv_write_table", write_table(numbers, &mut table)),
+            Err(_) => {
+                let numbers = whole(&self.numbers);
+                let answer = write_group_table(numbers, &mut table);
+                ("skv_write_group_table", answer)
+            }
+        };
+        if answer.is_ok() {
             assert_eq!(table, bytes_of(&self.numbers));
         }
-        table
+        (name, answer, table)
+    }
+
+    fn table(&self) -> Vec<u8> {
+        self.written().2
     }
 
     fn list(&self) -> Vec<Transaction> {
@@ -309,7 +331,8 @@ fn state(s: &Controller) -> String {
     let head = spaced(&[s.edition, s.cycle, s.acts, s.datas]);
     let bank = |b: &Bank| format!(" , {}", spaced(&[b.opened, b.act, b.rd, b.wr]));
     let banks: String = s.banks.iter().map(bank).collect();
-    let [a, b, c, d] = s.last;
-    let last = spaced(&[a, b, c, d, s.rd, s.wr, s.refresh]);
-    format!(", {head}{banks} , {last}")
+    let group = |g: &Group| format!(" , {}", spaced(&[g.act, g.rd, g.wr]));
+    let groups: String = s.groups.iter().map(group).collect();
+    let (last, refresh) = (spaced(&s.last), s.refresh);
+    format!(", {head}{banks} , {last}{groups} , {refresh}")
 }

@@ -3,7 +3,7 @@
 //! The true cycles are counted by the rounds of the analyser's counter: a stamp below the one before it stands in the next round of
 //! 65,536 cycles.
 
-use crate::records::{refused, Command, Refusal, Table, EDITION};
+use crate::records::{refused, Command, GroupTable, Refusal, EDITION};
 use crate::rules::MOST_RECORDS;
 
 /// "Callers send a capture in 4-byte records: a 16-bit stamp, kind, bank."
@@ -80,7 +80,7 @@ pub fn true_cycles(records: &[CaptureRecord]) -> Result<Vec<u64>, usize> {
 
 /// Numbers 7, 11 and 5: "Number 7 (bytes not a multiple of 4, or over 69,632 records) goes before 11, and 5 (room for the commands)
 /// after it." The commands have "ticks dropped, transaction number 0".
-pub fn commands(table: &Table, bytes: &[u8], room: usize) -> Result<Vec<Command>, Refusal> {
+pub fn commands(table: &GroupTable, bytes: &[u8], room: usize) -> Result<Vec<Command>, Refusal> {
     let edition = table[EDITION];
     let refusal = |number, position| Refusal {
         number,

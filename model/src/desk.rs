@@ -9,6 +9,8 @@ mod captures;
 #[cfg(test)]
 mod editions;
 #[cfg(test)]
+mod groups;
+#[cfg(test)]
 mod laws;
 #[cfg(test)]
 mod refreshes;
@@ -23,17 +25,17 @@ mod wraps;
 
 pub use crate::capture::{read_capture_record, write_capture_record, CaptureRecord};
 pub use crate::records::{read_command, read_table, read_transaction};
-pub use crate::records::{write_command, write_table, write_transaction};
-pub use crate::records::{Command, Refusal, Table, Transaction};
+pub use crate::records::{write_command, write_group_table, write_table, write_transaction};
+pub use crate::records::{Command, GroupTable, Refusal, Table, Transaction};
 pub use crate::rules::{PatternVerdict, Verdict};
-pub use crate::scheduler::{Bank, State as Controller, NEVER};
+pub use crate::scheduler::{Bank, Group, State as Controller, NEVER};
 
 use crate::records::EDITION;
 use crate::{capture, rules, scheduler};
 
 /// Numbers 1, 2 and 10, for every call that takes a table: "If they differ it's refused as number 10, position the table's edition,
 /// straight after number 2; expected 0 always differs", since no table of edition 0 gets past number 2.
-fn admit(expected: u16, table: &[u8]) -> Result<Table, Refusal> {
+fn admit(expected: u16, table: &[u8]) -> Result<GroupTable, Refusal> {
     let table = read_table(table)?;
     let edition = table[EDITION];
     if expected != edition {
@@ -168,7 +170,7 @@ pub fn bound(expected: u16, table: &[u8], bi: u8, bc: u8) -> Result<(u16, u64), 
 pub fn start(expected: u16, table: &[u8]) -> (Result<u16, Refusal>, Controller) {
     match admit(expected, table) {
         Ok(table) => (Ok(table[EDITION]), Controller::fresh(&table)),
-        Err(refusal) => (Err(refusal), Controller::fresh(&[0; 16])),
+        Err(refusal) => (Err(refusal), Controller::fresh(&[0])),
     }
 }
 

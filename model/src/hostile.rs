@@ -1,9 +1,11 @@
 //! The cases of the program `hostile`, and the line of each.
 //!
-//! A case is `[call][n][n bytes]`. Calls 1, 3 and 5 read a table, a transaction and a command from the bytes. Calls 2, 4 and 6 write
-//! one: its values come first, in 32, 4 or 8 bytes, and the rest is the buffer.
+//! A case is `[call][n][n bytes]`. Calls 1, 3 and 5 read a table, a transaction and a command from the bytes. Calls 2, 4, 6 and 7 write
+//! a table of 32 bytes, a transaction, a command and a table of 40 bytes: its values come first, in 32, 4, 8 or 40 bytes, and the rest is
+//! the buffer.
 
 mod cases;
+mod tables;
 
 pub use cases::cases;
 
@@ -16,6 +18,7 @@ const READ_TRANSACTION: u8 = 3;
 const WRITE_TRANSACTION: u8 = 4;
 const READ_COMMAND: u8 = 5;
 const WRITE_COMMAND: u8 = 6;
+const WRITE_GROUP_TABLE: u8 = 7;
 
 /// The longest buffer that a case can have.
 const ROOM: usize = 64;
@@ -68,6 +71,12 @@ fn line(call: u8, bytes: &[u8]) -> Option<String> {
             let t: Table = std::array::from_fn(|i| u16::from_le_bytes([v[2 * i], v[2 * i + 1]]));
             let answer = write_table(t, &mut room);
             Some(writer("write_table", answer, &room))
+        }
+        WRITE_GROUP_TABLE => {
+            let (v, mut room) = values_and_room(bytes, 40)?;
+            let t = std::array::from_fn(|i| u16::from_le_bytes([v[2 * i], v[2 * i + 1]]));
+            let answer = write_group_table(t, &mut room);
+            Some(writer("write_group_table", answer, &room))
         }
         WRITE_TRANSACTION => {
             let (v, mut room) = values_and_room(bytes, 4)?;

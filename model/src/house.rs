@@ -1,8 +1,8 @@
 //! The house tables, tables in which one number outgrows the others, and what else the cases are made from.
 
 use crate::desk::schedule_bytes;
-pub use crate::records::{B, RFC};
-use crate::records::{Table, EDITION, REFRESH};
+use crate::records::{GroupTable, Table, BANKS, EDITION, REFRESH};
+pub use crate::records::{whole, B, GROUPS, LONGS, RFC};
 
 pub const RC: usize = 7;
 pub const FAW: usize = 9;
@@ -15,6 +15,16 @@ pub const TABLE_B: Table = [7, 8, 4, 4, 10, 10, 28, 38, 6, 155, 10, 8, 6, 12, 6,
 pub const TABLE_C: Table = [7, 8, 4, 4, 10, 10, 28, 38, 6, 32, 10, 8, 2, 12, 6, 0];
 /// No two numbers alike, B below CCD, FAW no multiple of 4.
 pub const TABLE_T: Table = [9, 6, 4, 5, 11, 12, 26, 40, 7, 33, 13, 10, 8, 14, 3, 0];
+
+/// The team's own table of 40 bytes: table A's numbers, 4 groups, long CCD 9, long RRD 20, long WTR 13.
+pub const TABLE_D: GroupTable = [
+    7, 8, 4, 4, 10, 10, 28, 38, 6, 32, 10, 8, 6, 12, 6, 0, 4, 9, 20, 13,
+];
+
+/// A table of 40 bytes, of which the last 8 are two writes where transactions are read there.
+pub const TWO_WRITES: GroupTable = [
+    7, 8, 4, 4, 10, 10, 28, 38, 6, 32, 10, 8, 6, 12, 6, 0, 1, 257, 257, 257,
+];
 
 /// Every number the least that is accepted, and every number the greatest.
 pub const LEAST: Table = [1, 16, 1, 2, 1, 1, 1, 1, 1, 1, 1, 1, 1, 1, 1, 0];
@@ -73,7 +83,40 @@ pub fn with(changes: &[(usize, u16)]) -> Table {
     t
 }
 
-pub fn bytes_of(t: &Table) -> Vec<u8> {
+/// The sixteen numbers in so many groups, with these long numbers.
+pub fn grouped(t: &Table, groups: u16, longs: [u16; 3]) -> GroupTable {
+    let mut all = [0; 20];
+    all[..16].copy_from_slice(t);
+    all[GROUPS] = groups;
+    all[GROUPS + 1..].copy_from_slice(&longs);
+    all
+}
+
+/// Table A's numbers in each count of groups, of which most don't divide the banks; then as many banks as groups; then the least numbers
+/// and the greatest, with the greatest long ones.
+pub fn group_tables() -> Vec<GroupTable> {
+    let counts = [
+        (1, 8),
+        (2, 5),
+        (3, 16),
+        (4, 6),
+        (5, 16),
+        (6, 11),
+        (7, 16),
+        (8, 16),
+        (3, 3),
+        (8, 8),
+    ];
+    let of_a = counts.iter().map(|&(groups, banks)| {
+        let t = with(&[(EDITION, 400 + 16 * groups + banks), (BANKS, banks)]);
+        grouped(&t, groups, [4 + groups, 6 + 3 * groups, 5 + 2 * groups])
+    });
+    let ends = [LEAST, GREATEST].map(|t| grouped(&t, 8, [1023; 3]));
+    of_a.chain(ends).collect()
+}
+
+/// The record of a table's sixteen numbers, or of its twenty.
+pub fn bytes_of(t: &[u16]) -> Vec<u8> {
     t.iter().flat_map(|n| n.to_le_bytes()).collect()
 }
 
@@ -108,7 +151,7 @@ pub fn room_for(list: &[[u8; 4]]) -> usize {
 }
 
 /// The schedule of an accepted list, as bytes, and the finishing cycles.
-pub fn built(table: &Table, list: &[[u8; 4]]) -> (Vec<u8>, Vec<u32>) {
+pub fn built(table: &[u16], list: &[[u8; 4]]) -> (Vec<u8>, Vec<u32>) {
     let mut room = vec![0; room_for(list)];
     let mut finishes = vec![0; list.len()];
     let (edition, bytes) = (table[EDITION], list.concat());

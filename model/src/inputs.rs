@@ -6,7 +6,6 @@ use std::io;
 use std::path::Path;
 
 use crate::house::{bytes_of, split};
-use crate::records::Table;
 
 /// The cases so far, and the place of each group's first.
 #[derive(Default)]
@@ -38,11 +37,11 @@ impl Cases {
     }
 
     /// A list of transactions, or the records of a capture.
-    pub fn list(&mut self, table: &Table, list: &[[u8; 4]]) {
+    pub fn list(&mut self, table: &[u16], list: &[[u8; 4]]) {
         self.bytes(table, &list.concat());
     }
 
-    pub fn bytes(&mut self, table: &Table, bytes: &[u8]) {
+    pub fn bytes(&mut self, table: &[u16], bytes: &[u8]) {
         self.own(&[&bytes_of(table), bytes].concat());
     }
 

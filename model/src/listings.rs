@@ -5,7 +5,7 @@ use crate::examples;
 use crate::house::*;
 use crate::inputs;
 use crate::listing::listing;
-use crate::records::{Table, BANKS, CCD, EDITION, RFC};
+use crate::records::{BANKS, CCD, EDITION, RFC};
 
 const RCD: usize = 4;
 const RP: usize = 5;
@@ -37,7 +37,7 @@ fn inputs() -> Vec<Vec<u8>> {
     inputs
 }
 
-fn input(expected: u16, table: &Table, list: &[[u8; 4]]) -> Vec<u8> {
+fn input(expected: u16, table: &[u16], list: &[[u8; 4]]) -> Vec<u8> {
     [
         &expected.to_le_bytes(),
         &bytes_of(table)[..],
@@ -46,7 +46,7 @@ fn input(expected: u16, table: &Table, list: &[[u8; 4]]) -> Vec<u8> {
     .concat()
 }
 
-fn own(table: &Table, list: &[[u8; 4]]) -> Vec<u8> {
+fn own(table: &[u16], list: &[[u8; 4]]) -> Vec<u8> {
     input(table[EDITION], table, list)
 }
 
@@ -73,6 +73,8 @@ fn refused() -> Vec<Vec<u8>> {
         own(&TABLE_A, &[&[[0, 0, 8, 15]; 64][..], &[READ]].concat()),
         own(&GREATEST, &[[1, 0, 16, 16]; 256]),
         own(&TABLE_A, &[READ, REFRESH]),
+        // Tables of 40 bytes: the last 8 are transactions, here and in what is accepted.
+        own(&TABLE_D, &[READ]),
         own(&REFRESHED, &[REFRESH, [2, 0, 0, 1]]),
         // 8192 commands and a refresh more.
         own(&REFRESHED, &[&[[0, 0, 8, 15]; 64][..], &[REFRESH]].concat()),
@@ -98,6 +100,7 @@ fn accepted() -> Vec<Vec<u8>> {
         own(&sixteen, &[[1, 8, 4, 3], [0, 14, 3, 2]]),
         own(&LEAST, &[[0, 0, 16, 16], [1, 15, 16, 15]]),
         own(&TABLE_B, &[READ; 256]),
+        own(&TWO_WRITES, &[READ]),
         own(&LEAST, &[[1, 3, 16, 15]; 32]),
         own(&REFRESHED, &[REFRESH, WRITE, REFRESH, REFRESH, READ]),
         own(&with(&[(RFC, 1023)]), &[REFRESH; 256]),

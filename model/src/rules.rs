@@ -1,6 +1,10 @@
 //! The timing rules, each tried against all records before, and the two judges.
 
-use crate::records::{read_command, Refusal, Table, BANKS, EDITION};
+mod times;
+
+pub use times::Times;
+
+use crate::records::{read_command, GroupTable, Refusal, BANKS, EDITION};
 
 pub const ACT: u8 = 0;
 pub const RD: u8 = 1;
@@ -14,60 +18,6 @@ pub const MOST_RECORDS: usize = 69_632;
 
 /// Five copies decide. The model tries more, so that it doesn't rest on this.
 const COPIES: u64 = 12;
-
-/// A table's numbers, in a width in which no sum wraps.
-pub struct Times {
-    pub banks: u64,
-    pub b: u64,
-    pub ccd: u64,
-    pub rcd: u64,
-    pub rp: u64,
-    pub ras: u64,
-    pub rc: u64,
-    pub rrd: u64,
-    pub faw: u64,
-    pub rl: u64,
-    pub wl: u64,
-    pub rtp: u64,
-    pub wr: u64,
-    pub wtr: u64,
-    pub rfc: u64,
-}
-
-impl Times {
-    pub fn of(t: &Table) -> Times {
-        let [_, banks, b, ccd, rcd, rp, ras, rc, rrd, faw, rl, wl, rtp, wr, wtr, rfc] =
-            t.map(u64::from);
-        Times {
-            banks,
-            b,
-            ccd,
-            rcd,
-            rp,
-            ras,
-            rc,
-            rrd,
-            faw,
-            rl,
-            wl,
-            rtp,
-            wr,
-            wtr,
-            rfc,
-        }
-    }
-
-    /// "A difference below 0 counts as 0."
-    pub fn distance(&self, earlier_reads: bool, later_reads: bool) -> u64 {
-        match (earlier_reads, later_reads) {
-            (true, false) => self
-                .ccd
-                .max((self.rl + self.ccd + 2).saturating_sub(self.wl)),
-            (false, true) => self.ccd.max(self.wl + self.b + self.wtr),
-            _ => self.ccd,
-        }
-    }
-}
 
 /// A command as the rules see it. The cycles of copies go past 32 bits.
 #[derive(Debug, Clone, Copy, PartialEq, Eq)]
@@ -137,7 +87,7 @@ fn is_before_precharged(t: &Times, before: &[Record], bank: u8, cycle: u64) -> b
     precharge_start(t, before, bank).map_or(false, |start| cycle < start + t.rp)
 }
 
-fn banks(table: &Table) -> impl Iterator<Item = u8> {
+fn banks(table: &GroupTable) -> impl Iterator<Item = u8> {
     0..table[BANKS] as u8
 }
 
@@ -145,9 +95,11 @@ fn banks(table: &Table) -> impl Iterator<Item = u8> {
 pub const RULES: [u8; 11] = [1, 2, 3, 4, 5, 6, 7, 8, 9, 11, 12];
 
 /// Whether the record breaks one of these rules, the others left aside.
-pub fn breaks(rule: u8, table: &Table, before: &[Record], r: &Record) -> bool {
+pub fn breaks(rule: u8, table: &GroupTable, before: &[Record], r: &Record) -> bool {
     let t = &Times::of(table);
     let own_act = || last_act(before, r.bank).map(|place| before[place].cycle);
+    // Rules 6 and 9 look back "over all earlier commands, since a neighbour in another group hides an older one".
+    let near = |e: &Record| t.group(e.bank) == t.group(r.bank);
     match rule {
         // "Rule 1 admits kind 5 with bank 0 only."
         1 if r.refreshes() => r.bank != 0,
@@ -157,7 +109,9 @@ pub fn breaks(rule: u8, table: &Table, before: &[Record], r: &Record) -> bool {
         3 => r.is_data() && !is_open(before, r.bank),
         4 if r.acts() => is_before_precharged(t, before, r.bank, r.cycle),
         5 if r.acts() => own_act().map_or(false, |act| r.cycle < act + t.rc),
-        6 if r.acts() => before.iter().any(|e| e.acts() && r.cycle < e.cycle + t.rrd),
+        6 if r.acts() => before
+            .iter()
+            .any(|e| e.acts() && r.cycle < e.cycle + t.act_distance(near(e))),
         7 if r.acts() => {
             let fourth = before.iter().rev().filter(|e| e.acts()).nth(3);
             fourth.map_or(false, |e| r.cycle < e.cycle + t.faw)
@@ -165,7 +119,7 @@ pub fn breaks(rule: u8, table: &Table, before: &[Record], r: &Record) -> bool {
         8 if r.is_data() => own_act().map_or(false, |act| r.cycle < act + t.rcd),
         9 if r.is_data() => before
             .iter()
-            .any(|e| e.is_data() && r.cycle < e.cycle + t.distance(e.reads(), r.reads())),
+            .any(|e| e.is_data() && r.cycle < e.cycle + t.distance(near(e), e.reads(), r.reads())),
         // "A REF with a bank open or before a bank's precharge start + RP."
         11 if r.refreshes() => banks(table)
             .any(|bank| is_open(before, bank) || is_before_precharged(t, before, bank, r.cycle)),
@@ -178,17 +132,17 @@ pub fn breaks(rule: u8, table: &Table, before: &[Record], r: &Record) -> bool {
 }
 
 /// The first of the rules that the record breaks.
-pub fn first_broken(table: &Table, before: &[Record], r: &Record) -> Option<u8> {
+pub fn first_broken(table: &GroupTable, before: &[Record], r: &Record) -> Option<u8> {
     RULES
         .into_iter()
         .find(|&rule| breaks(rule, table, before, r))
 }
 
-fn leaves_open(table: &Table, records: &[Record]) -> bool {
+fn leaves_open(table: &GroupTable, records: &[Record]) -> bool {
     banks(table).any(|bank| is_open(records, bank))
 }
 
-fn read_schedule(table: &Table, bytes: &[u8]) -> Result<Vec<Record>, Refusal> {
+fn read_schedule(table: &GroupTable, bytes: &[u8]) -> Result<Vec<Record>, Refusal> {
     if bytes.len() % 8 != 0 || bytes.len() / 8 > MOST_RECORDS {
         return Err(Refusal {
             number: 7,
@@ -215,7 +169,7 @@ pub enum Verdict {
     Broken { rule: u8, record: usize },
 }
 
-pub fn judge(table: &Table, bytes: &[u8]) -> Result<Verdict, Refusal> {
+pub fn judge(table: &GroupTable, bytes: &[u8]) -> Result<Verdict, Refusal> {
     let records = read_schedule(table, bytes)?;
     for (record, r) in records.iter().enumerate() {
         if let Some(rule) = first_broken(table, &records[..record], r) {
@@ -236,7 +190,11 @@ pub enum PatternVerdict {
     Broken { rule: u8, copy: u64, record: usize },
 }
 
-pub fn judge_pattern(table: &Table, bytes: &[u8], length: u32) -> Result<PatternVerdict, Refusal> {
+pub fn judge_pattern(
+    table: &GroupTable,
+    bytes: &[u8],
+    length: u32,
+) -> Result<PatternVerdict, Refusal> {
     let pattern = read_schedule(table, bytes)?;
     if length == 0 {
         return Err(Refusal {

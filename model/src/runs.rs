@@ -1,12 +1,13 @@
 //! The cases of the program `runs`, and the lines of each.
 //!
-//! A case is `[call][expected: u16][table: 32 bytes]` and then, for call 1, a build, `[room: u16][slots: u16][n: u16][n bytes]`; for
-//! call 2, a run, `[count: u32][room: u16][state: 250 bytes][n: u16][n bytes]`; for call 3, a bound, `[BI][BC]`. The rooms are in
-//! bytes, the n bytes are the transactions. A state stands there with 16 bits of its edition and 8 of each bank's `opened`, the others being
-//! 0. A case of any other call has no end, so nothing after it is read.
+//! A case is `[call][expected: u16][t: u8]` and then, for call 1, a build, `[room: u16][slots: u16][n: u16][t bytes][n bytes]`; for call 2,
+//! a run, `[count: u32][room: u16][n: u16][state: 338 bytes][t bytes][n bytes]`; for call 3, a bound, `[BI][BC][t bytes]`. The t bytes are
+//! the table, the rooms are in bytes, the n bytes are the transactions. A state stands there with 16 bits of its edition and 8 of each
+//! bank's `opened`, the others being 0. A case of any other call has no end, so nothing after it is read.
 
 mod cases;
 mod editions;
+mod groups;
 mod refreshes;
 mod states;
 
@@ -26,7 +27,7 @@ pub fn lines(input: &[u8]) -> String {
     let mut out = String::new();
     let mut rest = Bytes(input);
     while !rest.0.is_empty() {
-        match case_lines(&mut rest) {
+        match first_case(&mut rest).map(|case| told(&case)) {
             Some((name, Ok(lines))) => write!(out, "{name} {lines}"),
             Some((name, Err(r))) => writeln!(out, "{name} {r}"),
             None => {
@@ -65,13 +66,8 @@ impl<'a> Bytes<'a> {
         self.array().map(u32::from_le_bytes)
     }
 
-    fn list(&mut self) -> Option<&'a [u8]> {
-        let n = self.u16()?;
-        self.take(n.into())
-    }
-
     fn state(&mut self) -> Option<Controller> {
-        let mut state = Controller::fresh(&[0; 16]);
+        let mut state = Controller::fresh(&[0]);
         state.edition = self.u16()?.into();
         state.cycle = self.u32()?;
         state.acts = self.u32()?;
@@ -85,36 +81,98 @@ impl<'a> Bytes<'a> {
         for act in &mut state.last {
             *act = self.u32()?;
         }
-        state.rd = self.u32()?;
-        state.wr = self.u32()?;
+        for group in &mut state.groups {
+            group.act = self.u32()?;
+            group.rd = self.u32()?;
+            group.wr = self.u32()?;
+        }
         state.refresh = self.u32()?;
         Some(state)
     }
 }
 
-/// The call's name, and the rest of its first line with all that follow, or its refusal. None for no call and for a case cut short.
-fn case_lines(rest: &mut Bytes) -> Option<(&'static str, Result<String, Refusal>)> {
+/// What each call is given, and before it all of them: the expected edition and the table.
+struct Case<'a> {
+    expected: u16,
+    table: &'a [u8],
+    asked: Asked<'a>,
+}
+
+enum Asked<'a> {
+    Build {
+        room: usize,
+        slots: usize,
+        list: &'a [u8],
+    },
+    Run {
+        count: u32,
+        room: usize,
+        state: Box<Controller>,
+        list: &'a [u8],
+    },
+    Bound(u8, u8),
+}
+
+/// None for no call and for a case cut short.
+fn first_case<'a>(rest: &mut Bytes<'a>) -> Option<Case<'a>> {
     let call = rest.u8()?;
     let expected = rest.u16()?;
-    let table = rest.take(32)?;
-    match call {
+    let t = rest.u8()?.into();
+    let (table, asked) = match call {
         BUILD => {
             let (room, slots) = (rest.u16()?.into(), rest.u16()?.into());
-            let list = rest.list()?;
-            Some(("build", schedule_lines(expected, table, list, room, slots)))
+            let n = rest.u16()?.into();
+            let (table, list) = (rest.take(t)?, rest.take(n)?);
+            (table, Asked::Build { room, slots, list })
         }
         RUN => {
             let (count, room) = (rest.u32()?, rest.u16()?.into());
-            let state = rest.state()?;
-            let list = rest.list()?;
-            Some(("run", run_lines(state, expected, table, list, count, room)))
+            let n = rest.u16()?.into();
+            let state = Box::new(rest.state()?);
+            let (table, list) = (rest.take(t)?, rest.take(n)?);
+            let asked = Asked::Run {
+                count,
+                room,
+                state,
+                list,
+            };
+            (table, asked)
         }
         BOUND => {
             let (bi, bc) = (rest.u8()?, rest.u8()?);
-            let line = |(edition, cycles)| format!("edition {edition} {cycles}\n");
-            Some(("bound", bound(expected, table, bi, bc).map(line)))
+            (rest.take(t)?, Asked::Bound(bi, bc))
         }
-        _ => None,
+        _ => return None,
+    };
+    Some(Case {
+        expected,
+        table,
+        asked,
+    })
+}
+
+/// The call's name, and the rest of its first line with all that follow, or its refusal.
+fn told(case: &Case) -> (&'static str, Result<String, Refusal>) {
+    let (expected, table) = (case.expected, case.table);
+    match &case.asked {
+        Asked::Build { room, slots, list } => {
+            let lines = schedule_lines(expected, table, list, *room, *slots);
+            ("build", lines)
+        }
+        Asked::Run {
+            count,
+            room,
+            state,
+            list,
+        } => {
+            let state = Controller::clone(state);
+            let lines = run_lines(state, expected, table, list, *count, *room);
+            ("run", lines)
+        }
+        Asked::Bound(bi, bc) => {
+            let line = |(edition, cycles)| format!("edition {edition} {cycles}\n");
+            ("bound", bound(expected, table, *bi, *bc).map(line))
+        }
     }
 }
 
@@ -137,7 +195,10 @@ fn run_lines(
         numbers.extend([bank.opened, bank.act, bank.rd, bank.wr]);
     }
     numbers.extend(s.last);
-    numbers.extend([s.rd, s.wr, s.refresh]);
+    for group in &s.groups {
+        numbers.extend([group.act, group.rd, group.wr]);
+    }
+    numbers.push(s.refresh);
     let words: Vec<String> = numbers.iter().map(u32::to_string).collect();
     Ok(out + &words.join(" ") + "\n")
 }
@@ -147,15 +208,15 @@ mod tests {
     use super::*;
     use crate::house::*;
     use crate::records::EDITION;
-    use std::collections::BTreeSet;
+    use std::collections::{BTreeMap, BTreeSet};
 
     /// What the paper prints for example 3, but for the last line, which request 4 gives.
     #[test]
     fn the_listing() {
         let head = [
-            &[BUILD, 7, 0][..],
-            &bytes_of(&TABLE_A),
+            &[BUILD, 7, 0, 32][..],
             &[32, 0, 2, 0, 8, 0],
+            &bytes_of(&TABLE_A),
         ]
         .concat();
         let lists = lines(&[&head[..], &[1, 0, 1, 1, 0, 0, 1, 1]].concat());
@@ -170,25 +231,20 @@ mod tests {
     fn number_10() {
         let input = cases();
         let mut rest = Bytes(&input);
-        let mut told = [0; 4];
-        loop {
-            let mut head = Bytes(rest.0);
-            let answer = match case_lines(&mut rest) {
-                Some((_, answer)) => answer,
-                None => break,
-            };
-            let (call, expected) = (head.u8().unwrap(), head.u16().unwrap());
-            let edition = read_table(head.take(32).unwrap()).map_or(expected, |t| t[EDITION]);
-            let differ = edition != expected;
+        let mut met: BTreeMap<&str, usize> = BTreeMap::new();
+        while let Some(case) = first_case(&mut rest) {
+            let (name, answer) = told(&case);
+            let edition = read_table(case.table).map_or(case.expected, |t| t[EDITION]);
+            let differ = edition != case.expected;
             let refusal = Refusal {
                 number: 10,
                 position: edition.into(),
                 edition,
             };
             assert_eq!(answer == Err(refusal), differ);
-            told[usize::from(call)] += usize::from(differ);
+            *met.entry(name).or_default() += usize::from(differ);
         }
-        assert!(told[1..].iter().all(|&count| count > 10), "{told:?}");
+        assert!(met.len() == 3 && met.values().all(|&n| n > 10), "{met:?}");
     }
 
     /// All banks from every start are served, and a start or a BI one too great is refused, in builds and in runs.
@@ -197,22 +253,14 @@ mod tests {
         let input = cases();
         let mut rest = Bytes(&input);
         let (mut served, mut refused) = (BTreeSet::new(), BTreeSet::new());
-        loop {
-            let mut head = Bytes(rest.0);
-            let answer = match case_lines(&mut rest) {
-                Some((_, answer)) => answer,
-                None => break,
+        while let Some(case) = first_case(&mut rest) {
+            let (name, answer) = told(&case);
+            let list = match case.asked {
+                Asked::Build { list, .. } | Asked::Run { list, .. } => list,
+                Asked::Bound(..) => continue,
             };
-            let (call, _) = (head.u8().unwrap(), head.u16().unwrap());
-            let banks = head.take(32).unwrap()[2];
-            let before_the_list = match call {
-                BUILD => 4,
-                RUN => 256,
-                _ => continue,
-            };
-            head.take(before_the_list).unwrap();
-            let list = head.list().unwrap().chunks_exact(4);
-            let places = list.map(|x| (call, banks, x[1], x[2]));
+            let banks = case.table.get(2).copied().unwrap_or(0);
+            let places = list.chunks_exact(4).map(|x| (name, banks, x[1], x[2]));
             match answer {
                 Ok(_) => served.extend(places),
                 Err(r) if r.number == 4 => refused.extend(places.skip(r.position as usize).take(1)),
@@ -221,27 +269,26 @@ mod tests {
         }
         for banks in [1, 2, 3, 5, 7, 8, 11, 13, 15, 16] {
             for start in 0..banks {
-                assert!(served.contains(&(BUILD, banks, start, banks)));
+                assert!(served.contains(&("build", banks, start, banks)));
             }
-            assert!(refused.contains(&(BUILD, banks, banks, 1)));
-            assert!(refused.contains(&(BUILD, banks, 0, banks + 1)));
+            assert!(refused.contains(&("build", banks, banks, 1)));
+            assert!(refused.contains(&("build", banks, 0, banks + 1)));
         }
-        assert!(served.contains(&(RUN, 8, 3, 8)));
-        assert!(refused.contains(&(RUN, 8, 8, 1)));
-        assert!(refused.contains(&(RUN, 8, 7, 9)));
+        assert!(served.contains(&("run", 8, 3, 8)));
+        assert!(refused.contains(&("run", 8, 8, 1)));
+        assert!(refused.contains(&("run", 8, 7, 9)));
     }
 
-    /// But for number 1: every table has 32 bytes.
     #[test]
     fn every_refusal() {
         let input = cases();
-        assert!(input.len() < 65_536);
+        assert!(input.len() < 131_072);
         let told = lines(&input);
         assert!(told.ends_with("\ncase\n"));
         for (name, numbers) in [
-            ("build", &[2, 3, 4, 5, 6, 10][..]),
-            ("run", &[2, 3, 4, 5, 9, 10]),
-            ("bound", &[2, 4, 10]),
+            ("build", &[1, 2, 3, 4, 5, 6, 10][..]),
+            ("run", &[1, 2, 3, 4, 5, 9, 10]),
+            ("bound", &[1, 2, 4, 10]),
         ] {
             for number in 1..=10 {
                 let start = format!("\n{name} refused {number} at ");

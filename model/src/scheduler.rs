@@ -1,8 +1,10 @@
 //! The two queues, the cycle rule tried against all earlier records, the build and the bound.
 
+#[cfg(test)]
+mod before;
 mod state;
 
-pub use state::{run, Bank, State, NEVER};
+pub use state::{run, Bank, Group, State, NEVER};
 
 use crate::records::*;
 use crate::rules::{first_broken, Record, Times, ACT, RD, RDA, REF, WR, WRA};
@@ -10,7 +12,7 @@ use crate::rules::{first_broken, Record, Times, ACT, RD, RDA, REF, WR, WRA};
 /// "At most 256 transactions."
 pub const MOST_TRANSACTIONS: usize = 256;
 
-fn refused<T>(table: &Table, number: u8, position: u32) -> Result<T, Refusal> {
+fn refused<T>(table: &GroupTable, number: u8, position: u32) -> Result<T, Refusal> {
     Err(Refusal {
         number,
         position,
@@ -19,7 +21,7 @@ fn refused<T>(table: &Table, number: u8, position: u32) -> Result<T, Refusal> {
 }
 
 /// Number 3 of bytes: "not a multiple of 4". What the records hold is not looked at yet.
-pub fn decode(table: &Table, bytes: &[u8]) -> Result<Vec<Transaction>, Refusal> {
+pub fn decode(table: &GroupTable, bytes: &[u8]) -> Result<Vec<Transaction>, Refusal> {
     if bytes.len() % 4 != 0 {
         return refused(table, 3, 0);
     }
@@ -33,7 +35,7 @@ pub fn decode(table: &Table, bytes: &[u8]) -> Result<Vec<Transaction>, Refusal> 
 }
 
 /// Numbers 3 and 4 of a decoded list: "over 256 records", "too few places to decode into", and "a transaction out of range".
-pub fn check_list(table: &Table, list: &[Transaction], places: usize) -> Result<(), Refusal> {
+pub fn check_list(table: &GroupTable, list: &[Transaction], places: usize) -> Result<(), Refusal> {
     if list.len() > MOST_TRANSACTIONS || list.len() > places {
         return refused(table, 3, 0);
     }
@@ -65,7 +67,7 @@ impl Waiting {
 }
 
 /// "The banks are then start, start + 1 and so on, with bank 0 after the last."
-fn banks_of(table: &Table, x: &Transaction) -> impl Iterator<Item = u8> {
+fn banks_of(table: &GroupTable, x: &Transaction) -> impl Iterator<Item = u8> {
     let to_the_last = x.start..table[BANKS] as u8;
     to_the_last.chain(0..x.start).take(x.bi.into())
 }
@@ -78,7 +80,7 @@ struct Queues {
 
 impl Queues {
     /// Of a list that the table accepts.
-    fn of(table: &Table, list: &[Transaction]) -> Queues {
+    fn of(table: &GroupTable, list: &[Transaction]) -> Queues {
         let mut acts = Vec::new();
         let mut datas = Vec::new();
         for (transaction, x) in (0..).zip(list) {
@@ -117,7 +119,7 @@ pub struct Built {
 
 /// Numbers 3 to 6, and then the build. Room in bytes, and the finishing slice's length.
 pub fn build(
-    table: &Table,
+    table: &GroupTable,
     list: &[Transaction],
     room: usize,
     slots: usize,
@@ -150,7 +152,7 @@ pub fn build(
 
 /// From the cycle of its last data command, or of its REF. As request 4 has it, "a read finishes at its last data command + RL + B, a
 /// write as before", at that command itself; and as request 5 has it, "a refresh finishes at its cycle + RFC".
-fn finish(table: &Table, x: &Transaction, last: u32) -> u32 {
+fn finish(table: &GroupTable, x: &Transaction, last: u32) -> u32 {
     let t = Times::of(table);
     let after = match x.kind {
         0 => t.rl + t.b,
@@ -164,7 +166,7 @@ fn finish(table: &Table, x: &Transaction, last: u32) -> u32 {
 }
 
 /// Every cycle from 0 is tried, each head against all records that have gone.
-fn from_fresh_start(table: &Table, queues: &Queues) -> Vec<Command> {
+fn from_fresh_start(table: &GroupTable, queues: &Queues) -> Vec<Command> {
     let mut gone: Vec<Record> = Vec::new();
     let mut commands = Vec::new();
     let (mut acts, mut datas) = (0, 0);
@@ -194,7 +196,7 @@ fn from_fresh_start(table: &Table, queues: &Queues) -> Vec<Command> {
     commands
 }
 
-/// S of the bound. "A REF itself comes within S of where its count starts."
+/// S of the bound, in which "CCD, RRD and WTR are the long ones". "A REF itself comes within S of where its count starts."
 pub fn longest_wait(t: &Times) -> u64 {
     [
         1,
@@ -202,14 +204,15 @@ pub fn longest_wait(t: &Times) -> u64 {
         t.rc.saturating_sub(t.rcd),
         t.rtp + t.rp,
         t.wl + t.b + t.wr + t.rp,
-        t.rrd.saturating_sub(t.rcd),
+        t.long_rrd.saturating_sub(t.rcd),
         t.faw.saturating_sub(t.rcd),
     ]
     .into_iter()
     .fold(0, u64::max)
 }
 
-pub fn bound(table: &Table, bi: u8, bc: u8) -> Result<u64, Refusal> {
+/// "In the bound CCD, RRD and WTR are the long ones", whatever the banks' groups.
+pub fn bound(table: &GroupTable, bi: u8, bc: u8) -> Result<u64, Refusal> {
     let counts = (1..=16).contains(&bi) && (1..=16).contains(&bc);
     if !counts || u16::from(bi) > table[BANKS] {
         return refused(table, 4, 0);
@@ -218,11 +221,11 @@ pub fn bound(table: &Table, bi: u8, bc: u8) -> Result<u64, Refusal> {
     let (bi, bc) = (u64::from(bi), u64::from(bc));
     let n = bi * bc;
     let s = longest_wait(&t);
-    let d = t.rrd.max((t.faw + 3) / 4);
-    let x = t
-        .ccd
-        .max(t.distance(true, false))
-        .max(t.distance(false, true));
-    let banks_opened = (bi - 1) * (d + 1) + (bc - 1) * t.ccd;
-    Ok((x + (n - 1) * t.ccd).max(s + t.rcd + ((n - 1) * t.ccd).max(banks_opened)))
+    let d = t.long_rrd.max((t.faw + 3) / 4);
+    let ccd = t.long_ccd;
+    let x = ccd
+        .max(t.distance(true, true, false))
+        .max(t.distance(true, false, true));
+    let banks_opened = (bi - 1) * (d + 1) + (bc - 1) * ccd;
+    Ok((x + (n - 1) * ccd).max(s + t.rcd + ((n - 1) * ccd).max(banks_opened)))
 }

@@ -5,7 +5,7 @@
 
 use crate::house::*;
 use crate::inputs;
-use crate::records::{Table, BANKS, CCD, EDITION};
+use crate::records::{BANKS, CCD, EDITION};
 use crate::sent::{capture, of_schedule, record, tick_record as tick, with_ticks, Sent, TICK};
 use crate::trace::trace;
 
@@ -37,7 +37,7 @@ fn inputs() -> Vec<Vec<u8>> {
     inputs
 }
 
-fn input(expected: u16, table: &Table, records: &[[u8; 4]]) -> Vec<u8> {
+fn input(expected: u16, table: &[u16], records: &[[u8; 4]]) -> Vec<u8> {
     [
         &expected.to_le_bytes(),
         &bytes_of(table)[..],
@@ -46,7 +46,7 @@ fn input(expected: u16, table: &Table, records: &[[u8; 4]]) -> Vec<u8> {
     .concat()
 }
 
-fn own(table: &Table, records: &[[u8; 4]]) -> Vec<u8> {
+fn own(table: &[u16], records: &[[u8; 4]]) -> Vec<u8> {
     input(table[EDITION], table, records)
 }
 

@@ -1,11 +1,12 @@
 //! The cases of the program `verdicts`, and the line of each.
 //!
-//! A case is `[call][expected: u16][table: 32 bytes][length: u32][n: u16][n bytes]`. Call 1 judges the bytes as a schedule and has no
-//! use for the length, call 2 judges them as a pattern of that length.
+//! A case is `[call][expected: u16][length: u32][t: u8][n: u16][t bytes][n bytes]`. The t bytes are the table. Call 1 judges the n bytes
+//! as a schedule and has no use for the length, call 2 judges them as a pattern of that length.
 
 mod broken;
 mod cases;
 mod editions;
+mod groups;
 mod refreshes;
 mod search;
 
@@ -47,10 +48,11 @@ pub fn lines(input: &[u8]) -> String {
 fn first_case(input: &[u8]) -> Option<(Case<'_>, &[u8])> {
     let (call, rest) = input.split_first()?;
     let (expected, rest) = split(rest, 2)?;
-    let (table, rest) = split(rest, 32)?;
     let (length, rest) = split(rest, 4)?;
+    let (t, rest) = split(rest, 1)?;
     let (n, rest) = split(rest, 2)?;
     let n = u16::from_le_bytes(n.try_into().ok()?);
+    let (table, rest) = split(rest, t[0].into())?;
     let (bytes, after) = split(rest, n.into())?;
     let case = Case {
         call: *call,
@@ -121,7 +123,7 @@ mod tests {
     /// Each case with its line.
     fn all() -> Vec<(u8, usize, String)> {
         let input = cases();
-        assert!(input.len() < 65_536);
+        assert!(input.len() < 131_072);
         let mut all = Vec::new();
         let mut rest = &input[..];
         while let Some((case, after)) = first_case(rest) {

@@ -15,17 +15,17 @@ bytes-times i c h k = mul-le-mul {n₁ = i} {m₁ = c} {n₂ = 255} {m₂ = 255}
 -- the numbers of a table are of 16 bits
 pub record Words (τ : Table) : Type 0 where
   pub b : τ .b ≤ 65535
-  pub ccd : τ .ccd ≤ 65535
+  pub ccdl : τ .ccdl ≤ 65535
   pub rp : τ .rp ≤ 65535
   pub ras : τ .ras ≤ 65535
   pub rc : τ .rc ≤ 65535
-  pub rrd : τ .rrd ≤ 65535
+  pub rrdl : τ .rrdl ≤ 65535
   pub faw : τ .faw ≤ 65535
   pub rl : τ .rl ≤ 65535
   pub wl : τ .wl ≤ 65535
   pub rtp : τ .rtp ≤ 65535
   pub wr : τ .wr ≤ 65535
-  pub wtr : τ .wtr ≤ 65535
+  pub wtrl : τ .wtrl ≤ 65535
 
 module _ (τ : Table) (w : Words τ) where
   pub s-small : boundS τ ≤ 262140

@@ -1,4 +1,5 @@
-// "The bound for (BI, BC), n = BI × BC." Nothing here reaches 2 to the 32, whatever the table's numbers are.
+// "The bound for (BI, BC), n = BI × BC." "In the bound CCD, RRD and WTR are the long ones" (document 02, request 7). Nothing here reaches 2 to the 32,
+// whatever the table's numbers are.
 use records::table::Table;
 use timing::square::greater;
 use timing::square::less;
@@ -25,7 +26,7 @@ pub fn bound_s(t: Table) -> u32
     let rc = less_wide(t.rc, t.rcd);
     let rtp = sum_2(t.rtp, t.rp);
     let wr = sum_4(t.wl, t.b, t.wr, t.rp);
-    let rrd = less_wide(t.rrd, t.rcd);
+    let rrd = less_wide(t.rrdl, t.rcd);
     let faw = less_wide(t.faw, t.rcd);
     greater(
         1,
@@ -40,14 +41,14 @@ pub fn bound_s(t: Table) -> u32
 pub fn bound_d(t: Table) -> u32
     ensures { λ r. ⌜ r ≡ boundD t ⌝ }
 {
-    greater(wide(t.rrd), (wide(t.faw) + 3) / 4)
+    greater(wide(t.rrdl), (wide(t.faw) + 3) / 4)
 }
 
 // "X is the greatest of the three data distances."
 pub fn bound_x(t: Table) -> u32
     ensures { λ r. ⌜ r ≡ boundX t ⌝ }
 {
-    greater(wide(t.ccd), greater(rd_to_wr(t), wr_to_rd(t)))
+    greater(wide(t.ccdl), greater(rd_to_wr(t, true), wr_to_rd(t, true)))
 }
 
 // A count less one, times a distance.
@@ -62,7 +63,7 @@ pub fn spaced(count: u32, distance: u32) -> u32
 pub fn bound_of(t: Table, bi: u8, bc: u8) -> u32
     ensures { λ r. ⌜ r ≡ bound t bi bc ⌝ }
 {
-    let ccd = wide(t.ccd);
+    let ccd = wide(t.ccdl);
     let bursts = spaced(bi as u32 * bc as u32, ccd);
     let acts = spaced(bi as u32, bound_d(t) + 1);
     let last = spaced(bc as u32, ccd);

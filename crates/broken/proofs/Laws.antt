@@ -1,9 +1,12 @@
 -- What the proofs of the leaves cite.
 -- Assumes nothing.
 use Prim.Native.Nat.{ℕ, _≤_, _<_}
-use mathlib.Core.Path.{_≡_, refl}
-use mathlib.Core.Bool.{Bool, true, false, not}
+use mathlib.Core.Path.{_≡_, refl, sym, ap, _∙_}
+use mathlib.Core.Logic.{inl}
+use mathlib.Core.Bool.{Bool, true, false, not, and-true}
 use mathlib.Core.List.{List, [], _∷_}
+use native.Mathlib.Omega.{arith}
+use lib.ListN.{getD}
 use borrow.Author.Tests.{le-leb, lt-leb}
 use Rattle.records.specs.Tests.{pick}
 use Rattle.records.specs.declared.table.Table.{Table}
@@ -11,15 +14,17 @@ use Rattle.records.specs.declared.command.Kind.{Kind}
 use Rattle.records.specs.declared.command.Kind.the-variants.{Act, Rd, Rda, Wr, Wra, Ref, Other}
 use Rattle.rules.specs.declared.state.Stamp.{Stamp}
 use Rattle.rules.specs.declared.state.Bank.{Bank}
+use Rattle.rules.specs.declared.state.Group.{Group}
 use Rattle.rules.specs.declared.state.State.{State}
 use Rattle.rules.specs.declared.verdict.Rule.the-variants.{Range, Order, Opened, Precharge, Rc, Rrd, Faw, Rcd, Distance, Refresh, Rfc}
 use Rattle.rules.specs.declared.verdict.Found.the-variants.{Fine, Broken}
 use Rattle.rules.specs.Kinds.{isAct, isWr, isRef, isKnown, firstBroken, rulesInOrder}
-use Rattle.rules.specs.Square.{square}
-use Rattle.rules.specs.State.{past, isOpen, bankOf, charged, farBy, rule11, actTestsOf, refreshTestsOf, dataTestsOf, testsBy}
+use Rattle.rules.specs.Square.{groupOf, square}
+use Rattle.rules.specs.State.{past, isOpen, bankOf, quiet, charged, actsFar, farBy, dataFar, rule11, actTestsOf, refreshTestsOf, dataTestsOf, testsBy}
 use Rattle.rules.specs.History.{inTable}
 use Rattle.rules.proofs.TestLaws.{true-false}
-use Rattle.broken.specs.ByState.{foundBy, testsOn, foundOn, foundRef}
+use Rattle.timing.proofs.Grouped.{acts-first, data-first}
+use Rattle.broken.specs.ByState.{foundBy, groupsFar, ownFar, testsOn, foundOn, foundRef}
 
 -- the rules that an ACT, a REF, and a data command, can break, one after the other
 act-tests : (a b c d e f : Bool)
@@ -46,10 +51,10 @@ data-tests true false c = refl
 data-tests true true false = refl
 data-tests true true true = refl
 
-pub act-order : (τ : Table) (k : Bank) (a1 a4 : Stamp) (keeps12 : Bool) (t : ℕ)
-    → pick (not (isOpen k)) (pick (charged τ k t) (pick (past (k .act) (τ .rc) t) (pick (past a1 (τ .rrd) t) (pick (past a4 (τ .faw) t) (pick keeps12 Fine (Broken Rfc)) (Broken Faw)) (Broken Rrd)) (Broken Rc)) (Broken Precharge)) (Broken Opened)
-    ≡ firstBroken (true ∷ true ∷ actTestsOf τ k (past a1 (τ .rrd) t) (past a4 (τ .faw) t) keeps12 t) rulesInOrder
-act-order τ k a1 a4 keeps12 t = act-tests (not (isOpen k)) (charged τ k t) (past (k .act) (τ .rc) t) (past a1 (τ .rrd) t) (past a4 (τ .faw) t) keeps12
+pub act-order : (τ : Table) (k : Bank) (keeps6 : Bool) (a4 : Stamp) (keeps12 : Bool) (t : ℕ)
+    → pick (not (isOpen k)) (pick (charged τ k t) (pick (past (k .act) (τ .rc) t) (pick keeps6 (pick (past a4 (τ .faw) t) (pick keeps12 Fine (Broken Rfc)) (Broken Faw)) (Broken Rrd)) (Broken Rc)) (Broken Precharge)) (Broken Opened)
+    ≡ firstBroken (true ∷ true ∷ actTestsOf τ k keeps6 (past a4 (τ .faw) t) keeps12 t) rulesInOrder
+act-order τ k keeps6 a4 keeps12 t = act-tests (not (isOpen k)) (charged τ k t) (past (k .act) (τ .rc) t) keeps6 (past a4 (τ .faw) t) keeps12
 
 pub data-order : (τ : Table) (k : Bank) (keeps9 : Bool) (t : ℕ)
     → pick (isOpen k) (pick (past (k .act) (τ .rcd) t) (pick keeps9 Fine (Broken Distance)) (Broken Rcd)) (Broken Opened)
@@ -57,16 +62,19 @@ pub data-order : (τ : Table) (k : Bank) (keeps9 : Bool) (t : ℕ)
 data-order τ k keeps9 t = data-tests (isOpen k) (past (k .act) (τ .rcd) t) keeps9
 
 -- the rules of a record that is no REF, in the order in which the code comes to them
-module _ (τ : Table) (cycle : ℕ) (k : Bank) (a1 a4 rd wr refresh : Stamp) (kind : Kind) (t : ℕ) where
-  pub found-order : t < cycle → Broken Order ≡ foundOn τ cycle k a1 a4 rd wr refresh kind t
+module _ (τ : Table) (cycle : ℕ) (k : Bank) (far : Bool) (a4 : Stamp) (refresh : Stamp) (kind : Kind) (t : ℕ) where
+  pub found-order : t < cycle → Broken Order ≡ foundOn τ cycle k far a4 refresh kind t
   unfolding foundOn
   found-order l = rw (lt-leb cycle t l)
 
-  told : cycle ≤ t → (ts : List Bool) → ts ≡ testsOn τ k a1 a4 rd wr refresh kind t → firstBroken (true ∷ true ∷ ts) rulesInOrder ≡ foundOn τ cycle k a1 a4 rd wr refresh kind t
+  told : cycle ≤ t → (ts : List Bool) → ts ≡ testsOn τ k far a4 refresh kind t → firstBroken (true ∷ true ∷ ts) rulesInOrder ≡ foundOn τ cycle k far a4 refresh kind t
   unfolding foundOn
   told l ts u = rw (le-leb cycle t l, u)
 
-  act-told : (x : Kind) → isAct x ≡ true → actTestsOf τ k (past a1 (τ .rrd) t) (past a4 (τ .faw) t) (past refresh (τ .rfc) t) t ≡ testsOn τ k a1 a4 rd wr refresh x t
+  abbrev act-list : Bool → List Bool
+  act-list keeps6 = actTestsOf τ k keeps6 (past a4 (τ .faw) t) (past refresh (τ .rfc) t) t
+
+  act-told : (x : Kind) → isAct x ≡ true → act-list far ≡ testsOn τ k far a4 refresh x t
   act-told Act a = refl
   act-told Rd a = true-false false a refl
   act-told Rda a = true-false false a refl
@@ -75,7 +83,7 @@ module _ (τ : Table) (cycle : ℕ) (k : Bank) (a1 a4 rd wr refresh : Stamp) (ki
   act-told Ref a = true-false false a refl
   act-told (Other n) a = true-false false a refl
 
-  data-told : (x : Kind) → isKnown x ≡ true → isAct x ≡ false → isRef x ≡ false → dataTestsOf τ k (farBy (square τ) rd wr (isWr x) t) t ≡ testsOn τ k a1 a4 rd wr refresh x t
+  data-told : (x : Kind) → isKnown x ≡ true → isAct x ≡ false → isRef x ≡ false → dataTestsOf τ k far t ≡ testsOn τ k far a4 refresh x t
   data-told Act n a f = true-false true refl a
   data-told Rd n a f = refl
   data-told Rda n a f = refl
@@ -84,13 +92,12 @@ module _ (τ : Table) (cycle : ℕ) (k : Bank) (a1 a4 rd wr refresh : Stamp) (ki
   data-told Ref n a f = true-false true refl f
   data-told (Other m) n a f = true-false false n refl
 
-  pub found-act : cycle ≤ t → isAct kind ≡ true
-      → firstBroken (true ∷ true ∷ actTestsOf τ k (past a1 (τ .rrd) t) (past a4 (τ .faw) t) (past refresh (τ .rfc) t) t) rulesInOrder ≡ foundOn τ cycle k a1 a4 rd wr refresh kind t
-  found-act l a = told l (actTestsOf τ k (past a1 (τ .rrd) t) (past a4 (τ .faw) t) (past refresh (τ .rfc) t) t) (act-told kind a)
+  pub found-act : cycle ≤ t → isAct kind ≡ true → (keeps6 : Bool) → keeps6 ≡ far → firstBroken (true ∷ true ∷ act-list keeps6) rulesInOrder ≡ foundOn τ cycle k far a4 refresh kind t
+  found-act l a keeps6 e = told l (act-list keeps6) (ap act-list e ∙ act-told kind a)
 
-  pub found-data : cycle ≤ t → isKnown kind ≡ true → isAct kind ≡ false → isRef kind ≡ false → (q : List (List ℕ)) → q ≡ square τ → (keeps9 : Bool) → keeps9 ≡ farBy q rd wr (isWr kind) t
-      → firstBroken (true ∷ true ∷ dataTestsOf τ k keeps9 t) rulesInOrder ≡ foundOn τ cycle k a1 a4 rd wr refresh kind t
-  found-data l n a f q eq keeps9 e9 = told l (dataTestsOf τ k keeps9 t) (rw (e9, eq) (data-told kind n a f))
+  pub found-data : cycle ≤ t → isKnown kind ≡ true → isAct kind ≡ false → isRef kind ≡ false → (keeps9 : Bool) → keeps9 ≡ far
+      → firstBroken (true ∷ true ∷ dataTestsOf τ k keeps9 t) rulesInOrder ≡ foundOn τ cycle k far a4 refresh kind t
+  found-data l n a f keeps9 e = told l (dataTestsOf τ k keeps9 t) (ap (λ (b : Bool). dataTestsOf τ k b t) e ∙ data-told kind n a f)
 
 -- and of a REF
 module _ (τ : Table) (cycle : ℕ) (rests : Bool) (refresh : Stamp) (t : ℕ) where
@@ -105,13 +112,37 @@ module _ (τ : Table) (cycle : ℕ) (rests : Bool) (refresh : Stamp) (t : ℕ) w
       on : (ts : List Bool) → ts ≡ refreshTestsOf rests (past refresh (τ .rfc) t) → firstBroken (true ∷ true ∷ ts) rulesInOrder ≡ foundRef τ cycle rests refresh t
       on ts u = rw (le-leb cycle t l, u)
 
--- the same of a whole state
+-- rules 6 and 9 over the groups, by the kind
+module _ (τ : Table) (gs : List Group) (own : ℕ) (k : Kind) (t : ℕ) where
+  pub far-act : isAct k ≡ true → actsFar τ gs own t ≡ groupsFar τ gs own k t
+  far-act e = rw e
+
+  pub far-data : isAct k ≡ false → (w : Bool) → w ≡ isWr k → dataFar τ gs own w t ≡ groupsFar τ gs own k t
+  far-data e w f = rw (e, f)
+
+-- by one group
+module _ (τ : Table) (own : Group) (k : Kind) (t : ℕ) where
+  pub own-act : isAct k ≡ true → past (own .act) (τ .rrdl) t ≡ ownFar τ own k t
+  own-act e = rw e
+
+  pub own-data : isAct k ≡ false → (q : List (List ℕ)) → q ≡ square τ true → farBy q (own .rd) (own .wr) (isWr k) t ≡ ownFar τ own k t
+  own-data e q f = rw (e, f)
+
+-- one group is all groups, where the table has one
+pub one-far : (τ : Table) → τ .groups ≡ 1 → (gs : List Group) (k : Kind) (t : ℕ) → ownFar τ (getD gs 0 quiet) k t ≡ groupsFar τ gs 0 k t
+one-far τ one gs k t =
+    let l : 0 < τ .groups = omega arith in
+    ap (λ (b : Bool). pick (isAct k) b (farBy (square τ true) (getD gs 0 quiet .rd) (getD gs 0 quiet .wr) (isWr k) t))
+    (sym (and-true _) ∙ acts-first τ gs 0 t l true (inl (one, refl)))
+    ∙ ap (λ (b : Bool). pick (isAct k) (actsFar τ gs 0 t) b) (sym (and-true _) ∙ data-first τ gs 0 t l true (isWr k) (inl (one, refl)))
+
+-- the rules of a record, of a whole state
 module _ (τ : Table) (s : State) (k : Kind) (t b : ℕ) where
   pub found-range : inTable τ k b ≡ false → Broken Range ≡ foundBy τ s k t b
   unfolding foundBy
   found-range e = rw e
 
-  parts : (x : Kind) → isRef x ≡ false → testsOn τ (bankOf s b) (s .a1) (s .a4) (s .rd) (s .wr) (s .refresh) x t ≡ testsBy τ s x t b
+  parts : (x : Kind) → isRef x ≡ false → testsOn τ (bankOf s b) (groupsFar τ (s .groups) (groupOf τ b) x t) (s .a4) (s .refresh) x t ≡ testsBy τ s x t b
   parts Act f = refl
   parts Rd f = refl
   parts Rda f = refl
@@ -120,9 +151,10 @@ module _ (τ : Table) (s : State) (k : Kind) (t b : ℕ) where
   parts Ref f = true-false true refl f
   parts (Other n) f = refl
 
-  pub found-parts : inTable τ k b ≡ true → isRef k ≡ false → foundOn τ (s .cycle) (bankOf s b) (s .a1) (s .a4) (s .rd) (s .wr) (s .refresh) k t ≡ foundBy τ s k t b
+  pub found-parts : inTable τ k b ≡ true → isRef k ≡ false → (far : Bool) → far ≡ groupsFar τ (s .groups) (groupOf τ b) k t
+      → foundOn τ (s .cycle) (bankOf s b) far (s .a4) (s .refresh) k t ≡ foundBy τ s k t b
   unfolding foundBy foundOn
-  found-parts e f = rw (e, parts k f)
+  found-parts e f far p = rw (e, p, parts k f)
 
   ref-parts : (x : Kind) → isRef x ≡ true → refreshTestsOf (rule11 τ s t) (past (s .refresh) (τ .rfc) t) ≡ testsBy τ s x t b
   ref-parts Act f = true-false false f refl

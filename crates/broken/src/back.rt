@@ -1,4 +1,4 @@
-// Rule 9 by the latest RD and the latest WR before a record alone.
+// Rule 9 by the latest RD and WR of a group alone.
 use records::command::Kind;
 use timing::kept::kept_far;
 use timing::kinds::is_wr;
@@ -7,8 +7,9 @@ ghost use Rattle.rules.specs.Kinds.{isWr};
 ghost use Rattle.rules.specs.State.{farBy};
 ghost use Rattle.timing.specs.Kept.{stampOf};
 
-// A data command of a kind at cycle c is no nearer to the latest RD and to the latest WR than their distance. Cycles ascend and a distance
-// hangs on the two kinds alone: of all earlier reads the latest decides, and likewise of all earlier writes. The law is `newest-data` (`rules`).
+// A data command of a kind at cycle c is no nearer to a group's latest RD and to its latest WR than their distance. Cycles ascend and a distance
+// hangs on the two kinds and on whether the groups are one: of a group's earlier reads the latest decides, and likewise of its earlier writes.
+// The law is `groups-data` (`rules`).
 pub fn keeps_distance(q: [[u32; 2]; 2], rd: u64, wr: u64, kind: Kind, c: u64) -> bool
     ensures { λ r. ⌜ r ≡ farBy q (stampOf rd) (stampOf wr) (isWr kind) c ⌝ }
 {

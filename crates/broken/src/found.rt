@@ -1,5 +1,4 @@
 // The first rule that a record breaks, by the state.
-use crate::back::keeps_distance;
 use records::command::Kind;
 use records::table::Table;
 use records::tests::both_of;
@@ -11,21 +10,19 @@ use timing::kept::KeptBank;
 use timing::kept::kept_charged;
 use timing::kept::kept_open;
 use timing::kept::since;
-use timing::kinds::is_act;
 use timing::kinds::is_known;
 use timing::kinds::is_ref;
 use timing::square::wide;
 ghost use mathlib.Core.Path.{_≡_};
-ghost use mathlib.Core.Bool.{true, false, not, _&&_, _||_};
+ghost use mathlib.Core.Bool.{true, not, _&&_, _||_};
 ghost use mathlib.Core.List.{_∷_};
 ghost use lib.Dec.{ltb, eqb};
 ghost use Rattle.records.specs.Tests.{pick};
 ghost use Rattle.rules.specs.declared.verdict.Found.the-variants.{Broken};
 ghost use Rattle.rules.specs.Kinds.{isRef, isKnown, firstBroken, rulesInOrder};
-ghost use Rattle.rules.specs.Square.{square};
 ghost use Rattle.rules.specs.State.{past, actTestsOf, refreshTestsOf, dataTestsOf};
 ghost use Rattle.timing.specs.Kept.{stampOf, toldBank};
-ghost use Rattle.broken.specs.ByState.{foundOn, foundRef};
+ghost use Rattle.broken.specs.ByState.{foundRef};
 
 // Rule 1. It "admits kind 5 with bank 0 only" (document 02, request 5).
 pub fn in_table(kind: Kind, bank: u8, banks: u16) -> bool
@@ -43,13 +40,13 @@ pub fn unless(keeps: bool, rule: Rule, rest: Found) -> Found
     if keeps { rest } else { Found::Broken(rule) }
 }
 
-// Rules 3 to 12 of an ACT to bank k at cycle c; a1 and a4 are the newest and the fourth ACT before it, `refresh` is the last REF.
-pub fn act_found(t: Table, k: KeptBank, a1: u64, a4: u64, refresh: u64, c: u64) -> Found
-    ensures { λ r. ⌜ r ≡ firstBroken (true ∷ true ∷ actTestsOf t (toldBank k) (past (stampOf a1) (t .rrd) c) (past (stampOf a4) (t .faw) c) (past (stampOf refresh) (t .rfc) c) c) rulesInOrder ⌝ }
+// Rules 3 to 12 of an ACT to bank k at cycle c, where rule 6 is told; a4 is the fourth ACT before it and `refresh` the last REF.
+pub fn act_found(t: Table, k: KeptBank, keeps6: bool, a4: u64, refresh: u64, c: u64) -> Found
+    ensures { λ r. ⌜ r ≡ firstBroken (true ∷ true ∷ actTestsOf t (toldBank k) keeps6 (past (stampOf a4) (t .faw) c) (past (stampOf refresh) (t .rfc) c) c) rulesInOrder ⌝ }
 {
     let from12 = unless(since(refresh, wide(t.rfc), c), Rule::Rfc, Found::Fine);
     let from7 = unless(since(a4, wide(t.faw), c), Rule::Faw, from12);
-    let from6 = unless(since(a1, wide(t.rrd), c), Rule::Rrd, from7);
+    let from6 = unless(keeps6, Rule::Rrd, from7);
     let from5 = unless(since(k.act, wide(t.rc), c), Rule::Rc, from6);
     let from4 = unless(kept_charged(t, k, c), Rule::Precharge, from5);
     unless(not_of(kept_open(k)), Rule::Opened, from4)
@@ -63,39 +60,13 @@ pub fn refresh_found(keeps11: bool, keeps12: bool) -> Found
     unless(keeps11, Rule::Refresh, from12)
 }
 
-// Rules 3 to 9 of a data command to bank k at cycle c.
+// Rules 3 to 9 of a data command to bank k at cycle c, where rule 9 is told.
 pub fn data_found(t: Table, k: KeptBank, keeps9: bool, c: u64) -> Found
     ensures { λ r. ⌜ r ≡ firstBroken (true ∷ true ∷ dataTestsOf t (toldBank k) keeps9 c) rulesInOrder ⌝ }
 {
     let from9 = unless(keeps9, Rule::Distance, Found::Fine);
     let from8 = unless(since(k.act, wide(t.rcd), c), Rule::Rcd, from9);
     unless(kept_open(k), Rule::Opened, from8)
-}
-
-// Rules 2 to 12 of a record that keeps rule 1 and is no REF, to bank k at cycle c; `cycle` is the first that rule 2 lets it have.
-pub fn found_on(
-    t: Table,
-    q: [[u32; 2]; 2],
-    cycle: u64,
-    k: KeptBank,
-    a1: u64,
-    a4: u64,
-    rd: u64,
-    wr: u64,
-    refresh: u64,
-    kind: Kind,
-    c: u64,
-) -> Found
-    requires { ⌜ (q ≡ square t) × (isKnown kind ≡ true) × (isRef kind ≡ false) ⌝ }
-    ensures { λ r. ⌜ r ≡ foundOn t cycle (toldBank k) (stampOf a1) (stampOf a4) (stampOf rd) (stampOf wr) (stampOf refresh) kind c ⌝ }
-{
-    if c < cycle {
-        return Found::Broken(Rule::Order);
-    }
-    if is_act(kind) {
-        return act_found(t, k, a1, a4, refresh, c);
-    }
-    data_found(t, k, keeps_distance(q, rd, wr, kind, c), c)
 }
 
 // Rules 2, 11 and 12 of a REF that keeps rule 1, at cycle c. Rule 11 goes over the banks; it is told, in `rests`.

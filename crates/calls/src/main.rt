@@ -13,10 +13,12 @@ use captured::captures;
 use lent::lent_read;
 use lent_host::host_read;
 use one_record::command_written;
+use one_record::group_table_written;
 use one_record::records_read;
 use one_record::table_written;
 use one_record::transaction_written;
 use records::house::table_a;
+use records::house::table_d;
 use records::house::table_t;
 use records::transaction::Transaction;
 use whole::bounded;
@@ -116,6 +118,41 @@ fn main() {
         &[0, 0, 1, 1, 2, 0, 0, 1],
         5,
     );
+    // Four groups: a write and a read of one group, and a read of two others
+    group_case(
+        table_d(),
+        [of(1, 0, 1, 1), of(0, 4, 1, 1), of(0, 1, 2, 2)],
+        &[0, 3, 1, 2, 1, 7, 2, 1],
+        60,
+    );
+    // A long RRD below the short one
+    group_case(
+        [
+            7,
+            8,
+            4,
+            4,
+            10,
+            10,
+            28,
+            38,
+            6,
+            32,
+            10,
+            8,
+            6,
+            12,
+            6,
+            0,
+            4,
+            9,
+            5,
+            13,
+        ],
+        [of(0, 0, 1, 1), of(0, 0, 1, 1), of(0, 0, 1, 1)],
+        &[],
+        5,
+    );
     // Captures that go round the wrap, with a tick: accepted, and with the RDA too early; a gap of 65,536
     capture(&[250, 255, 0, 0, 255, 255, 255, 0, 4, 0, 2, 0]);
     capture(&[250, 255, 0, 0, 255, 255, 255, 0, 3, 0, 2, 0]);
@@ -159,10 +196,29 @@ fn case(
     bytes: &[u8],
     count: u32,
 ) {
-    let x = list[0];
     let mut t = [0u8; 32];
     let table = &mut t[..];
     table_written(n, table);
+    all_calls(started_as, expected, table, list, bytes, count);
+}
+
+// A table of twenty numbers, of edition 7.
+fn group_case(n: [u16; 20], list: [Transaction; 3], bytes: &[u8], count: u32) {
+    let mut t = [0u8; 40];
+    let table = &mut t[..];
+    group_table_written(n, table);
+    all_calls(7, 7, table, list, bytes, count);
+}
+
+fn all_calls(
+    started_as: u16,
+    expected: u16,
+    table: &[u8],
+    list: [Transaction; 3],
+    bytes: &[u8],
+    count: u32,
+) {
+    let x = list[0];
     records_read(table, bytes);
     transaction_written(x);
     command_written(count, x);

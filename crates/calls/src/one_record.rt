@@ -4,11 +4,13 @@ use crate::told::number;
 use crate::told::numbers;
 use crate::told::small;
 use crate::told::text;
+use host::one_record::GroupNumbers;
 use host::one_record::Numbers;
 use host::one_record::skv_read_command;
 use host::one_record::skv_read_table;
 use host::one_record::skv_read_transaction;
 use host::one_record::skv_write_command;
+use host::one_record::skv_write_group_table;
 use host::one_record::skv_write_table;
 use host::one_record::skv_write_transaction;
 use host::reader::CommandAnswer;
@@ -19,6 +21,12 @@ use records::transaction::Transaction;
 pub(crate) fn table_written(n: [u16; 16], table: &mut [u8]) {
     text(b"skv_write_table");
     numbers(skv_write_table(Numbers { numbers: n }, table));
+    hex(table);
+}
+
+pub(crate) fn group_table_written(n: [u16; 20], table: &mut [u8]) {
+    text(b"skv_write_group_table");
+    numbers(skv_write_group_table(GroupNumbers { numbers: n }, table));
     hex(table);
 }
 
@@ -34,13 +42,13 @@ fn table_read(a: TableAnswer) {
     number(a.position);
     number(a.edition);
     let n = a.numbers;
-    sixteen(n);
+    twenty(n);
     text(b"\n");
 }
 
-fn sixteen(n: [u16; 16]) {
+fn twenty(n: [u16; 20]) {
     let mut k: usize = 0;
-    while k < 16 {
+    while k < 20 {
         small(n[k]);
         k += 1;
     }

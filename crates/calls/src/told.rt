@@ -2,6 +2,7 @@
 use builder::build::BuildAnswer;
 use controller::controller::Controller;
 use controller::controller::HostBank;
+use controller::controller::HostGroup;
 use controller::run::RunAnswer;
 use controller::run::RunTold;
 use desk::running::StartAnswer;
@@ -111,6 +112,7 @@ fn refused(r: Refusal) {
 
 pub(crate) fn controller(c: Controller) {
     let banks = c.banks;
+    let groups = c.groups;
     text(b" ,");
     number(c.edition);
     number(c.cycle);
@@ -122,8 +124,8 @@ pub(crate) fn controller(c: Controller) {
     number(c.last[1]);
     number(c.last[2]);
     number(c.last[3]);
-    number(c.rd);
-    number(c.wr);
+    all_groups(groups);
+    text(b" ,");
     number(c.refresh);
 }
 
@@ -141,6 +143,21 @@ fn one_bank(bank: HostBank) {
     number(bank.act);
     number(bank.rd);
     number(bank.wr);
+}
+
+fn all_groups(groups: [HostGroup; 8]) {
+    let mut k: usize = 0;
+    while k < 8 {
+        one_group(groups[k]);
+        k += 1;
+    }
+}
+
+fn one_group(group: HostGroup) {
+    text(b" ,");
+    number(group.act);
+    number(group.rd);
+    number(group.wr);
 }
 
 // A buffer, and the line's end.

@@ -5,12 +5,12 @@ use crate::write::write_commands;
 use judge::schedule::verdict_on;
 use records::refusal::refuse;
 use records::table::Table;
-ghost use Prim.Native.Nat.{_≤_};
+ghost use Rattle.rules.specs.State.{Held};
 ghost use Rattle.capture.specs.Answer.{captured, LeavesCapture};
 
 // The table is accepted. Numbers 7, 11, 5; then the commands are written and judged.
 pub fn judge_capture(t: Table, capture: &[u8], commands: &mut [u8]) -> CaptureJudged
-    requires { ⌜ t .banks ≤ 16 ⌝ }
+    requires { ⌜ Held t ⌝ }
     ensures { λ r. ⌜ LeavesCapture (captured t (now (capture .entry)) (now (commands .entry))) r (now (commands .exit)) ⌝ }
 {
     let z = check_capture(capture, commands.len());

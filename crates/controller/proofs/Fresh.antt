@@ -34,7 +34,7 @@ use Rattle.controller.proofs.Halves.{ran}
 pub fresh-ranged : (τ : Table) → Ranged (freshController τ)
 unfolding kept
 fresh-ranged τ =
-    record { cycle = omega arith; banks = refl; places = refl; four = refl; last = refl; rd = omega arith; wr = omega arith; refresh = omega arith }
+    record { cycle = omega arith; banks = refl; places = refl; four = refl; last = refl; groups = refl; groupPlaces = refl; refresh = omega arith }
 
 pub fresh-told : (τ : Table) → tells (freshController τ) ≡ fresh τ
 unfolding tells kept
@@ -47,10 +47,10 @@ fresh-fine τ l = rw (fresh-told τ) (fresh-sound τ l)
 -- a run that is not stopped takes all its cycles
 run-full : (n : ℕ) (τ : Table) (l : List Transaction) (s : State) (h : List Command) → stops τ l (run n τ l s h .state) ≡ false → run n τ l s h .cycles ≡ n
 run-full zero τ l s h e = refl
-run-full (suc n) τ l s h e = on (stops τ l s) refl (run-full n τ l (after s (goes τ l s)) (push (goes τ l s) h))
+run-full (suc n) τ l s h e = on (stops τ l s) refl (run-full n τ l (after τ s (goes τ l s)) (push (goes τ l s) h))
   where
     next : RanTo
-    next = run n τ l (after s (goes τ l s)) (push (goes τ l s) h)
+    next = run n τ l (after τ s (goes τ l s)) (push (goes τ l s) h)
 
     on : (b : Bool) → stops τ l s ≡ b → (stops τ l (next .state) ≡ false → next .cycles ≡ n) → run (suc n) τ l s h .cycles ≡ suc n
     on true t ih = true-false (stops τ l s) t (subst (λ (r : RanTo). stops τ l (r .state) ≡ false) (stopped (suc n) τ l s h t) e)

@@ -19,7 +19,7 @@ use Rattle.rules.specs.State.{after}
 use Rattle.rules.specs.CycleRule.{goes}
 use Rattle.rules.specs.Run.{served, stops, Ran as RanTo, run}
 use Rattle.rules.proofs.TestLaws.{on-map}
-use Rattle.rules.proofs.Caps.{after-size}
+use Rattle.rules.proofs.Caps.{after-size, after-groups}
 use Rattle.rules.proofs.RunTo.{n-then-m}
 use Rattle.controller.specs.declared.controller.Controller.{Controller}
 use Rattle.controller.specs.declared.run.RunReport.{RunReport}
@@ -42,13 +42,14 @@ module _ (τ : Table) (l : List Transaction) where
   pub run-held : (n : ℕ) (s : State) (h : List Command) → Held s → Held (run n τ l s h .state)
   run-held n s h q = run-keeps τ l Held step n s h q
     where
-      step : (s : State) → stops τ l s ≡ false → Held s → Held (after s (goes τ l s))
+      step : (s : State) → stops τ l s ≡ false → Held s → Held (after τ s (goes τ l s))
       step s e q =
           let b : s .cycle < 100000000 = not-over (served τ l s) (s .cycle) e in
           record {
             cycle = omega (arith, next-cycle τ l s (goes τ l s) (goes-now τ l s));
-            places = after-size s (goes τ l s) ∙ q .places;
-            stored = stored-after 4294967295 16 s (goes τ l s)
+            places = after-size τ s (goes τ l s) ∙ q .places;
+            groupPlaces = after-groups τ s (goes τ l s) ∙ q .groupPlaces;
+            stored = stored-after τ 4294967295 16 8 s (goes τ l s)
                 (on-map {P = λ c. c .cycle ≡ s .cycle} {Q = λ c. c .cycle < 4294967295} (goes τ l s) (λ c z. omega arith) (goes-now τ l s)) (q .stored);
           }
 

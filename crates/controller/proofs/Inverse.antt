@@ -14,12 +14,14 @@ use Rattle.records.specs.Tests.{pick, every}
 use Rattle.rules.specs.declared.state.Stamp.{Stamp}
 use Rattle.rules.specs.declared.state.Stamp.the-variants.{Never, At}
 use Rattle.rules.specs.declared.state.Bank.{Bank}
+use Rattle.rules.specs.declared.state.Group.{Group}
 use Rattle.rules.specs.declared.state.State.{State}
 use Rattle.rules.proofs.TestLaws.{and-fst, and-snd, OnSome, every-at}
 use Rattle.controller.specs.declared.controller.HostBank.{HostBank}
+use Rattle.controller.specs.declared.controller.HostGroup.{HostGroup}
 use Rattle.controller.specs.declared.controller.Controller.{Controller}
-use Rattle.controller.specs.Controller.{stampOf, numberOf, bankTells, bankKept, tells, kept, in32, Ranged}
-use Rattle.refusals.specs.Refused.{before, bankStamps, lastStamps, bankBefore}
+use Rattle.controller.specs.Controller.{stampOf, numberOf, bankTells, bankKept, groupTells, groupKept, tells, kept, in32, Ranged}
+use Rattle.refusals.specs.Refused.{before, bankStamps, groupStamps, lastStamps, bankBefore, groupBefore}
 use Rattle.refusals.proofs.StoredKept.{Stored}
 
 -- ---- from the controller: every number is as it was
@@ -45,6 +47,20 @@ banks-back (k ∷ ks) h =
       banks-back ks (and-snd (every in32 (numbers k)) (every (λ k. every in32 (numbers k)) ks) h),
     )
 
+abbrev groupNumbers : HostGroup → List ℕ
+groupNumbers k = k .act ∷ k .rd ∷ k .wr ∷ []
+
+pub groups-back : (ks : List HostGroup) → every (λ k. every in32 (groupNumbers k)) ks ≡ true → map groupKept (map groupTells ks) ≡ ks
+groups-back [] h = refl
+groups-back (k ∷ ks) h =
+    let e = and-fst (every in32 (groupNumbers k)) (every (λ k. every in32 (groupNumbers k)) ks) h in
+    rw (
+      number-stamp (k .act) (every-at in32 (groupNumbers k) 0 e),
+      number-stamp (k .rd) (every-at in32 (groupNumbers k) 1 e),
+      number-stamp (k .wr) (every-at in32 (groupNumbers k) 2 e),
+      groups-back ks (and-snd (every in32 (groupNumbers k)) (every (λ k. every in32 (groupNumbers k)) ks) h),
+    )
+
 four-back : (l : List ℕ) → length l ≡ 4 → every in32 l ≡ true
     → numberOf (stampOf (getD l 0 0)) ∷ numberOf (stampOf (getD l 1 0)) ∷ numberOf (stampOf (getD l 2 0)) ∷ numberOf (stampOf (getD l 3 0)) ∷ [] ≡ l
 four-back (a ∷ b ∷ c ∷ d ∷ []) e h =
@@ -67,8 +83,7 @@ kept-tells c h =
       min-eq-left (h .cycle),
       banks-back (c .banks) (h .banks),
       four-back (c .last) (h .four) (h .last),
-      number-stamp (c .rd) (le-leb (c .rd) 4294967295 (h .rd)),
-      number-stamp (c .wr) (le-leb (c .wr) 4294967295 (h .wr)),
+      groups-back (c .groups) (h .groups),
       number-stamp (c .refresh) (le-leb (c .refresh) 4294967295 (h .refresh)),
     )
 
@@ -92,11 +107,23 @@ banks-there (k ∷ ks) h =
       banks-there ks (and-snd (bankBefore 4294967295 k) (every (bankBefore 4294967295) ks) h),
     )
 
+groups-there : (ks : List Group) → every (groupBefore 4294967295) ks ≡ true → map groupTells (map groupKept ks) ≡ ks
+groups-there [] h = refl
+groups-there (k ∷ ks) h =
+    let e = and-fst (groupBefore 4294967295 k) (every (groupBefore 4294967295) ks) h in
+    rw (
+      stamp-number (k .act) (every-at (before 4294967295) (groupStamps k) 0 e),
+      stamp-number (k .rd) (every-at (before 4294967295) (groupStamps k) 1 e),
+      stamp-number (k .wr) (every-at (before 4294967295) (groupStamps k) 2 e),
+      groups-there ks (and-snd (groupBefore 4294967295 k) (every (groupBefore 4294967295) ks) h),
+    )
+
 -- a state that 32 bits hold
 pub record Held (s : State) : Type 0 where
   pub cycle : s .cycle ≤ 4294967295
   pub places : length (s .banks) ≡ 16
-  pub stored : Stored 4294967295 16 s
+  pub groupPlaces : length (s .groups) ≡ 8
+  pub stored : Stored 4294967295 16 8 s
 
 pub tells-kept : (s : State) → Held s → tells (kept s) ≡ s
 unfolding tells kept
@@ -104,13 +131,12 @@ tells-kept s h =
     rw (
       min-eq-left (h .cycle),
       banks-there (s .banks) (rw (take-all 16 (s .banks) (omega (arith, h .places))) at (h .stored .banks)),
+      groups-there (s .groups) (rw (take-all 8 (s .groups) (omega (arith, h .groupPlaces))) at (h .stored .groups)),
       stamp-number (s .a1) (at 0),
       stamp-number (s .a2) (at 1),
       stamp-number (s .a3) (at 2),
       stamp-number (s .a4) (at 3),
-      stamp-number (s .rd) (at 4),
-      stamp-number (s .wr) (at 5),
-      stamp-number (s .refresh) (at 6),
+      stamp-number (s .refresh) (at 4),
     )
   where
     at : (i : ℕ) → OnSome (λ x. before 4294967295 x ≡ true) (getElem? (lastStamps s) i)
@@ -138,6 +164,16 @@ banks-told (k ∷ ks) h =
       stamp-before (k .wr) (every-at in32 (numbers k) 2 e),
     ) (banks-told ks (and-snd (every in32 (numbers k)) (every (λ k. every in32 (numbers k)) ks) h))
 
+groups-told : (ks : List HostGroup) → every (λ k. every in32 (groupNumbers k)) ks ≡ true → every (groupBefore 4294967295) (map groupTells ks) ≡ true
+groups-told [] h = refl
+groups-told (k ∷ ks) h =
+    let e = and-fst (every in32 (groupNumbers k)) (every (λ k. every in32 (groupNumbers k)) ks) h in
+    rw (
+      stamp-before (k .act) (every-at in32 (groupNumbers k) 0 e),
+      stamp-before (k .rd) (every-at in32 (groupNumbers k) 1 e),
+      stamp-before (k .wr) (every-at in32 (groupNumbers k) 2 e),
+    ) (groups-told ks (and-snd (every in32 (groupNumbers k)) (every (λ k. every in32 (groupNumbers k)) ks) h))
+
 number-at : (l : List ℕ) (i : ℕ) → every in32 l ≡ true → in32 (getD l i 0) ≡ true
 number-at [] i h = refl
 number-at (x ∷ l) zero h = and-fst (in32 x) (every in32 l) h
@@ -149,15 +185,15 @@ told-held c h =
     record {
       cycle = h .cycle;
       places = length-map (c .banks) bankTells ∙ h .places;
+      groupPlaces = length-map (c .groups) groupTells ∙ h .groupPlaces;
       stored = record {
         banks = rw (take-all 16 (map bankTells (c .banks)) (omega (arith, length-map (c .banks) bankTells, h .places))) (banks-told (c .banks) (h .banks));
+        groups = rw (take-all 8 (map groupTells (c .groups)) (omega (arith, length-map (c .groups) groupTells, h .groupPlaces))) (groups-told (c .groups) (h .groups));
         last = rw (
           stamp-before (getD (c .last) 0 0) (number-at (c .last) 0 (h .last)),
           stamp-before (getD (c .last) 1 0) (number-at (c .last) 1 (h .last)),
           stamp-before (getD (c .last) 2 0) (number-at (c .last) 2 (h .last)),
           stamp-before (getD (c .last) 3 0) (number-at (c .last) 3 (h .last)),
-          stamp-before (c .rd) (le-leb (c .rd) 4294967295 (h .rd)),
-          stamp-before (c .wr) (le-leb (c .wr) 4294967295 (h .wr)),
           stamp-before (c .refresh) (le-leb (c .refresh) 4294967295 (h .refresh)),
         );
       };

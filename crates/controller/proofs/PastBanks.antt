@@ -19,12 +19,12 @@ use Rattle.rules.proofs.Promises.{runs-kept}
 use Rattle.controller.specs.declared.controller.Controller.{Controller}
 use Rattle.controller.specs.declared.run.RunReport.{RunReport}
 use Rattle.controller.specs.declared.run.RunAnswer.the-variants.{Ran}
-use Rattle.controller.specs.Controller.{bankTells, bankKept, tells, kept, Ranged}
+use Rattle.controller.specs.Controller.{bankTells, bankKept, groupTells, groupKept, tells, kept, Ranged}
 use Rattle.refusals.specs.Refused.{sound, runRefusal}
 use Rattle.controller.specs.Run.{RunLeft, ranLeft, refusedLeft, runController}
 use Rattle.controller.specs.Promise.{Keeps, SameRuns}
 use Rattle.controller.proofs.NotRefused.{not-refused}
-use Rattle.controller.proofs.Inverse.{banks-back, tells-kept, told-held}
+use Rattle.controller.proofs.Inverse.{banks-back, groups-back, tells-kept, told-held}
 use Rattle.refusals.proofs.SoundKept.{run-sound}
 use Rattle.controller.proofs.Halves.{run-held, ran}
 
@@ -52,11 +52,14 @@ module _ (τ : Table) (l : List Transaction) where
           pastBanks = drop-map bankKept (τ .banks) (s .banks)
               ∙ (ap (map bankKept) (k .pastKept n (tells c)) ∙ (sym (drop-map bankKept (τ .banks) (map bankTells (c .banks))) ∙ ap (drop (τ .banks)) back));
           places = length-map (s .banks) bankKept ∙ (k .size n (tells c) ∙ length-map (c .banks) bankTells);
+          pastGroups = drop-map groupKept (τ .groups) (s .groups)
+              ∙ (ap (map groupKept) (k .groupsKept n (tells c)) ∙ (sym (drop-map groupKept (τ .groups) (map groupTells (c .groups))) ∙ ap (drop (τ .groups)) (groups-back (c .groups) (rg .groups))));
+          groupPlaces = length-map (s .groups) groupKept ∙ (k .groupSize n (tells c) ∙ length-map (c .groups) groupTells);
         })
 
   refusal-same : (s u : State) (count room : ℕ) → SameTold τ s u → s .edition ≡ u .edition → runRefusal τ l s count room ≡ runRefusal τ l u count room
   unfolding runRefusal sound
-  refusal-same s u count room q e = rw (q .acts, q .datas, q .cycle, e, q .banks, q .a1, q .a2, q .a3, q .a4, q .rd, q .wr, q .refresh)
+  refusal-same s u count room q e = rw (q .acts, q .datas, q .cycle, e, q .banks, q .a1, q .a2, q .a3, q .a4, q .groups, q .refresh)
 
   module _ (acc : Accepted τ) (fit : listFits τ l ≡ true) where
     pub past-unread : (c d : Controller) → Ranged c → Ranged d → SameTold τ (tells c) (tells d) → c .edition ≡ d .edition → (n : ℕ) (b : List ℕ)

@@ -10,9 +10,11 @@ use Rattle.records.specs.declared.table.Table.{Table}
 use Rattle.rules.specs.declared.state.Stamp.{Stamp}
 use Rattle.rules.specs.declared.state.Stamp.the-variants.{Never, At}
 use Rattle.rules.specs.declared.state.Bank.{Bank}
+use Rattle.rules.specs.declared.state.Group.{Group}
 use Rattle.rules.specs.declared.state.State.{State}
 use Rattle.rules.specs.State.{fresh}
 use Rattle.controller.specs.declared.controller.HostBank.{HostBank}
+use Rattle.controller.specs.declared.controller.HostGroup.{HostGroup}
 use Rattle.controller.specs.declared.controller.Controller.{Controller}
 
 -- "Any of these cycles may be "never"", which is the number 4294967295
@@ -31,8 +33,16 @@ bankTells k = record { opened = k .opened; act = stampOf (k .act); rd = stampOf 
 abbrev pub bankKept : Bank → HostBank
 bankKept k = record { opened = k .opened; act = numberOf (k .act); rd = numberOf (k .rd); wr = numberOf (k .wr) }
 
+-- "the latest read and write of each group, and the running state tells these, .. and the group's latest ACT" (document 02, request 7)
+abbrev pub groupTells : HostGroup → Group
+groupTells g = record { act = stampOf (g .act); rd = stampOf (g .rd); wr = stampOf (g .wr) }
+
+abbrev pub groupKept : Group → HostGroup
+groupKept g = record { act = numberOf (g .act); rd = numberOf (g .rd); wr = numberOf (g .wr) }
+
 -- "A state tells: the edition it was started under; its cycle, the next to be tried; how many commands have left each queue; [the banks];
--- the cycles of the last four ACTs, the last RD and the last WR of all"; it "tells the last REF's cycle" (document 02, request 5).
+-- the cycles of the last four ACTs"; "the latest read and write of each group .., in place of those of all, and the group's latest ACT" (document
+-- 02, request 7); it "tells the last REF's cycle" (request 5).
 unfoldable pub tells : Controller → State
 tells c =
     record {
@@ -45,8 +55,7 @@ tells c =
       a2 = stampOf (getD (c .last) 1 0);
       a3 = stampOf (getD (c .last) 2 0);
       a4 = stampOf (getD (c .last) 3 0);
-      rd = stampOf (c .rd);
-      wr = stampOf (c .wr);
+      groups = map groupTells (c .groups);
       refresh = stampOf (c .refresh);
     }
 
@@ -60,8 +69,7 @@ kept s =
       datas = s .datas;
       banks = map bankKept (s .banks);
       last = numberOf (s .a1) ∷ numberOf (s .a2) ∷ numberOf (s .a3) ∷ numberOf (s .a4) ∷ [];
-      rd = numberOf (s .rd);
-      wr = numberOf (s .wr);
+      groups = map groupKept (s .groups);
       refresh = numberOf (s .refresh);
     }
 
@@ -79,6 +87,6 @@ pub record Ranged (c : Controller) : Type 0 where
   pub places : length (c .banks) ≡ 16
   pub four : length (c .last) ≡ 4
   pub last : every in32 (c .last) ≡ true
-  pub rd : c .rd ≤ 4294967295
-  pub wr : c .wr ≤ 4294967295
+  pub groups : every (λ k. every in32 (k .act ∷ k .rd ∷ k .wr ∷ [])) (c .groups) ≡ true
+  pub groupPlaces : length (c .groups) ≡ 8
   pub refresh : c .refresh ≤ 4294967295

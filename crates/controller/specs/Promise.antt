@@ -29,8 +29,11 @@ pub record Keeps (τ : Table) (l : List Transaction) (c d : Controller) : Type 0
   -- "nothing kept past them is .. changed"
   pub pastBanks : drop (τ .banks) (d .banks) ≡ drop (τ .banks) (c .banks)
   pub places : length (d .banks) ≡ length (c .banks)
+  -- "nothing kept past the table's groups is .. changed" (document 02, request 7)
+  pub pastGroups : drop (τ .groups) (d .groups) ≡ drop (τ .groups) (c .groups)
+  pub groupPlaces : length (d .groups) ≡ length (c .groups)
 
--- "nothing kept past them is read": two controllers that tell the same of the table's banks and of all else
+-- "nothing kept past them is read": two controllers that tell the same of the table's banks, of its groups and of all else
 pub record SameRuns (τ : Table) (v w : RunLeft) : Type 0 where
   pub answer : v .told .answer ≡ w .told .answer
   pub buffer : v .buffer ≡ w .buffer

@@ -2,12 +2,13 @@
 use records::table::Table;
 use timing::kept::Kept;
 use timing::kept::KeptBank;
+use timing::kept::KeptGroup;
 use timing::kept::kept_fresh;
 ghost use mathlib.Core.Path.{_≡_};
 ghost use mathlib.Core.List.{map};
 ghost use Prim.Native.Nat.{min};
-ghost use Rattle.timing.specs.Kept.{stampOf as keptStamp, toldBank, told};
-ghost use Rattle.controller.specs.Controller.{stampOf, numberOf, bankTells, bankKept, tells, kept, freshController};
+ghost use Rattle.timing.specs.Kept.{stampOf as keptStamp, toldBank, toldGroup, told};
+ghost use Rattle.controller.specs.Controller.{stampOf, numberOf, bankTells, bankKept, groupTells, groupKept, tells, kept, freshController};
 
 // The number that stands for "never".
 pub const NEVER: u32 = 4294967295;
@@ -21,8 +22,16 @@ pub struct HostBank {
     pub wr: u32,
 }
 
+// A group of banks: the cycles of its latest ACT, RD and WR.
+#[repr(C)]
+pub struct HostGroup {
+    pub act: u32,
+    pub rd: u32,
+    pub wr: u32,
+}
+
 // `cycle` is the next to be tried; `acts` and `datas` have left the two queues; `last` has the cycles of the last four ACTs, newest first;
-// `rd` and `wr` are those of the last RD and the last WR of all, `refresh` that of the last REF.
+// `refresh` is that of the last REF.
 #[repr(C)]
 pub struct Controller {
     pub edition: u32,
@@ -31,8 +40,7 @@ pub struct Controller {
     pub datas: u32,
     pub banks: [HostBank; 16],
     pub last: [u32; 4],
-    pub rd: u32,
-    pub wr: u32,
+    pub groups: [HostGroup; 8],
     pub refresh: u32,
 }
 
@@ -126,18 +134,78 @@ pub fn banks_kept(ks: [KeptBank; 16]) -> [HostBank; 16]
     held
 }
 
+pub fn group_in(g: HostGroup) -> KeptGroup
+    ensures { λ r. ⌜ toldGroup r ≡ groupTells g ⌝ }
+{
+    let act = number_in(g.act);
+    let rd = number_in(g.rd);
+    let wr = number_in(g.wr);
+    KeptGroup {
+        act: act,
+        rd: rd,
+        wr: wr,
+    }
+}
+
+pub fn group_kept(g: KeptGroup) -> HostGroup
+    ensures { λ r. ⌜ r ≡ groupKept (toldGroup g) ⌝ }
+{
+    let act = g.act;
+    let rd = g.rd;
+    let wr = g.wr;
+    HostGroup {
+        act: number_of(act),
+        rd: number_of(rd),
+        wr: number_of(wr),
+    }
+}
+
+pub fn groups_in(gs: [HostGroup; 8]) -> [KeptGroup; 8]
+    ensures { λ r. ⌜ map toldGroup r ≡ map groupTells gs ⌝ }
+{
+    let quiet = KeptGroup {
+        act: 0,
+        rd: 0,
+        wr: 0,
+    };
+    let mut kept = [quiet; 8];
+    let mut i: usize = 0;
+    while i < 8 {
+        kept[i] = group_in(gs[i]);
+        i += 1;
+    }
+    kept
+}
+
+pub fn groups_kept(gs: [KeptGroup; 8]) -> [HostGroup; 8]
+    ensures { λ r. ⌜ r ≡ map groupKept (map toldGroup gs) ⌝ }
+{
+    let quiet = HostGroup {
+        act: NEVER,
+        rd: NEVER,
+        wr: NEVER,
+    };
+    let mut held = [quiet; 8];
+    let mut k: usize = 0;
+    while k < 8 {
+        held[k] = group_kept(gs[k]);
+        k += 1;
+    }
+    held
+}
+
 // What the controller tells, as a run keeps it.
 pub fn kept_in(c: Controller) -> Kept
     ensures { λ r. ⌜ told r ≡ tells c ⌝ }
 {
     let held = c.banks;
     let banks = banks_in(held);
+    let held_groups = c.groups;
+    let groups = groups_in(held_groups);
     let a1 = number_in(c.last[0]);
     let a2 = number_in(c.last[1]);
     let a3 = number_in(c.last[2]);
     let a4 = number_in(c.last[3]);
-    let rd = number_in(c.rd);
-    let wr = number_in(c.wr);
     let refresh = number_in(c.refresh);
     Kept {
         edition: c.edition,
@@ -149,8 +217,7 @@ pub fn kept_in(c: Controller) -> Kept
         a2: a2,
         a3: a3,
         a4: a4,
-        rd: rd,
-        wr: wr,
+        groups: groups,
         refresh: refresh,
     }
 }
@@ -161,19 +228,17 @@ pub fn controller_of(s: Kept) -> Controller
 {
     let told = s.banks;
     let banks = banks_kept(told);
+    let told_groups = s.groups;
+    let groups = groups_kept(told_groups);
     let a1 = s.a1;
     let a2 = s.a2;
     let a3 = s.a3;
     let a4 = s.a4;
-    let rd = s.rd;
-    let wr = s.wr;
     let refresh = s.refresh;
     let n1 = number_of(a1);
     let n2 = number_of(a2);
     let n3 = number_of(a3);
     let n4 = number_of(a4);
-    let last_rd = number_of(rd);
-    let last_wr = number_of(wr);
     let last_ref = number_of(refresh);
     let cycle = cut(s.cycle);
     Controller {
@@ -183,8 +248,7 @@ pub fn controller_of(s: Kept) -> Controller
         datas: s.datas,
         banks: banks,
         last: [n1, n2, n3, n4],
-        rd: last_rd,
-        wr: last_wr,
+        groups: groups,
         refresh: last_ref,
     }
 }

@@ -15,12 +15,13 @@ use Rattle.records.specs.declared.command.Kind.the-variants.{Act, Ref}
 use Rattle.records.specs.Table.{readTable}
 use Rattle.records.specs.Transaction.{transactionsIn, fits}
 use Rattle.records.specs.Command.{command, commandsIn, bytesOfAll}
-use Rattle.records.specs.House.{tableA, tableB}
-use Rattle.rules.specs.declared.verdict.Rule.the-variants.{Precharge, Faw, End, Rfc}
+use Rattle.records.specs.House.{tableA, tableB, tableD}
+use Rattle.rules.specs.declared.verdict.Rule.the-variants.{Precharge, Rrd, Faw, End, Rfc}
 use Rattle.rules.specs.declared.verdict.PatternVerdict.the-variants.{Accepted as AllPassed, Refused as BrokenAt}
 use Rattle.rules.specs.Verdict.{judge}
 use Rattle.rules.specs.Pattern.{copies}
 use Rattle.rules.specs.Worked.{tableR, one}
+use Rattle.rules.specs.WorkedGroups.{oneGroup}
 use Rattle.judge.specs.declared.answer.Judged.{Judged}
 use Rattle.judge.specs.declared.answer.Judged.the-variants.{Verdict, Refused as NotJudged}
 use Rattle.judge.specs.declared.answer.PatternJudged.{PatternJudged}
@@ -46,6 +47,11 @@ use Rattle.demands.specs.Handed.{A, told, judgesBytes, Patterns, Traces,
 use Rattle.desk.proofs.Unique.{only}
 use Rattle.demands.proofs.Causes.{causes}
 use Rattle.controller.specs.declared.controller.Controller.{Controller}
+
+infixr 4 _⨾_
+-- a proof of the first statement, and of the rest
+abbrev pub _⨾_ : {P Q : Type 0} → P → Q → P × Q
+p ⨾ ps = (p, ps)
 
 -- ---- what every answer that keeps a promise tells is what one does
 
@@ -167,3 +173,8 @@ pub refused-49 : (n : ℕ) → copies tableR 49 (command 0 Ref 0 0 ∷ []) n ≡
 refused-49 zero = refl
 refused-49 (suc zero) = refl
 refused-49 (suc (suc n)) = rw (le-ltb (suc (suc n)) 2 (omega arith)) refl
+
+pub refused-39 : (n : ℕ) → copies tableD 39 oneGroup n ≡ pick (ltb n 2) AllPassed (BrokenAt Rrd 2 0)
+refused-39 zero = refl
+refused-39 (suc zero) = refl
+refused-39 (suc (suc n)) = rw (le-ltb (suc (suc n)) 2 (omega arith)) refl

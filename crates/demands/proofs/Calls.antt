@@ -38,12 +38,8 @@ use Rattle.desk.specs.Running.{starting, runsChecked, running}
 use Rattle.demands.specs.Handed.{A, B, R, fine, out}
 use Rattle.demands.specs.Calls.{recordCalls, judgeCalls, captureCalls, listCalls, scheduleCalls, runCalls, calls}
 use Rattle.demands.proofs.NeverRuns.{refused-start}
-use Rattle.demands.proofs.CallLaws.{pattern-tells, build-tells, bytes-tell, some, few-records, many-records, few-captured, many-captured, few-transactions, many-transactions, many-built, many-run, refused-37, left-open, refused-38, refused-49}
-
-infixr 4 _⨾_
--- a proof of the first statement, and of the rest
-abbrev _⨾_ : {P Q : Type 0} → P → Q → P × Q
-p ⨾ ps = (p, ps)
+use Rattle.demands.proofs.GroupCalls.{of-groups}
+use Rattle.demands.proofs.CallLaws.{_⨾_, pattern-tells, build-tells, bytes-tell, some, few-records, many-records, few-captured, many-captured, few-transactions, many-transactions, many-built, many-run, refused-37, left-open, refused-38, refused-49}
 
 of-records : All recordCalls
 unfolding readTable writeTable readTransaction writeTransaction readCommand writeCommand readCaptureRecord writeCaptureRecord
@@ -255,4 +251,4 @@ of-runs =
     ⨾ tt
 
 pub called : All calls
-called = of-records ⨾ of-judges ⨾ of-captures ⨾ of-lists ⨾ of-schedules ⨾ of-runs ⨾ tt
+called = of-records ⨾ of-judges ⨾ of-captures ⨾ of-lists ⨾ of-schedules ⨾ of-runs ⨾ of-groups ⨾ tt

@@ -16,7 +16,7 @@ use Rattle.records.specs.declared.transaction.Transaction.{Transaction}
 use Rattle.records.specs.declared.refusal.Refusal.{Refusal}
 use Rattle.records.specs.Tests.{pick, every, within}
 use Rattle.records.specs.Told.{refusal, firstFailed}
-use Rattle.records.specs.Table.{tableAt, inRange, readTable}
+use Rattle.records.specs.Table.{tableAt, inRange, tableSize, readTable}
 use Rattle.records.specs.Transaction.{transactionsIn, fits}
 use Rattle.records.specs.Command.{commandsIn}
 use Rattle.rules.specs.Queues.{actQueue, dataQueue}
@@ -82,7 +82,7 @@ module _ (expected : ℕ) (table : List ℕ) (R : TableRead → Numbers → Type
     (gives : (x : Refusal) (a : Numbers) → R (Refused x) a → a ≡ refusing x) (goes-on : (a : Numbers) → R (Read (tableAt table)) a → FirstRow rest a) where
   by-table : (a : Numbers) → R (admitted expected table) a → FirstRow (tableRows expected table rest) a
   unfolding admitted readTable
-  by-table a = on (not (eqb (length table) 32)) (not (inRange (tableAt table)))
+  by-table a = on (not (tableSize (length table))) (not (inRange (tableAt table)))
     where
       t : Table
       t = tableAt table

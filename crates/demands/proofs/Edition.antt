@@ -8,7 +8,7 @@ use mathlib.Core.List.{List, [], _∷_}
 use native.Mathlib.Omega.{arith}
 use lib.Dec.{eqb, leb}
 use lib.ListN.{length}
-use borrow.Author.Tests.{eqb-true, eqb-false}
+use borrow.Author.Tests.{eqb-false}
 use Rattle.records.specs.declared.table.Table.{Table}
 use Rattle.records.specs.declared.table.TableRead.{TableRead}
 use Rattle.records.specs.declared.table.TableRead.the-variants.{Read, Refused}
@@ -16,7 +16,7 @@ use Rattle.records.specs.declared.transaction.Transaction.{Transaction}
 use Rattle.records.specs.declared.refusal.Refusal.{Refusal}
 use Rattle.records.specs.Tests.{pick}
 use Rattle.records.specs.Told.{refusal, firstFailed}
-use Rattle.records.specs.Table.{tableAt, inRange, tableRefusal, readTable, Accepted}
+use Rattle.records.specs.Table.{tableAt, inRange, tableSize, tableRefusal, readTable, Accepted}
 use Rattle.records.specs.Transaction.{transactionsIn, fits}
 use Rattle.records.specs.Command.{commandsIn}
 use Rattle.records.proofs.Laws.{read-was, table-size}
@@ -53,31 +53,32 @@ use Rattle.desk.specs.Transactions.{reading}
 use Rattle.desk.specs.Schedules.{BuildsChecked, Schedules}
 use Rattle.desk.specs.Running.{starting, runsChecked, running}
 use Rattle.desk.specs.Numbers.{judgedNumbers, patternNumbers, captureNumbers, boundNumbers, readNumbers, buildNumbers, startNumbers, runNumbers}
-use Rattle.demands.specs.Demands.{NotAdmitted, Demand1}
+use Rattle.demands.specs.Demands.{EitherSize, NotAdmitted, Demand1}
 use Rattle.desk.proofs.Laws.{expected-read, read-accepted}
+use Rattle.demands.proofs.Sizes.{either-size, neither-size}
 use Rattle.demands.proofs.Causes.{causes}
 use Rattle.demands.proofs.RecordCauses.{record-causes}
-use Rattle.demands.proofs.Stood.{unread, unbuilt, unrun, table-unwritten, transaction-unwritten, command-unwritten, capture-unwritten}
+use Rattle.demands.proofs.Stood.{unread, unbuilt, unrun, table-unwritten, group-table-unwritten, transaction-unwritten, command-unwritten, capture-unwritten}
 use Rattle.demands.proofs.Captures.{uncaptured, capture-names, capture-names-refused}
 
 -- ---- the table
 
 -- why the reader refuses a table
 abbrev NotRead : List ℕ → Refusal → Type 0
-NotRead s x = ((x ≡ refusal 1 0 0) × (length s ≡ 32 → ⊥)) ⊎ ((x ≡ refusal 2 0 0) × (length s ≡ 32) × (inRange (tableAt s) ≡ false))
+NotRead s x = ((x ≡ refusal 1 0 0) × (EitherSize s → ⊥)) ⊎ ((x ≡ refusal 2 0 0) × EitherSize s × (inRange (tableAt s) ≡ false))
 
 -- a table is refused by the first of numbers 1 and 2 that fails
 read-refused : (s : List ℕ) (x : Refusal) → readTable s ≡ Refused x → NotRead s x
 unfolding readTable
-read-refused s x r = on (eqb (length s) 32) refl (inRange (tableAt s)) refl r
+read-refused s x r = on (tableSize (length s)) refl (inRange (tableAt s)) refl r
   where
     by : Bool → Bool → ℕ
     by one two = firstFailed ((1, not one) ∷ (2, not two) ∷ [])
 
-    on : (a : Bool) → eqb (length s) 32 ≡ a → (b : Bool) → inRange (tableAt s) ≡ b
+    on : (a : Bool) → tableSize (length s) ≡ a → (b : Bool) → inRange (tableAt s) ≡ b
         → pick (eqb (by a b) 0) (Read (tableAt s)) (Refused (refusal (by a b) 0 0)) ≡ Refused x → NotRead s x
-    on false p b q e = inl (cc, eqb-false (length s) 32 p)
-    on true p false q e = inr (cc, eqb-true (length s) 32 p, q)
+    on false p b q e = inl (cc, neither-size s p)
+    on true p false q e = inr (cc, either-size s p, q)
     on true p true q e = let z : _≡_ {A = ℕ} 0 1 = cc in absurd (omega arith)
 
 -- the three ways in which a table is not admitted
@@ -112,13 +113,13 @@ own e s = on (readTable s) refl
     on (Read τ) q = same τ (eqb (τ .edition) e)
     on (Refused x) q = ⊎-elim (λ k. ap (λ (y : Refusal). y .edition) (k .0)) (λ k. ap (λ (y : Refusal). y .edition) (k .0)) (read-refused s x q)
 
-admits : (e : ℕ) (s : List ℕ) (τ : Table) → admitted e s ≡ Read τ → (length s ≡ 32) × (τ ≡ tableAt s) × Accepted τ × (τ .edition ≡ e)
+admits : (e : ℕ) (s : List ℕ) (τ : Table) → admitted e s ≡ Read τ → EitherSize s × (τ ≡ tableAt s) × Accepted τ × (τ .edition ≡ e)
 unfolding readTable
 admits e s τ r =
     let p = expected-read e s τ r in
     let w = read-was tableRefusal tableAt Read (λ n. Refused (refusal n 0 0)) s τ (λ n k. let y : _≡_ {A = ℕ} 0 1 = cc in omega arith) (p .0) in
     let q : tableAt s ≡ τ = let k = w .1 in cc in
-    (table-size (length s) (tableAt s) (w .0), sym q, read-accepted e s τ r, p .1)
+    (either-size s (table-size (length s) (tableAt s) (w .0)), sym q, read-accepted e s τ r, p .1)
 
 -- ---- the check of a list names the table's edition
 
@@ -266,6 +267,7 @@ demand-1 expected table =
       unrun = λ check c l n b x. unrun c l n b x check a;
       uncaptured = uncaptured a;
       tableUnwritten = table-unwritten;
+      groupTableUnwritten = group-table-unwritten;
       transactionUnwritten = transaction-unwritten;
       commandUnwritten = command-unwritten;
       captureUnwritten = capture-unwritten;

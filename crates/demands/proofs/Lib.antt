@@ -3,6 +3,7 @@ pub mod Captures
 pub mod Causes
 pub mod RecordCauses
 pub mod Stood
+pub mod Sizes
 pub mod Edition
 pub mod Rows
 pub mod Judges
@@ -10,5 +11,7 @@ pub mod Serves
 pub mod RunsOn
 pub mod NeverRuns
 pub mod CallLaws
+pub mod GroupCalls
 pub mod Calls
 pub mod Traces
+pub mod OneGroup

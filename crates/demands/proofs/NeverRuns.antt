@@ -14,12 +14,12 @@ use Rattle.records.specs.declared.table.TableRead.the-variants.{Read, Refused}
 use Rattle.records.specs.declared.transaction.Transaction.{Transaction}
 use Rattle.records.specs.declared.refusal.Refusal.{Refusal}
 use Rattle.records.specs.Tests.{allOf, every, within}
-use Rattle.records.specs.Table.{timings, Accepted}
+use Rattle.records.specs.Table.{timings, groupsInRange, Accepted}
 use Rattle.records.proofs.Laws.{and-left}
 use Rattle.rules.specs.declared.state.State.{State}
 use Rattle.rules.specs.Queues.{actQueue, dataQueue}
 use Rattle.engine.specs.Run.{commandsLeft}
-use Rattle.refusals.specs.Refused.{banksBefore, lastBefore, goneBacked, sound, runRefusal}
+use Rattle.refusals.specs.Refused.{banksBefore, groupsBefore, lastBefore, goneBacked, sound, runRefusal}
 use Rattle.lists.specs.declared.check.Checked.{Checked}
 use Rattle.controller.specs.Controller.{tells, kept}
 use Rattle.controller.specs.Run.{runController}
@@ -32,7 +32,7 @@ use Rattle.desk.proofs.Laws.{read-accepted}
 -- no accepted table has edition 0
 some-edition : (τ : Table) → Accepted τ → 1 ≤ τ .edition
 some-edition τ acc =
-    let rest = within 1 16 (τ .banks) && (leb 2 (τ .ccd) && (leb (τ .b) (τ .ccd) && (leb (τ .rfc) 1023 && every (within 1 1023) (timings τ)))) in
+    let rest = within 1 16 (τ .banks) && (leb 2 (τ .ccd) && (leb (τ .b) (τ .ccd) && (leb (τ .rfc) 1023 && (groupsInRange τ && every (within 1 1023) (timings τ))))) in
     leb-true 1 (τ .edition) (and-left (leb 1 (τ .edition)) (leb (τ .edition) 65535) (and-left (within 1 65535 (τ .edition)) rest acc))
 
 edition-0 : tells noController .edition ≡ 0
@@ -55,7 +55,7 @@ module _ (τ : Table) (acc : Accepted τ) (l : List Transaction) where
   unfolding sound
   no-edition s e =
       second-false (ltb (s .cycle) 100000000) (eqb (s .edition) (τ .edition))
-      (allOf (banksBefore (s .cycle) (τ .banks) (s .banks) ∷ lastBefore (s .cycle) s ∷ leb (s .acts) (length (actQueue τ l)) ∷ goneBacked τ l (s .acts) (s .datas) ∷ []))
+      (allOf (banksBefore (s .cycle) (τ .banks) (s .banks) ∷ groupsBefore (s .cycle) (τ .groups) (s .groups) ∷ lastBefore (s .cycle) s ∷ leb (s .acts) (length (actQueue τ l)) ∷ goneBacked τ l (s .acts) (s .datas) ∷ []))
       (ne-eqb (s .edition) (τ .edition) (λ k. omega (arith, some-edition τ acc, e, k)))
 
   unsound : sound τ l (tells noController) ≡ false

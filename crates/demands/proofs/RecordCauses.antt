@@ -12,7 +12,7 @@ use Rattle.records.specs.declared.command.CommandRead.the-variants.{Read as Com
 use Rattle.records.specs.declared.refusal.Written.the-variants.{Done, Refused as NotWritten}
 use Rattle.records.specs.Told.{refusal, over, Wrote}
 use Rattle.records.specs.Little.{bytes16}
-use Rattle.records.specs.Table.{tableOf, tableAt, inRange, tableRefusal, readTable, writeTable}
+use Rattle.records.specs.Table.{tableOf, groupTableOf, tableAt, inRange, tableSize, tableRefusal, tableRefusalBy, readTable, writeTable, writeGroupTable}
 use Rattle.records.specs.Transaction.{transactionAt, fitsIn, transactionRefusal, readTransaction, writeTransaction, bytesOf as transactionBytes}
 use Rattle.records.specs.Command.{commandAt, commandRefusal, roomRefusal, readCommand, writeCommand, bytesOf as commandBytes}
 use Rattle.capture.specs.declared.one_record.CaptureRecordRead.the-variants.{Read as RecordIs, Refused as NoRecord}
@@ -27,17 +27,21 @@ module _ (s : List ℕ) where
   kept z = record { answer = NotWritten (refusal z 0 0); buffer = s }
 
   pub record-causes : RecordCauses s
-  unfolding readTable writeTable readTransaction writeTransaction readCommand writeCommand readCaptureRecord writeCaptureRecord
+  unfolding readTable writeTable writeGroupTable readTransaction writeTransaction readCommand writeCommand readCaptureRecord writeCaptureRecord
   record-causes =
       record {
         tableRead =
             let z = tableRefusal (length s) (tableAt s) in
-            two 1 2 (not (eqb (length s) 32)) (not (inRange (tableAt s))) (tableNumbers (readTable s))
+            two 1 2 (not (tableSize (length s))) (not (inRange (tableAt s))) (tableNumbers (readTable s))
             (by-number tableNumbers z (TableIs (tableAt s)) (NoTable (refusal z 0 0)) (refl, refl) (refl, refl));
         tableWritten = λ l.
-            let z = tableRefusal (length s) (tableOf l) in
+            let z = tableRefusalBy (eqb (length s) 32) (tableOf l) in
             two 1 2 (not (eqb (length s) 32)) (not (inRange (tableOf l))) (writtenNumbers (writeTable l s .answer))
             (by-number (λ (w : Wrote). writtenNumbers (w .answer)) z (record { answer = Done (tableOf l .edition); buffer = over (bytes16 l) s }) (kept z) (refl, refl) (refl, refl));
+        groupTableWritten = λ l.
+            let z = tableRefusalBy (eqb (length s) 40) (groupTableOf l) in
+            two 1 2 (not (eqb (length s) 40)) (not (inRange (groupTableOf l))) (writtenNumbers (writeGroupTable l s .answer))
+            (by-number (λ (w : Wrote). writtenNumbers (w .answer)) z (record { answer = Done (groupTableOf l .edition); buffer = over (bytes16 l) s }) (kept z) (refl, refl) (refl, refl));
         transactionRead =
             let z = transactionRefusal (length s) (transactionAt s 0) in
             two 3 4 (not (eqb (length s) 4)) (not (fitsIn 16 1 (transactionAt s 0))) (transactionNumbers (readTransaction s))

@@ -17,7 +17,7 @@ use Rattle.records.specs.declared.refusal.Written.the-variants.{Done, Refused a
 use Rattle.records.specs.Tests.{pick}
 use Rattle.records.specs.Told.{refusal, over, Wrote}
 use Rattle.records.specs.Little.{bytes16}
-use Rattle.records.specs.Table.{tableOf, tableRefusal, writeTable}
+use Rattle.records.specs.Table.{tableOf, groupTableOf, tableRefusalBy, writeTable, writeGroupTable}
 use Rattle.records.specs.Transaction.{transactionRefusal, writeTransaction, bytesOf as transactionBytes}
 use Rattle.records.specs.Command.{roomRefusal, writeCommand, bytesOf as commandBytes}
 use Rattle.capture.specs.declared.one_record.CaptureRecord.{CaptureRecord}
@@ -83,7 +83,12 @@ done-not e x h = let z : _≡_ {A = ℕ} 0 1 = cc in omega arith
 pub table-unwritten : (l s : List ℕ) (x : Refusal) → writeTable l s .answer ≡ NotWritten x → writeTable l s .buffer ≡ s
 unfolding writeTable
 table-unwritten l s x e =
-    unwritten (tableRefusal (length s) (tableOf l)) (record { answer = Done (tableOf l .edition); buffer = over (bytes16 l) s }) s x e (done-not (tableOf l .edition))
+    unwritten (tableRefusalBy (eqb (length s) 32) (tableOf l)) (record { answer = Done (tableOf l .edition); buffer = over (bytes16 l) s }) s x e (done-not (tableOf l .edition))
+
+pub group-table-unwritten : (l s : List ℕ) (x : Refusal) → writeGroupTable l s .answer ≡ NotWritten x → writeGroupTable l s .buffer ≡ s
+unfolding writeGroupTable
+group-table-unwritten l s x e =
+    unwritten (tableRefusalBy (eqb (length s) 40) (groupTableOf l)) (record { answer = Done (groupTableOf l .edition); buffer = over (bytes16 l) s }) s x e (done-not (groupTableOf l .edition))
 
 pub transaction-unwritten : (t : Transaction) (s : List ℕ) (x : Refusal) → writeTransaction t s .answer ≡ NotWritten x → writeTransaction t s .buffer ≡ s
 unfolding writeTransaction

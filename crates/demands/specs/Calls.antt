@@ -25,19 +25,20 @@ use Rattle.desk.specs.Transactions.{reading}
 use Rattle.desk.specs.Running.{starting, running}
 use Rattle.demands.specs.Runs.{NeverRuns}
 use Rattle.desk.specs.Numbers.{telling, tableNumbers, transactionNumbers, commandNumbers, captureRecordNumbers, captureNumbers, startNumbers}
-use Rattle.demands.specs.Handed.{A, B, C, A50, ccd1, cut, withRfc, R, R200, fine, out, trace, tick, seen, refreshed, gone, told, judges, judgesBytes, Patterns, Traces, bounds, reads, Builds, BuildsBytes, runs, runsBytes, Writes}
+use Rattle.demands.specs.GroupCalls.{groupCalls}
+use Rattle.demands.specs.Handed.{A, B, C, A50, ccd1, cut, withRfc, R, R200, alone, fine, out, trace, tick, seen, refreshed, gone, told, judges, judgesBytes, Patterns, Traces, bounds, reads, Builds, BuildsBytes, runs, runsBytes, Writes}
 
 -- ---- the calls on one record
 
 abbrev pub recordCalls : List (Type 0)
 recordCalls =
     -- a table: read; of 31 bytes, which are out of range too; out of range; RFC and a timing number at 1,023, and one beyond
-    (tableNumbers (readTable A) ≡ telling 7 numbersA)
+    (tableNumbers (readTable A) ≡ telling 7 (alone numbersA))
     ∷ (tableNumbers (readTable cut) ≡ told 1 0 0)
     ∷ (tableNumbers (readTable ccd1) ≡ told 2 0 0)
-    ∷ (tableNumbers (readTable (withRfc 1023)) ≡ telling 7 (house 32 6 1023))
+    ∷ (tableNumbers (readTable (withRfc 1023)) ≡ telling 7 (alone (house 32 6 1023)))
     ∷ (tableNumbers (readTable (withRfc 1024)) ≡ told 2 0 0)
-    ∷ (tableNumbers (readTable (bytes16 (house 1023 6 0))) ≡ telling 7 (house 1023 6 0))
+    ∷ (tableNumbers (readTable (bytes16 (house 1023 6 0))) ≡ telling 7 (alone (house 1023 6 0)))
     ∷ (tableNumbers (readTable (bytes16 (house 1024 6 0))) ≡ told 2 0 0)
     ∷ Writes (writeTable numbersA (replicate 32 9)) (telling 7 []) A
     ∷ Writes (writeTable numbersA (replicate 33 9)) (told 1 0 0) (replicate 33 9)
@@ -278,4 +279,4 @@ runCalls =
     ∷ []
 
 abbrev pub calls : List (Type 0)
-calls = All recordCalls ∷ All judgeCalls ∷ All captureCalls ∷ All listCalls ∷ All scheduleCalls ∷ All runCalls ∷ []
+calls = All recordCalls ∷ All judgeCalls ∷ All captureCalls ∷ All listCalls ∷ All scheduleCalls ∷ All runCalls ∷ All groupCalls ∷ []

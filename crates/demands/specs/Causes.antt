@@ -10,7 +10,7 @@ use Rattle.records.specs.declared.table.Table.{Table}
 use Rattle.records.specs.declared.transaction.Transaction.{Transaction}
 use Rattle.records.specs.declared.command.Command.{Command}
 use Rattle.records.specs.Tests.{pick, every, within}
-use Rattle.records.specs.Table.{tableOf, tableAt, inRange, readTable, writeTable}
+use Rattle.records.specs.Table.{tableOf, groupTableOf, tableAt, inRange, tableSize, readTable, writeTable, writeGroupTable}
 use Rattle.records.specs.Transaction.{transactionAt, transactionsIn, fitsIn, fits, readTransaction, writeTransaction}
 use Rattle.records.specs.Command.{readCommand, writeCommand}
 use Rattle.rules.specs.Queues.{actQueue, dataQueue}
@@ -47,14 +47,18 @@ abbrev pub FirstRow : List Row → Numbers → Type 0
 FirstRow [] a = (a .refused ≡ 0) × (a .position ≡ 0)
 FirstRow (r ∷ l) a = pick (r .applies) ((a .refused ≡ r .number) × (a .position ≡ r .position)) (FirstRow l a)
 
--- 1: "table not 32 bytes"; it "no longer looks at" the last number (document 02, request 5). 2: "a table number out of range, CCD below 2 or
--- below B", RFC's among them. Then the rows that the call has besides
-abbrev pub readRows : ℕ → Table → List Row → List Row
-readRows size τ rest = row 1 0 (not (eqb size 32)) ∷ row 2 0 (not (inRange τ)) ∷ rest
+-- 1, by whether the size is right, which is all that it looks at (document 02, request 5). 2: "a table number out of range, CCD below 2 or
+-- below B", RFC's and those of the groups among them. Then the rows that the call has besides
+abbrev pub sizeRows : Bool → Table → List Row → List Row
+sizeRows right τ rest = row 1 0 (not right) ∷ row 2 0 (not (inRange τ)) ∷ rest
+
+-- of a table that is read: "Number 1 now refuses any size but 32 and 40" (document 02, request 7)
+abbrev pub readRows : List ℕ → List Row → List Row
+readRows s rest = sizeRows (tableSize (length s)) (tableAt s) rest
 
 -- 10: the table's edition is not the expected one, "position the table's edition"
 abbrev pub tableRows : ℕ → List ℕ → List Row → List Row
-tableRows expected s rest = readRows (length s) (tableAt s) (row 10 (tableAt s .edition) (not (eqb (tableAt s .edition) expected)) ∷ rest)
+tableRows expected s rest = readRows s (row 10 (tableAt s .edition) (not (eqb (tableAt s .edition) expected)) ∷ rest)
 
 -- the number of the lowest transaction that is out of range
 abbrev pub lowestOut : Table → List Transaction → ℕ
@@ -128,10 +132,11 @@ pub record Causes (expected : ℕ) (table : List ℕ) : Type 0 where
 -- the calls on one record: s is the bytes read, or what the buffer held. "A call that writes a record checks the values as a reader would, and
 -- the room: number 1 for a table buffer that isn't 32 bytes, 3 for a transaction buffer that isn't 4, 5 for a command buffer under 8. A reader of
 -- one record gives 1, 3 or 7 for any size but 32, 4 or 8." "Where no table is given, banks counts as 16", and a refresh is
--- "accepted where no table is given" (document 02, request 5): RFC counts as not 0.
+-- "accepted where no table is given" (document 02, request 5): RFC counts as not 0. The second table record has 40 bytes (request 7).
 pub record RecordCauses (s : List ℕ) : Type 0 where
-  pub tableRead : FirstRow (readRows (length s) (tableAt s) []) (tableNumbers (readTable s))
-  pub tableWritten : (l : List ℕ) → FirstRow (readRows (length s) (tableOf l) []) (writtenNumbers (writeTable l s .answer))
+  pub tableRead : FirstRow (readRows s []) (tableNumbers (readTable s))
+  pub tableWritten : (l : List ℕ) → FirstRow (sizeRows (eqb (length s) 32) (tableOf l) []) (writtenNumbers (writeTable l s .answer))
+  pub groupTableWritten : (l : List ℕ) → FirstRow (sizeRows (eqb (length s) 40) (groupTableOf l) []) (writtenNumbers (writeGroupTable l s .answer))
   pub transactionRead : FirstRow (row 3 0 (not (eqb (length s) 4)) ∷ row 4 0 (not (fitsIn 16 1 (transactionAt s 0))) ∷ []) (transactionNumbers (readTransaction s))
   pub transactionWritten : (x : Transaction)
       → FirstRow (row 3 0 (not (eqb (length s) 4)) ∷ row 4 0 (not (fitsIn 16 1 x)) ∷ []) (writtenNumbers (writeTransaction x s .answer))

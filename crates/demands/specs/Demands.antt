@@ -18,7 +18,7 @@ use Rattle.records.specs.declared.refusal.Written.the-variants.{Refused as NotW
 use Rattle.records.specs.Tests.{pick}
 use Rattle.records.specs.Told.{refusal}
 use Rattle.records.specs.Little.{num, num32}
-use Rattle.records.specs.Table.{tableAt, inRange, readTable, writeTable, Accepted}
+use Rattle.records.specs.Table.{tableAt, inRange, readTable, writeTable, writeGroupTable, Accepted}
 use Rattle.records.specs.Transaction.{transactionsIn, isRefresh, writeTransaction}
 use Rattle.records.specs.Command.{commandsIn, bytesOfAll, readCommand, writeCommand}
 use Rattle.rules.specs.declared.state.Stamp.the-variants.{At}
@@ -58,19 +58,23 @@ use Rattle.desk.specs.Running.{starting, running}
 use Rattle.demands.specs.Causes.{Causes, RecordCauses}
 use Rattle.desk.specs.Numbers.{telling, ruleNumber, commandNumbers, judgedNumbers, patternNumbers, captureNumbers, boundNumbers, readNumbers, buildNumbers, startNumbers, runNumbers}
 
+-- a table's bytes are 32 or 40
+abbrev pub EitherSize : List ℕ → Type 0
+EitherSize table = (length table ≡ 32) ⊎ (length table ≡ 40)
+
 -- why a table is not admitted: number 1 by its size alone, number 2 by a number out of range, number 10 by its edition
 abbrev pub NotAdmitted : ℕ → List ℕ → Refusal → Type 0
 NotAdmitted expected table x =
-    ((x ≡ refusal 1 0 0) × (length table ≡ 32 → ⊥))
-    ⊎ (((x ≡ refusal 2 0 0) × (length table ≡ 32) × (inRange (tableAt table) ≡ false))
+    ((x ≡ refusal 1 0 0) × (EitherSize table → ⊥))
+    ⊎ (((x ≡ refusal 2 0 0) × EitherSize table × (inRange (tableAt table) ≡ false))
     ⊎ ((τ : Table) × (readTable table ≡ Read τ) × (τ .edition ≡ expected → ⊥) × (x ≡ refusal 10 (τ .edition) (τ .edition))))
 
 -- Demand 1: "Any bytes at all can be handed in" (no call requires anything), "A refused call writes no byte", "Every answer worked out from a
 -- table names that table's edition".
 pub record Demand1 (expected : ℕ) (table : List ℕ) : Type 0 where
-  -- a table is refused by number 1, 2 or 10, each with its cause, or it is the 32 bytes' own, accepted, and of the expected edition
+  -- a table is refused by number 1, 2 or 10, each with its cause, or it is the bytes' own, accepted, and of the expected edition
   pub refused : (x : Refusal) → admitted expected table ≡ Refused x → NotAdmitted expected table x
-  pub admits : (τ : Table) → admitted expected table ≡ Read τ → (length table ≡ 32) × (τ ≡ tableAt table) × Accepted τ × (τ .edition ≡ expected)
+  pub admits : (τ : Table) → admitted expected table ≡ Read τ → EitherSize table × (τ ≡ tableAt table) × Accepted τ × (τ .edition ≡ expected)
   -- each call tells the number and the position of the first row of "What the caller is told" that applies, and so where it takes no table
   pub causes : Causes expected table
   pub recordCauses : (s : List ℕ) → RecordCauses s
@@ -84,6 +88,7 @@ pub record Demand1 (expected : ℕ) (table : List ℕ) : Type 0 where
   pub uncaptured : (s b : List ℕ) (x : Refusal) → capturing (admitted expected table) s b .answer ≡ NotCaptured x → capturing (admitted expected table) s b .buffer ≡ b
   -- nor a byte of the buffer of a call that writes one record
   pub tableUnwritten : (l s : List ℕ) (x : Refusal) → writeTable l s .answer ≡ NotWritten x → writeTable l s .buffer ≡ s
+  pub groupTableUnwritten : (l s : List ℕ) (x : Refusal) → writeGroupTable l s .answer ≡ NotWritten x → writeGroupTable l s .buffer ≡ s
   pub transactionUnwritten : (t : Transaction) (s : List ℕ) (x : Refusal) → writeTransaction t s .answer ≡ NotWritten x → writeTransaction t s .buffer ≡ s
   pub commandUnwritten : (c : Command) (s : List ℕ) (x : Refusal) → writeCommand c s .answer ≡ NotWritten x → writeCommand c s .buffer ≡ s
   pub captureUnwritten : (c : CaptureRecord) (s : List ℕ) (x : Refusal) → writeCaptureRecord c s .answer ≡ NotWritten x → writeCaptureRecord c s .buffer ≡ s

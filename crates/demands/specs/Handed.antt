@@ -2,14 +2,14 @@
 use Prim.Native.Nat.{ℕ}
 use mathlib.Core.Path.{_≡_}
 use mathlib.Core.List.{List, [], _∷_, _++_}
-use lib.ListN.{take, replicate}
+use lib.ListN.{take, set, replicate}
 use Rattle.records.specs.declared.transaction.Transaction.{Transaction}
 use Rattle.records.specs.declared.command.Command.{Command}
 use Rattle.records.specs.Told.{refusal, Wrote}
 use Rattle.records.specs.Little.{bytes16}
 use Rattle.records.specs.Transaction.{transactionsIn}
 use Rattle.records.specs.Command.{bytesOfAll}
-use Rattle.records.specs.House.{house, numbersA, numbersB, numbersC}
+use Rattle.records.specs.House.{house, numbersA, numbersB, numbersC, numbersD}
 use Rattle.rules.specs.Worked.{read}
 use Rattle.judge.specs.declared.answer.PatternJudged.{PatternJudged}
 use Rattle.capture.specs.declared.one_record.CaptureRecord.{CaptureRecord}
@@ -57,6 +57,17 @@ R = withRfc 50
 abbrev pub R200 : List ℕ
 R200 = bytes16 (7 ∷ 8 ∷ 4 ∷ 4 ∷ 10 ∷ 10 ∷ 28 ∷ 38 ∷ 200 ∷ 32 ∷ 10 ∷ 8 ∷ 6 ∷ 12 ∷ 6 ∷ 50 ∷ [])
 
+-- the 40 bytes of table D; the numbers of A in so many groups, with a long CCD, RRD and WTR
+abbrev pub D : List ℕ
+D = bytes16 numbersD
+
+abbrev pub inGroups : ℕ → ℕ → ℕ → ℕ → List ℕ
+inGroups n ccd rrd wtr = numbersA ++ (n ∷ ccd ∷ rrd ∷ wtr ∷ [])
+
+-- sixteen numbers with A's CCD, RRD and WTR: "one group, each long number equal to its short one" (document 02, request 7)
+abbrev pub alone : List ℕ → List ℕ
+alone l = l ++ (1 ∷ 4 ∷ 6 ∷ 6 ∷ [])
+
 -- a read that fits the table, and one that does not
 abbrev pub fine : Transaction
 fine = read 0 1 1
@@ -86,14 +97,27 @@ refreshed e t acts datas c =
       datas = datas;
       banks = replicate 16 (record { opened = 0; act = 4294967295; rd = 4294967295; wr = 4294967295 });
       last = replicate 4 4294967295;
-      rd = 4294967295;
-      wr = 4294967295;
+      groups = replicate 8 (record { act = 4294967295; rd = 4294967295; wr = 4294967295 });
       refresh = c;
     }
 
 -- and one that never had a REF
 abbrev pub gone : ℕ → ℕ → ℕ → ℕ → Controller
 gone e t acts datas = refreshed e t acts datas 4294967295
+
+-- a controller, but for the latest ACT, RD and WR of a group
+abbrev pub reached : Controller → ℕ → ℕ → ℕ → ℕ → Controller
+reached c g act rd wr =
+    record {
+      edition = c .edition;
+      cycle = c .cycle;
+      acts = c .acts;
+      datas = c .datas;
+      banks = c .banks;
+      last = c .last;
+      groups = set (c .groups) g (record { act = act; rd = rd; wr = wr });
+      refresh = c .refresh;
+    }
 
 -- ---- what is told
 

@@ -3,4 +3,6 @@ pub mod Demands
 pub mod Runs
 pub mod Traces
 pub mod Handed
+pub mod GroupCalls
 pub mod Calls
+pub mod OneGroup

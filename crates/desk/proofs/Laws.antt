@@ -15,10 +15,11 @@ use Rattle.records.specs.declared.transaction.Transaction.{Transaction}
 use Rattle.records.specs.declared.refusal.Refusal.{Refusal}
 use Rattle.records.specs.Tests.{pick}
 use Rattle.records.specs.Told.{refusal}
-use Rattle.records.specs.Table.{tableAt, inRange, tableRefusal, readTable, Accepted}
+use Rattle.records.specs.Table.{tableAt, inRange, tableSize, tableRefusal, readTable, Accepted}
 use Rattle.records.specs.Transaction.{transactionsIn}
 use Rattle.records.proofs.Laws.{passes, read-was}
-use Rattle.rules.proofs.Ranges.{ranges}
+use Rattle.rules.specs.State.{Held}
+use Rattle.rules.proofs.Ranges.{ranges, held}
 use Rattle.heads.specs.Queue.{Listed}
 use Rattle.lists.specs.declared.check.Checked.{Checked}
 use Rattle.lists.specs.declared.check.Checked.the-variants.{Fine}
@@ -42,7 +43,7 @@ accepted-read s τ r =
   where
     taken : (size : ℕ) (t : Table) → tableRefusal size t ≡ 0 → Accepted t
     taken size t z =
-        let p = passes 1 (not (eqb size 32)) ((2, not (inRange t)) ∷ []) (λ k. omega arith) z in
+        let p = passes 1 (not (tableSize size)) ((2, not (inRange t)) ∷ []) (λ k. omega arith) z in
         let q = passes 2 (not (inRange t)) [] (λ k. omega arith) (p .1) in
         not-false (inRange t) (q .0)
 
@@ -89,8 +90,8 @@ by-length-many n τ x h e = rw (lt-leb n 256 h, e)
 pub told-accepted : (w : ℕ) (s : List ℕ) (a : TableRead) (τ : Table) → a ≡ admitted w s → a ≡ Read τ → Accepted τ
 told-accepted w s a τ e t = read-accepted w s τ (sym e ∙ t)
 
-pub told-banks : (w : ℕ) (s : List ℕ) (a : TableRead) (τ : Table) → a ≡ admitted w s → a ≡ Read τ → τ .banks ≤ 16
-told-banks w s a τ e t = ranges τ (told-accepted w s a τ e t) .banks .most
+pub told-held : (w : ℕ) (s : List ℕ) (a : TableRead) (τ : Table) → a ≡ admitted w s → a ≡ Read τ → Held τ
+told-held w s a τ e t = held τ (ranges τ (told-accepted w s a τ e t))
 
 -- what holds of one answer of `admit` holds of the table's bytes
 pub by-admitted : (P : TableRead → Type 0) (w : ℕ) (s : List ℕ) (a b : TableRead) → a ≡ admitted w s → a ≡ b → P b → P (admitted w s)

@@ -10,7 +10,7 @@ use Rattle.records.specs.declared.transaction.TransactionRead.{TransactionRead}
 use Rattle.records.specs.declared.transaction.TransactionRead.the-variants.{Read as TransactionIs, Refused as NoTransaction}
 use Rattle.records.specs.declared.command.CommandRead.{CommandRead}
 use Rattle.records.specs.declared.command.CommandRead.the-variants.{Read as CommandIs, Refused as NoCommand}
-use Rattle.records.specs.Table.{numbersOf}
+use Rattle.records.specs.Table.{groupNumbersOf}
 use Rattle.records.specs.Command.{kindNumber}
 use Rattle.rules.specs.declared.verdict.Rule.{Rule}
 use Rattle.rules.specs.declared.verdict.Rule.the-variants.{Range, Order, Opened, Precharge, Rc, Rrd, Faw, Rcd, Distance, End, Refresh, Rfc}
@@ -74,9 +74,9 @@ abbrev pub writtenNumbers : Written → Numbers
 writtenNumbers (Done e) = telling e []
 writtenNumbers (NotWritten x) = refusing x
 
--- a table read: its sixteen numbers
+-- a table read, of either size: its twenty numbers. Of 32 bytes the last four are one group and the short numbers again
 abbrev pub tableNumbers : TableRead → Numbers
-tableNumbers (TableIs τ) = telling (τ .edition) (numbersOf τ)
+tableNumbers (TableIs τ) = telling (τ .edition) (groupNumbersOf τ)
 tableNumbers (NoTable x) = refusing x
 
 -- a transaction read: type, start bank, BI, BC. No table is given: edition 0

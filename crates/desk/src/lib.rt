@@ -16,6 +16,7 @@ pub use commands::command::read_command;
 pub use commands::command::write_command;
 pub use judging::judge;
 pub use judging::judge_pattern;
+pub use records::group_table::write_group_table;
 pub use records::table::read_table;
 pub use records::table::write_table;
 pub use records::transaction::read_transaction;

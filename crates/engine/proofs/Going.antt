@@ -8,7 +8,7 @@ use mathlib.Core.Bool.{Bool, true, false, not, _&&_, _||_}
 use mathlib.Core.Option.{Option, none, some}
 use mathlib.Core.List.{List, [], _∷_, _++_, append-assoc, append-nil}
 use lib.Dec.{leb}
-use lib.ListN.{length, length-append}
+use lib.ListN.{length, length-append, getD}
 use borrow.Author.Tests.{leb-false}
 use Rattle.records.specs.Told.{over, putAt}
 use Rattle.records.specs.declared.table.Table.{Table}
@@ -18,6 +18,7 @@ use Rattle.records.proofs.Bytes.{length-over, over-more}
 use Rattle.records.proofs.Written.{bytes-append, length-bytes}
 use Rattle.rules.specs.declared.state.State.{State}
 use Rattle.rules.specs.Kinds.{isData, inActQueue}
+use Rattle.rules.specs.Square.{groupOf}
 use Rattle.rules.specs.State.{addIf, note, idle, after}
 use Rattle.rules.specs.Pattern.{onto}
 use Rattle.rules.specs.Queues.{actQueue, dataQueue}
@@ -33,7 +34,8 @@ use Rattle.heads.specs.Queue.{Listed, Placed, Stands, BothStand, actsLeft, data
 use Rattle.heads.proofs.Laws.{first, acts-due, datas-due}
 use Rattle.heads.proofs.Standing.{recount}
 use Rattle.timing.specs.declared.kept.Kept.{Kept}
-use Rattle.timing.specs.Kept.{told}
+use Rattle.timing.specs.declared.kept.KeptGroup.{KeptGroup}
+use Rattle.timing.specs.Kept.{told, quietKept}
 use Rattle.engine.specs.declared.run.Ran as Answer
 use Rattle.engine.specs.Run.{commandsLeft, Ready, Runs}
 use Rattle.engine.proofs.Laws.{Leaves, leaves}
@@ -70,14 +72,14 @@ put-more h c b₀ b k e q =
 -- a run only adds to what was written
 run-longer : (n : ℕ) (τ : Table) (bs : List ℕ) (m : ℕ) (s : State) (h : List Command) → length h ≤ length (run n τ (first bs m) s h .history)
 run-longer zero τ bs m s h = omega arith
-run-longer (suc n) τ bs m s h = on (stops τ (first bs m) s) refl (longer (goes τ (first bs m) s)) (run-longer n τ bs m (after s (goes τ (first bs m) s)) (push (goes τ (first bs m) s) h))
+run-longer (suc n) τ bs m s h = on (stops τ (first bs m) s) refl (longer (goes τ (first bs m) s)) (run-longer n τ bs m (after τ s (goes τ (first bs m) s)) (push (goes τ (first bs m) s) h))
   where
     longer : (o : Option Command) → length h ≤ length (push o h)
     longer none = omega arith
     longer (some c) = omega arith
 
     on : (b : Bool) → stops τ (first bs m) s ≡ b → length h ≤ length (push (goes τ (first bs m) s) h)
-        → length (push (goes τ (first bs m) s) h) ≤ length (run n τ (first bs m) (after s (goes τ (first bs m) s)) (push (goes τ (first bs m) s) h) .history)
+        → length (push (goes τ (first bs m) s) h) ≤ length (run n τ (first bs m) (after τ s (goes τ (first bs m) s)) (push (goes τ (first bs m) s) h) .history)
         → length h ≤ length (run (suc n) τ (first bs m) s h .history)
     on true e p q = rw (stopped (suc n) τ (first bs m) s h e) (omega arith)
     on false e p q = rw (going n τ (first bs m) s h e) (omega (arith, p, q))
@@ -93,6 +95,14 @@ pub record Going (τ : Table) (bs : List ℕ) (n : ℕ) (s₀ : State) (count : 
   pub buffer : b ≡ over (bytesOfAll (onto history [])) b₀
   pub capped : Capped (first bs n) s
   pub queues : BothStand τ bs n (s .acts) (s .datas) q
+
+-- and the groups of the banks of the two heads, by number and as they are kept
+pub record Turns (τ : Table) (bs : List ℕ) (n : ℕ) (s₀ : State) (count : ℕ) (b₀ b : List ℕ) (s : Kept) (q : Queues) (dg ag : ℕ) (gd ga : KeptGroup) (i k : ℕ) : Type 0 where
+  pub going : Going τ bs n s₀ count b₀ b (told s) q i k
+  pub ofData : (dg ≡ groupOf τ (q .datas .head .bank)) × (dg < τ .groups)
+  pub ofAct : (ag ≡ groupOf τ (q .acts .head .bank)) × (ag < τ .groups)
+  pub groupData : gd ≡ getD (s .groups) dg quietKept
+  pub groupAct : ga ≡ getD (s .groups) ag quietKept
 
 pub starts : {τ : Table} {bs : List ℕ} {n : ℕ} {s : State} {count : ℕ} {q : Queues} (b : List ℕ) → Ready τ bs n s count (length b)
     → BothStand τ bs n (s .acts) (s .datas) q → Going τ bs n s count b b s q 0 0
@@ -138,21 +148,21 @@ module _ {τ : Table} {bs : List ℕ} {n : ℕ} {s₀ : State} {count : ℕ} {b�
 
   -- one cycle further
   module _ (p : i < count) (e : still) (o : Option Command) (w : goes τ (first bs n) s ≡ o) where
-    on-whole : run count τ (first bs n) s₀ [] ≡ later (i + 1) (run (count - (i + 1)) τ (first bs n) (after s o) (push o (g .history)))
+    on-whole : run count τ (first bs n) s₀ [] ≡ later (i + 1) (run (count - (i + 1)) τ (first bs n) (after τ s o) (push o (g .history)))
     on-whole =
         g .whole ∙ (ap (λ (m : ℕ). later i (run m τ (first bs n) s (g .history))) one
         ∙ (ap (later i) (going (count - (i + 1)) τ (first bs n) s (g .history) e)
-        ∙ (ap (λ (y : Option Command). later i (oneMore (run (count - (i + 1)) τ (first bs n) (after s y) (push y (g .history))))) w
+        ∙ (ap (λ (y : Option Command). later i (oneMore (run (count - (i + 1)) τ (first bs n) (after τ s y) (push y (g .history))))) w
         ∙ ap (λ (c : ℕ). record { state = r .state; history = r .history; cycles = c }) (omega arith))))
       where
         one : count - i ≡ suc (count - (i + 1))
         one = omega arith
 
         r : Ran
-        r = run (count - (i + 1)) τ (first bs n) (after s o) (push o (g .history))
+        r = run (count - (i + 1)) τ (first bs n) (after τ s o) (push o (g .history))
 
-    on-capped : Capped (first bs n) (after s o)
-    on-capped = subst (λ (y : Option Command). Capped (first bs n) (after s y)) w (caps-step τ (first bs n) s (g .capped))
+    on-capped : Capped (first bs n) (after τ s o)
+    on-capped = subst (λ (y : Option Command). Capped (first bs n) (after τ s y)) w (caps-step τ (first bs n) s (g .capped))
 
   pub idles : i < count → still → goes τ (first bs n) s ≡ none → Going τ bs n s₀ count b₀ b (idle s) q (i + 1) k
   idles p e w =
@@ -196,7 +206,7 @@ module _ {τ : Table} {bs : List ℕ} {n : ℕ} {s₀ : State} {count : ℕ} {b�
   leaving = leaves τ bs n s (m .ready .list) c (m .goes)
 
   rooms : (length (c ∷ g .history) ≤ count) × (8 * length (c ∷ g .history) ≤ length b₀)
-  rooms = room g (i + 1) (after s (some c)) (c ∷ g .history) (m .ready) (on-whole g (m .more) (m .still) (some c) (m .goes))
+  rooms = room g (i + 1) (after τ s (some c)) (c ∷ g .history) (m .ready) (on-whole g (m .more) (m .still) (some c) (m .goes))
 
   -- what the functions that the loop calls ask for
   pub room-for : 8 * k + 8 ≤ length b
@@ -230,10 +240,10 @@ module _ {τ : Table} {bs : List ℕ} {n : ℕ} {s₀ : State} {count : ℕ} {b�
   data-left e r h = rw e (record { ofActs = g .queues .ofActs; ofDatas = recount (ap (λ (x : ℕ). x + 1) (g .queues .ofDatas .left)) h })
 
   abbrev next : State
-  next = note s (s .cycle) (c .kind) (c .bank)
+  next = note τ s (s .cycle) (c .kind) (c .bank)
 
-  noted : after s (some c) ≡ next
-  noted = ap (λ (t : ℕ). note s t (c .kind) (c .bank)) (leaving .cycle)
+  noted : after τ s (some c) ≡ next
+  noted = ap (λ (t : ℕ). note τ s t (c .kind) (c .bank)) (leaving .cycle)
 
   data-count : addIf (not (inActQueue (c .kind))) (s .datas) ≡ next .datas
   data-count = rw (← leaving .queue)

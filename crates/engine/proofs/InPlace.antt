@@ -2,10 +2,11 @@
 -- Assumes nothing.
 use Prim.Native.Nat.{ℕ, _+_, _*_, _<_}
 use mathlib.Core.Path.{_≡_, refl, sym, ap, _∙_, subst}
+use mathlib.Core.Logic.{_⊎_}
 use mathlib.Core.Bool.{Bool, true, false, not, _&&_, _||_}
 use mathlib.Core.Option.{none, some}
-use mathlib.Core.List.{List}
-use lib.Dec.{leb, ltb}
+use mathlib.Core.List.{List, map}
+use lib.Dec.{leb, ltb, eqb}
 use lib.ListN.{length, getD, set}
 use Rattle.records.specs.Tests.{pick}
 use Rattle.records.specs.Told.{putAt}
@@ -16,7 +17,8 @@ use Rattle.records.specs.declared.command.Command.{Command}
 use Rattle.records.specs.Command.{bytesOf}
 use Rattle.rules.specs.declared.state.State.{State}
 use Rattle.rules.specs.Kinds.{isAct, isWr, isRef, isData, inActQueue, isKnown}
-use Rattle.rules.specs.State.{past, addIf, rule11, idle}
+use Rattle.rules.specs.Square.{groupOf}
+use Rattle.rules.specs.State.{past, actsFar, dataFar, addIf, rule11, breaksNone, idle}
 use Rattle.rules.specs.Queues.{actQueue, dataQueue}
 use Rattle.rules.specs.CycleRule.{goes}
 use Rattle.rules.specs.Run.{stops}
@@ -25,11 +27,12 @@ use Rattle.heads.specs.declared.queue.Queues.{Queues}
 use Rattle.heads.specs.Queue.{BothStand}
 use Rattle.heads.proofs.Laws.{first}
 use Rattle.timing.specs.declared.kept.KeptBank.{KeptBank}
+use Rattle.timing.specs.declared.kept.KeptGroup.{KeptGroup}
 use Rattle.timing.specs.declared.kept.Kept.{Kept}
-use Rattle.timing.specs.Kept.{isClosing, stampOf, toldBank, told, shutKept, keptAfter}
-use Rattle.timing.proofs.Telling.{told-at, actKept, told-act, dataKept, told-data, refKept, told-ref}
+use Rattle.timing.specs.Kept.{isClosing, stampOf, toldBank, toldGroup, told, shutKept, quietKept, keptOpened, keptAfter, groupOpened, groupMoved}
+use Rattle.timing.proofs.Telling.{told-at, told-group, actKept, told-act, dataKept, told-data, refKept, told-ref}
 use Rattle.engine.specs.Choose.{commandOf, dataFree, actFree}
-use Rattle.engine.proofs.Laws.{goes-data, data-head-kind, goes-act, act-head-kind, goes-ref}
+use Rattle.engine.proofs.Laws.{all-data, all-act, goes-data, data-head-kind, goes-act, act-head-kind, goes-ref}
 use Rattle.engine.proofs.Going.{Going, early, stops-is, idles, Moving, note-asked, moves}
 
 -- the tests of the loop are those of what the state tells
@@ -75,6 +78,13 @@ ref-queues Wra e = e
 ref-queues Ref e = refl
 ref-queues (Other n) e = e
 
+-- the two tests, by every rule: of the data queue's head, and of the ACT queue's
+abbrev pub data? : Table → Kept → Head → Bool
+data? τ s d = d .there && (ltb (d .act) (s .acts) && breaksNone τ (told s) (commandOf d (s .cycle)))
+
+abbrev pub act? : Table → Kept → Head → Bool
+act? τ s a = a .there && breaksNone τ (told s) (commandOf a (s .cycle))
+
 -- what goes, and its kind
 module _ (τ : Table) (bs : List ℕ) (n : ℕ) (s : Kept) (q : Queues) (h : BothStand τ bs n (told s .acts) (told s .datas) q) where
   abbrev a : Head
@@ -83,35 +93,42 @@ module _ (τ : Table) (bs : List ℕ) (n : ℕ) (s : Kept) (q : Queues) (h : Bot
   abbrev d : Head
   d = q .datas .head
 
-  abbrev data? : Bool
-  data? = d .there && (ltb (d .act) (s .acts) && dataFree τ (toldBank (getD (s .banks) (d .bank) shutKept)) (stampOf (s .rd)) (stampOf (s .wr)) (commandOf d (s .cycle)))
+  -- the two tests as code made them: x by the own group, g, z whether the other groups were asked, y what was found of them, v both
+  module _ (g : ℕ) (own : KeptGroup) (kept : own ≡ getD (s .groups) g quietKept) (x z y v : Bool) where
+    pub kept-moves : (g ≡ groupOf τ (d .bank)) × (g < τ .groups)
+        → x ≡ (d .there && (ltb (d .act) (s .acts) && dataFree τ (toldBank (getD (s .banks) (d .bank) shutKept)) (toldGroup own) (commandOf d (s .cycle))))
+        → z ≡ (x && not (eqb (τ .groups) 1)) → ((z ≡ true) × (y ≡ dataFar τ (map toldGroup (s .groups)) g (isWr (d .kind)) (s .cycle))) ⊎ ((z ≡ false) × (y ≡ true))
+        → v ≡ (x && y) → v ≡ data? τ s d
+    unfolding told
+    kept-moves e p o r w = w ∙ all-data τ bs n (told s) q h g x y e (rw (told-at s (d .bank), told-group s g, ← kept) p) (rw o at r)
 
-  abbrev act? : Bool
-  act? = a .there && actFree τ (toldBank (getD (s .banks) (a .bank) shutKept)) (stampOf (s .a1)) (stampOf (s .a4)) (stampOf (s .refresh)) (commandOf a (s .cycle))
+    pub kept-opens : isRef (a .kind) ≡ false → (g ≡ groupOf τ (a .bank)) × (g < τ .groups)
+        → x ≡ (a .there && actFree τ (toldBank (getD (s .banks) (a .bank) shutKept)) (toldGroup own) (stampOf (s .a4)) (stampOf (s .refresh)) (commandOf a (s .cycle)))
+        → z ≡ (x && not (eqb (τ .groups) 1)) → ((z ≡ true) × (y ≡ actsFar τ (map toldGroup (s .groups)) g (s .cycle))) ⊎ ((z ≡ false) × (y ≡ true))
+        → v ≡ (x && y) → v ≡ act? τ s a
+    unfolding told
+    kept-opens f e p o r w = w ∙ all-act τ bs n (told s) q h g x y f e (rw (told-at s (a .bank), told-group s g, ← kept) p) (rw o at r)
 
-  module _ (x : Bool) (p : x ≡ data?) where
+  module _ (x : Bool) (p : x ≡ data? τ s d) where
     pub kept-data : x ≡ true → (goes τ (first bs n) (told s) ≡ some (commandOf d (s .cycle))) × (isData (d .kind) ≡ true)
     unfolding told
-    kept-data e = (
-      goes-data τ bs n (told s) q h x (rw (told-at s (d .bank)) p) e,
-      data-head-kind τ bs n (told s) q h x (rw (told-at s (d .bank)) p) e,
-    )
+    kept-data e = (goes-data τ bs n (told s) q h x p e, data-head-kind τ bs n (told s) q h x p e)
 
     module _ (e : x ≡ false) (k : Bool) (is-ref : k ≡ isRef (a .kind)) (z : Bool) where
-      module _ (w : k ≡ false) (r : z ≡ act?) where
+      module _ (w : k ≡ false) (r : z ≡ act? τ s a) where
         pub kept-act : goes τ (first bs n) (told s) ≡ pick z (some (commandOf a (s .cycle))) none
         unfolding told
-        kept-act = goes-act τ bs n (told s) q h x (rw (told-at s (d .bank)) p) e z (sym is-ref ∙ w) (rw (told-at s (a .bank)) r)
+        kept-act = goes-act τ bs n (told s) q h x p e z r
 
         pub kept-act-kind : z ≡ true → isAct (a .kind) ≡ true
         unfolding told
-        kept-act-kind v = act-head-kind τ bs n (told s) q h x (rw (told-at s (d .bank)) p) e z (sym is-ref ∙ w) (rw (told-at s (a .bank)) r) v
+        kept-act-kind v = act-head-kind τ bs n (told s) q h x p e z r (sym is-ref ∙ w) v
 
       -- a REF that keeps rule 12 goes or not, as the banks are at rest or not; one that does not keep it does not go
       module _ (w : k ≡ true) (r : z ≡ (a .there && past (stampOf (s .refresh)) (τ .rfc) (s .cycle))) where
         by-rest : (y : Bool) → y ≡ rule11 τ (told s) (s .cycle) → goes τ (first bs n) (told s) ≡ pick (z && y) (some (commandOf a (s .cycle))) none
         unfolding told
-        by-rest y v = goes-ref τ bs n (told s) q h x (rw (told-at s (d .bank)) p) e (sym is-ref ∙ w) z r y v
+        by-rest y v = goes-ref τ bs n (told s) q h x p e (sym is-ref ∙ w) z r y v
 
         pub kept-ref : z ≡ true → (y y' : Bool) → y ≡ rule11 τ (told s) (s .cycle) → y ≡ y' → goes τ (first bs n) (told s) ≡ pick y' (some (commandOf a (s .cycle))) none
         kept-ref i y y' v f = by-rest y v ∙ (ap (λ (b : Bool). pick (b && y) (some (commandOf a (s .cycle))) none) i ∙ ap (λ (b : Bool). pick b (some (commandOf a (s .cycle))) none) f)
@@ -132,14 +149,13 @@ atCycle s c =
       a2 = s .a2;
       a3 = s .a3;
       a4 = s .a4;
-      rd = s .rd;
-      wr = s .wr;
+      groups = s .groups;
       refresh = s .refresh;
     }
 
--- the state after a data command, whose parts are given
-abbrev pub stored : Kept → ℕ → ℕ → KeptBank → ℕ → ℕ → Kept
-stored s next b kb rd wr =
+-- the state after a data command, and after an ACT, whose parts are given
+abbrev pub stored : Kept → ℕ → ℕ → KeptBank → ℕ → KeptGroup → Kept
+stored s next b kb g kg =
     record {
       edition = s .edition;
       cycle = next;
@@ -150,8 +166,23 @@ stored s next b kb rd wr =
       a2 = s .a2;
       a3 = s .a3;
       a4 = s .a4;
-      rd = rd;
-      wr = wr;
+      groups = set (s .groups) g kg;
+      refresh = s .refresh;
+    }
+
+abbrev pub opened : Kept → ℕ → ℕ → ℕ → KeptGroup → Kept
+opened s next b g kg =
+    record {
+      edition = s .edition;
+      cycle = next;
+      acts = s .acts + 1;
+      datas = s .datas;
+      banks = set (s .banks) b (keptOpened next);
+      a1 = next;
+      a2 = s .a1;
+      a3 = s .a2;
+      a4 = s .a3;
+      groups = set (s .groups) g kg;
       refresh = s .refresh;
     }
 
@@ -174,26 +205,31 @@ module _ {τ : Table} {bs : List ℕ} {n : ℕ} {s₀ : State} {count : ℕ} {b�
     kept-asked = note-asked m
 
     module _ (q' : Queues) (h : BothStand τ bs n (addIf (inActQueue (c .kind)) (told s .acts)) (addIf (not (inActQueue (c .kind))) (told s .datas)) q') where
-      pub act-moves : isAct (c .kind) ≡ true → Going τ bs n s₀ count b₀ (putAt b (8 * k) (bytesOf c)) (told (actKept s (s .cycle + 1) (c .bank))) q' (i + 1) (k + 1)
+      act-moves : isAct (c .kind) ≡ true
+          → Going τ bs n s₀ count b₀ (putAt b (8 * k) (bytesOf c)) (told (actKept s (s .cycle + 1) (c .bank) (groupOf τ (c .bank)))) q' (i + 1) (k + 1)
       unfolding told
       act-moves a =
-          subst (λ (z : State). Going τ bs n s₀ count b₀ (putAt b (8 * k) (bytesOf c)) z q' (i + 1) (k + 1)) (sym (told-act s (c .kind) (s .cycle) (c .bank) a)) (moves m q' h)
+          subst (λ (z : State). Going τ bs n s₀ count b₀ (putAt b (8 * k) (bytesOf c)) z q' (i + 1) (k + 1)) (sym (told-act τ s (c .kind) (s .cycle) (c .bank) a)) (moves m q' h)
 
       pub ref-moves : isRef (c .kind) ≡ true → Going τ bs n s₀ count b₀ (putAt b (8 * k) (bytesOf c)) (told (refKept s (s .cycle + 1))) q' (i + 1) (k + 1)
       unfolding told
       ref-moves a =
-          subst (λ (z : State). Going τ bs n s₀ count b₀ (putAt b (8 * k) (bytesOf c)) z q' (i + 1) (k + 1)) (sym (told-ref s (c .kind) (s .cycle) (c .bank) a)) (moves m q' h)
+          subst (λ (z : State). Going τ bs n s₀ count b₀ (putAt b (8 * k) (bytesOf c)) z q' (i + 1) (k + 1)) (sym (told-ref τ s (c .kind) (s .cycle) (c .bank) a)) (moves m q' h)
 
-      pub data-moves : isData (c .kind) ≡ true
-          → Going τ bs n s₀ count b₀ (putAt b (8 * k) (bytesOf c)) (told (dataKept s (isWr (c .kind)) (isClosing (c .kind)) (s .cycle + 1) (c .bank))) q' (i + 1) (k + 1)
+      data-moves : isData (c .kind) ≡ true
+          → Going τ bs n s₀ count b₀ (putAt b (8 * k) (bytesOf c)) (told (dataKept s (isWr (c .kind)) (isClosing (c .kind)) (s .cycle + 1) (c .bank) (groupOf τ (c .bank)))) q' (i + 1) (k + 1)
       unfolding told
       data-moves e =
           subst (λ (z : State). Going τ bs n s₀ count b₀ (putAt b (8 * k) (bytesOf c)) z q' (i + 1) (k + 1))
-          (sym (told-data s (c .kind) (s .cycle) (c .bank) (data-known (c .kind) e) (data-only (c .kind) e .1) (data-only (c .kind) e .2))) (moves m q' h)
+          (sym (told-data τ s (c .kind) (s .cycle) (c .bank) (data-known (c .kind) e) (data-only (c .kind) e .1) (data-only (c .kind) e .2))) (moves m q' h)
 
       -- the same by what the calls gave
-      pub data-stored : (w z : Bool) (kb : KeptBank) (rd wr : ℕ) (b' : List ℕ) → w ≡ isWr (c .kind) → z ≡ isClosing (c .kind)
-          → kb ≡ keptAfter (getD (s .banks) (c .bank) shutKept) w z (s .cycle + 1) → rd ≡ pick w (s .rd) (s .cycle + 1) → wr ≡ pick w (s .cycle + 1) (s .wr)
-          → b' ≡ putAt b (8 * k) (bytesOf c) → isData (c .kind) ≡ true
-          → Going τ bs n s₀ count b₀ b' (told (stored s (s .cycle + 1) (c .bank) kb rd wr)) q' (i + 1) (k + 1)
-      data-stored w z kb rd wr b' ew ez ek er es eb e = rw (eb, es, er, ek, ez, ew) (data-moves e)
+      module _ (g : ℕ) (eg : g ≡ groupOf τ (c .bank)) (kg : KeptGroup) (b' : List ℕ) (eb : b' ≡ putAt b (8 * k) (bytesOf c)) where
+        pub act-stored : kg ≡ groupOpened (getD (s .groups) g quietKept) (s .cycle + 1) → isAct (c .kind) ≡ true
+            → Going τ bs n s₀ count b₀ b' (told (opened s (s .cycle + 1) (c .bank) g kg)) q' (i + 1) (k + 1)
+        act-stored ek e = rw (eb, ek, eg) (act-moves e)
+
+        pub data-stored : (w z : Bool) (kb : KeptBank) → w ≡ isWr (c .kind) → z ≡ isClosing (c .kind) → kb ≡ keptAfter (getD (s .banks) (c .bank) shutKept) w z (s .cycle + 1)
+            → kg ≡ groupMoved (getD (s .groups) g quietKept) w (s .cycle + 1) → isData (c .kind) ≡ true
+            → Going τ bs n s₀ count b₀ b' (told (stored s (s .cycle + 1) (c .bank) kb g kg)) q' (i + 1) (k + 1)
+        data-stored w z kb ew ez er ek e = rw (eb, ek, eg, er, ez, ew) (data-moves e)

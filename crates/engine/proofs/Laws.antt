@@ -7,22 +7,20 @@ use mathlib.Core.Bool.{Bool, true, false, not, _&&_}
 use mathlib.Core.Option.{Option, none, some, Option·map}
 use mathlib.Core.List.{List}
 use lib.Dec.{ltb, eqb}
-use Rattle.records.specs.Tests.{pick, allOf}
+use Rattle.records.specs.Tests.{pick}
 use Rattle.records.specs.declared.table.Table.{Table}
 use Rattle.records.specs.declared.transaction.Transaction.{Transaction}
 use Rattle.records.specs.declared.command.Kind.{Kind}
 use Rattle.records.specs.declared.command.Kind.the-variants.{Act, Rd, Rda, Wr, Wra, Ref, Other}
 use Rattle.records.specs.declared.command.Command.{Command}
 use Rattle.records.specs.Transaction.{isWrite}
-use Rattle.records.specs.Command.{command}
-use Rattle.rules.specs.declared.state.Stamp.{Stamp}
-use Rattle.rules.specs.declared.state.Bank.{Bank}
 use Rattle.rules.specs.declared.state.State.{State}
 use Rattle.rules.specs.Kinds.{isAct, isWr, isRef, isData, inActQueue}
-use Rattle.rules.specs.State.{bankOf, rule11, rule12, dataTests, testsBy, breaksNone}
-use Rattle.rules.specs.Queues.{Due, dueAt, actCount, actQueue, dataQueue, headAfter}
+use Rattle.rules.specs.Square.{groupOf}
+use Rattle.rules.specs.State.{bankOf, groupAt, actsFar, dataFar, rule11, rule12, breaksNone}
+use Rattle.rules.specs.Queues.{Due, actCount, actQueue, dataQueue, headAfter}
 use Rattle.rules.specs.CycleRule.{hadAct, legalAt, otherwise, goes}
-use Rattle.rules.proofs.TestLaws.{true-false, and-fst, OnSome}
+use Rattle.rules.proofs.TestLaws.{and-fst, OnSome}
 use Rattle.rules.proofs.Ranges.{ranges}
 use Rattle.rules.proofs.Fit.{AllFit, Inside, place-at, act-bank, data-bank}
 use Rattle.rules.proofs.DataKinds.{is-data, not-in-acts, act-queued, act-no-data}
@@ -34,6 +32,7 @@ use Rattle.heads.specs.Head.{dueOf}
 use Rattle.heads.specs.Queue.{Listed, BothStand}
 use Rattle.heads.proofs.Laws.{first, first-fits}
 use Rattle.engine.specs.Choose.{commandOf, dataFree, actFree}
+use Rattle.engine.proofs.Tried.{Asked, apart, ref-rules, data-all, act-all}
 
 -- ---- a head that is tried
 
@@ -59,87 +58,22 @@ module _ (f : Command → Bool) (t : ℕ) (h : Head) where
       on true = had (ltb (h .act) acts)
       on false = refl
 
--- the cycle rule for the heads a and d, the latter to the bank kd, at cycle t, when `acts` have left the ACT queue; f tests its head
-abbrev chosen : (Command → Bool) → Table → Head → Head → Bank → Stamp → Stamp → ℕ → ℕ → Option Command
-chosen f τ a d kd rd wr acts t = otherwise (legalAt (dataFree τ kd rd wr) t (hadAct acts (dueOf d))) (legalAt f t (dueOf a))
+-- the cycle rule for the heads a and d, at cycle t, when `acts` have left the ACT queue; f tests a head
+abbrev chosen : (Command → Bool) → Head → Head → ℕ → ℕ → Option Command
+chosen f a d acts t = otherwise (legalAt f t (hadAct acts (dueOf d))) (legalAt f t (dueOf a))
 
 -- what is chosen, by the two tests in the order of the code
-module _ (f : Command → Bool) (τ : Table) (a d : Head) (kd : Bank) (rd wr : Stamp) (acts t : ℕ) (x : Bool)
-    (p : x ≡ (d .there && (ltb (d .act) acts && dataFree τ kd rd wr (commandOf d t)))) where
-  chosen-data : x ≡ true → some (commandOf d t) ≡ chosen f τ a d kd rd wr acts t
+module _ (f : Command → Bool) (a d : Head) (acts t : ℕ) (x : Bool) (p : x ≡ (d .there && (ltb (d .act) acts && f (commandOf d t)))) where
+  chosen-data : x ≡ true → some (commandOf d t) ≡ chosen f a d acts t
   chosen-data q =
       sym (ap (λ (o : Option Command). otherwise o (legalAt f t (dueOf a)))
-      (tried-data (dataFree τ kd rd wr) t d acts ∙ ap (λ (y : Bool). pick y (some (commandOf d t)) none) (sym p ∙ q)))
+      (tried-data f t d acts ∙ ap (λ (y : Bool). pick y (some (commandOf d t)) none) (sym p ∙ q)))
 
-  chosen-act : x ≡ false → (z : Bool) → z ≡ (a .there && f (commandOf a t)) → pick z (some (commandOf a t)) none ≡ chosen f τ a d kd rd wr acts t
+  chosen-act : x ≡ false → (z : Bool) → z ≡ (a .there && f (commandOf a t)) → pick z (some (commandOf a t)) none ≡ chosen f a d acts t
   chosen-act q z r =
       sym (ap (λ (o : Option Command). otherwise o (legalAt f t (dueOf a)))
-      (tried-data (dataFree τ kd rd wr) t d acts ∙ ap (λ (y : Bool). pick y (some (commandOf d t)) none) (sym p ∙ q))
+      (tried-data f t d acts ∙ ap (λ (y : Bool). pick y (some (commandOf d t)) none) (sym p ∙ q))
       ∙ (tried-act f t a ∙ ap (λ (y : Bool). pick y (some (commandOf a t)) none) (sym r)))
-
--- ---- by what a state tells
-
-module _ (τ : Table) (s : State) (t : ℕ) where
-  -- the rules of a data command, and of an ACT, are those of its bank and its type
-  data-rules : (k : Kind) (b : ℕ) → isData k ≡ true → testsBy τ s k t b ≡ dataTests τ s (isWr k) t b
-  data-rules Act b e = true-false false e refl
-  data-rules Rd b e = refl
-  data-rules Rda b e = refl
-  data-rules Wr b e = refl
-  data-rules Wra b e = refl
-  data-rules Ref b e = true-false false e refl
-  data-rules (Other n) b e = true-false false e refl
-
-  abbrev SameLegal : (Command → Bool) → Due → Type 0
-  SameLegal f x = f (dueAt t x) ≡ breaksNone τ s (dueAt t x)
-
-  legal-same : (f : Command → Bool) (o : Option Due) → OnSome (SameLegal f) o → legalAt f t o ≡ legalAt (breaksNone τ s) t o
-  legal-same f none e = refl
-  legal-same f (some x) e = ap (λ (y : Bool). pick y (some (dueAt t x)) none) e
-
-  had-same : (P : Due → Type 0) (acts : ℕ) (o : Option Due) → OnSome P o → OnSome P (hadAct acts o)
-  had-same P acts none u = tt
-  had-same P acts (some x) u = on (ltb (x .act) acts)
-    where
-      on : (y : Bool) → OnSome P (pick y (some x) none)
-      on true = u
-      on false = tt
-
-  -- of what a head stands for
-  of-head : (P Q : Due → Type 0) (x : Bool) (d : Due) → (P d → Q d) → OnSome P (pick x (some d) none) → OnSome Q (pick x (some d) none)
-  of-head P Q true d f u = f u
-  of-head P Q false d f u = tt
-
-  data-legal : (h : Head) → OnSome (λ x. isData (x .kind) ≡ true) (dueOf h) → OnSome (SameLegal (dataFree τ (bankOf s (h .bank)) (s .rd) (s .wr))) (dueOf h)
-  data-legal h u =
-      of-head (λ x. isData (x .kind) ≡ true) (SameLegal (dataFree τ (bankOf s (h .bank)) (s .rd) (s .wr))) (h .there)
-      (record { kind = h .kind; bank = h .bank; number = h .number; act = h .act }) (λ e. sym (ap allOf (data-rules (h .kind) (h .bank) e))) u
-
-  -- the rules of an ACT, and of a REF, by what the state tells
-  act-rules : (k : Kind) (b i : ℕ) → inActQueue k ≡ true → isRef k ≡ false
-      → actFree τ (bankOf s b) (s .a1) (s .a4) (s .refresh) (command t k b i) ≡ breaksNone τ s (command t k b i)
-  act-rules Act b i e f = refl
-  act-rules Rd b i e f = true-false false e refl
-  act-rules Rda b i e f = true-false false e refl
-  act-rules Wr b i e f = true-false false e refl
-  act-rules Wra b i e f = true-false false e refl
-  act-rules Ref b i e f = true-false true refl f
-  act-rules (Other n) b i e f = true-false false e refl
-
-  ref-rules : (k : Kind) (b i : ℕ) → isRef k ≡ true → (rule12 τ s t && rule11 τ s t) ≡ breaksNone τ s (command t k b i)
-  ref-rules Act b i e = true-false false e refl
-  ref-rules Rd b i e = true-false false e refl
-  ref-rules Rda b i e = true-false false e refl
-  ref-rules Wr b i e = true-false false e refl
-  ref-rules Wra b i e = true-false false e refl
-  ref-rules Ref b i e = turned (rule12 τ s t) (rule11 τ s t)
-    where
-      turned : (x y : Bool) → (x && y) ≡ (y && (x && true))
-      turned true true = refl
-      turned true false = refl
-      turned false true = refl
-      turned false false = refl
-  ref-rules (Other n) b i e = true-false false e refl
 
 -- the kinds of what stands in the queues
 data-kinds : (τ : Table) (l : List Transaction) (n : ℕ) → OnSome (λ x. isData (x .kind) ≡ true) (headAfter (dataQueue τ l) n)
@@ -155,10 +89,6 @@ act-kinds τ l n = rw (act-head τ l n) (on (actPlace l n))
     on : (o : Option Place) → OnSome (λ x. inActQueue (x .kind) ≡ true) (Option·map (actDue τ) o)
     on none = tt
     on (some p) = act-queued (p .transaction)
-
-there-same : (x u v : Bool) → (x ≡ true → u ≡ v) → (x && u) ≡ (x && v)
-there-same true u v e = e refl
-there-same false u v e = refl
 
 act-kind : (k : Kind) → inActQueue k ≡ true → isRef k ≡ false → isAct k ≡ true
 act-kind Act e f = refl
@@ -176,16 +106,8 @@ there P h e u = subst (λ (b : Bool). OnSome P (pick b (some (record { kind = h 
 module _ (τ : Table) (bs : List ℕ) (n : ℕ) (s : State) where
   -- what is chosen of the heads of the queues is what goes
   goes-chosen : (q : Queues) → BothStand τ bs n (s .acts) (s .datas) q
-      → chosen (breaksNone τ s) τ (q .acts .head) (q .datas .head) (bankOf s (q .datas .head .bank)) (s .rd) (s .wr) (s .acts) (s .cycle) ≡ goes τ (first bs n) s
-  goes-chosen q h =
-      let a = h .ofActs .head in
-      let d = h .ofDatas .head in
-      rw (
-        ← a,
-        ← d,
-        legal-same τ s (s .cycle) (dataFree τ (bankOf s (q .datas .head .bank)) (s .rd) (s .wr)) (hadAct (s .acts) (dueOf (q .datas .head)))
-            (had-same τ s (s .cycle) _ (s .acts) (dueOf (q .datas .head)) (data-legal τ s (s .cycle) (q .datas .head) (rw d (data-kinds τ (first bs n) (s .datas))))),
-      )
+      → chosen (breaksNone τ s) (q .acts .head) (q .datas .head) (s .acts) (s .cycle) ≡ goes τ (first bs n) s
+  goes-chosen q h = rw (← h .ofActs .head, ← h .ofDatas .head)
 
   -- a command that goes: its cycle, its bank, and the queue that it leaves
   pub record Leaves (c : Command) : Type 0 where
@@ -228,44 +150,49 @@ module _ (τ : Table) (bs : List ℕ) (n : ℕ) (s : State) where
     queued : a .there ≡ true → inActQueue (a .kind) ≡ true
     queued e = there (λ k. inActQueue (k .kind) ≡ true) a e (rw (h .ofActs .head) (act-kinds τ (first bs n) (s .acts)))
 
-    module _ (x : Bool) (p : x ≡ (d .there && (ltb (d .act) (s .acts) && dataFree τ (bankOf s (d .bank)) (s .rd) (s .wr) (commandOf d (s .cycle))))) where
+    -- and at that of the data queue a data command
+    moved : d .there ≡ true → isData (d .kind) ≡ true
+    moved e = there (λ k. isData (k .kind) ≡ true) d e (rw (h .ofDatas .head) (data-kinds τ (first bs n) (s .datas)))
+
+    -- the two tests: all rules, asked of the own group first
+    abbrev pub data? : Bool
+    data? = d .there && (ltb (d .act) (s .acts) && breaksNone τ s (commandOf d (s .cycle)))
+
+    abbrev pub act? : Bool
+    act? = a .there && breaksNone τ s (commandOf a (s .cycle))
+
+    module _ (g : ℕ) (x y : Bool) where
+      pub all-data : (g ≡ groupOf τ (d .bank)) × (g < τ .groups)
+          → x ≡ (d .there && (ltb (d .act) (s .acts) && dataFree τ (bankOf s (d .bank)) (groupAt s g) (commandOf d (s .cycle))))
+          → Asked (τ .groups) x y (dataFar τ (s .groups) g (isWr (d .kind)) (s .cycle)) → (x && y) ≡ data?
+      all-data e = data-all τ s (s .cycle) d g (e .0) (e .1) x y (s .acts) moved
+
+      pub all-act : isRef (a .kind) ≡ false → (g ≡ groupOf τ (a .bank)) × (g < τ .groups)
+          → x ≡ (a .there && actFree τ (bankOf s (a .bank)) (groupAt s g) (s .a4) (s .refresh) (commandOf a (s .cycle)))
+          → Asked (τ .groups) x y (actsFar τ (s .groups) g (s .cycle)) → (x && y) ≡ act?
+      all-act f e = act-all τ s (s .cycle) a g (e .0) (e .1) x y queued f
+
+    module _ (x : Bool) (p : x ≡ data?) where
       pub goes-data : x ≡ true → goes τ (first bs n) s ≡ some (commandOf d (s .cycle))
-      goes-data e = sym (chosen-data (breaksNone τ s) τ a d (bankOf s (d .bank)) (s .rd) (s .wr) (s .acts) (s .cycle) x p e ∙ goes-chosen q h)
+      goes-data e = sym (chosen-data (breaksNone τ s) a d (s .acts) (s .cycle) x p e ∙ goes-chosen q h)
 
       pub data-head-kind : x ≡ true → isData (d .kind) ≡ true
-      data-head-kind e = there (λ k. isData (k .kind) ≡ true) d (and-fst (d .there) _ (sym p ∙ e)) (rw (h .ofDatas .head) (data-kinds τ (first bs n) (s .datas)))
+      data-head-kind e = moved (and-fst (d .there) _ (sym p ∙ e))
 
-      module _ (e : x ≡ false) (z : Bool) where
-        goes-by : z ≡ (a .there && breaksNone τ s (commandOf a (s .cycle))) → goes τ (first bs n) s ≡ pick z (some (commandOf a (s .cycle))) none
-        goes-by r = sym (chosen-act (breaksNone τ s) τ a d (bankOf s (d .bank)) (s .rd) (s .wr) (s .acts) (s .cycle) x p e z r ∙ goes-chosen q h)
-
-        -- the head of the ACT queue is no REF: an ACT, or nothing
-        module _ (w : isRef (a .kind) ≡ false) (r : z ≡ (a .there && actFree τ (bankOf s (a .bank)) (s .a1) (s .a4) (s .refresh) (commandOf a (s .cycle)))) where
+      module _ (e : x ≡ false) where
+        -- the head of the ACT queue, as a test z of it comes out
+        module _ (z : Bool) (r : z ≡ act?) where
           pub goes-act : goes τ (first bs n) s ≡ pick z (some (commandOf a (s .cycle))) none
-          goes-act = goes-by (r ∙ there-same (a .there) _ _ (λ v. act-rules τ s (s .cycle) (a .kind) (a .bank) (a .number) (queued v) w))
+          goes-act = sym (chosen-act (breaksNone τ s) a d (s .acts) (s .cycle) x p e z r ∙ goes-chosen q h)
 
-          pub act-head-kind : z ≡ true → isAct (a .kind) ≡ true
-          act-head-kind v = act-kind (a .kind) (queued (and-fst (a .there) _ (sym r ∙ v))) w
+          -- it is no REF: an ACT, or nothing
+          pub act-head-kind : isRef (a .kind) ≡ false → z ≡ true → isAct (a .kind) ≡ true
+          act-head-kind w v = act-kind (a .kind) (queued (and-fst (a .there) _ (sym r ∙ v))) w
 
-      -- it is a REF, which keeps rule 12 or not; y tells of rule 11
-      module _ (e : x ≡ false) (w : isRef (a .kind) ≡ true) (z : Bool) (r : z ≡ (a .there && rule12 τ s (s .cycle))) where
-        pub goes-ref : (y : Bool) → y ≡ rule11 τ s (s .cycle) → goes τ (first bs n) s ≡ pick (z && y) (some (commandOf a (s .cycle))) none
-        goes-ref y v =
-            goes-by e (z && y) (ap (λ (b : Bool). b && y) r ∙ (ap (λ (b : Bool). (a .there && rule12 τ s (s .cycle)) && b) v
-            ∙ (apart (a .there) (rule12 τ s (s .cycle)) (rule11 τ s (s .cycle))
-            ∙ ap (λ (b : Bool). a .there && b) (ref-rules τ s (s .cycle) (a .kind) (a .bank) (a .number) w))))
-          where
-            apart : (h k m : Bool) → ((h && k) && m) ≡ (h && (k && m))
-            apart true k m = refl
-            apart false k m = refl
-
--- tests that stop at the first that fails
-pub and-both : (x y z : Bool) → (x && y) ≡ true → z ≡ (x && (y && z))
-and-both true true z e = refl
-and-both true false z e = true-false false e refl
-and-both false y z e = true-false false e refl
-
-pub and-neither : (x y z : Bool) → (x && y) ≡ false → false ≡ (x && (y && z))
-and-neither true true z e = true-false true refl e
-and-neither true false z e = refl
-and-neither false y z e = refl
+        -- it is a REF, which keeps rule 12 or not; y tells of rule 11
+        module _ (w : isRef (a .kind) ≡ true) (z : Bool) (r : z ≡ (a .there && rule12 τ s (s .cycle))) where
+          pub goes-ref : (y : Bool) → y ≡ rule11 τ s (s .cycle) → goes τ (first bs n) s ≡ pick (z && y) (some (commandOf a (s .cycle))) none
+          goes-ref y v =
+              goes-act (z && y) (ap (λ (b : Bool). b && y) r ∙ (ap (λ (b : Bool). (a .there && rule12 τ s (s .cycle)) && b) v
+              ∙ (apart (a .there) (rule12 τ s (s .cycle)) (rule11 τ s (s .cycle))
+              ∙ ap (λ (b : Bool). a .there && b) (ref-rules τ s (s .cycle) (a .kind) (a .bank) (a .number) w))))

@@ -1,3 +1,4 @@
+pub mod Tried
 pub mod Laws
 pub mod Going
 pub mod InPlace

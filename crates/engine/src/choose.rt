@@ -1,21 +1,23 @@
-// What goes at a cycle. The tests take the two heads, their banks and the stamps that the rules read, never the whole state.
+// What goes at a cycle. The tests take the two heads, their banks, their banks' groups and the stamps that the rules read, never the whole
+// state. Of the groups they ask the head's own: the others are asked after it, where all else lets the command go.
 use heads::head::Head;
 use records::command::Command;
 use records::table::Table;
 use records::tests::both_of;
 use timing::kept::KeptBank;
+use timing::kept::KeptGroup;
 use timing::kept::kept_act_free;
 use timing::kept::kept_data_free;
 use timing::kept::since;
 use timing::kinds::is_wr;
 use timing::square::wide;
 ghost use mathlib.Core.Path.{_≡_};
-ghost use mathlib.Core.Bool.{_&&_};
+ghost use mathlib.Core.Bool.{true, _&&_};
 ghost use Prim.Native.Nat.{_<_};
 ghost use lib.Dec.{ltb};
 ghost use Rattle.rules.specs.Square.{square};
 ghost use Rattle.rules.specs.State.{past};
-ghost use Rattle.timing.specs.Kept.{stampOf, toldBank};
+ghost use Rattle.timing.specs.Kept.{stampOf, toldBank, toldGroup};
 ghost use Rattle.engine.specs.Choose.{commandOf, dataFree, actFree};
 
 // The command of a head, at cycle c.
@@ -32,33 +34,43 @@ pub fn command_of(h: Head, c: u64) -> Command
     }
 }
 
-// The data queue's head has had its ACT and breaks no rule at cycle c.
+// The data queue's head has had its ACT and breaks no rule at cycle c by its own group.
 pub fn data_goes(
     t: Table,
-    far: [[u32; 2]; 2],
+    near: [[u32; 2]; 2],
     d: Head,
     k: KeptBank,
-    rd: u64,
-    wr: u64,
+    own: KeptGroup,
     acts: u32,
     c: u64,
 ) -> bool
-    requires { ⌜ far ≡ square t ⌝ }
-    ensures { λ r. ⌜ r ≡ (d .there && (ltb (d .act) acts && dataFree t (toldBank k) (stampOf rd) (stampOf wr) (commandOf d c))) ⌝ }
+    requires { ⌜ near ≡ square t true ⌝ }
+    ensures { λ r. ⌜ r ≡ (d .there && (ltb (d .act) acts && dataFree t (toldBank k) (toldGroup own) (commandOf d c))) ⌝ }
 {
-    if both_of(d.there, d.act < acts) {
-        let kind = d.kind;
-        return kept_data_free(t, far, k, rd, wr, is_wr(kind), c);
+    if d.there {
+        if d.act < acts {
+            let kind = d.kind;
+            return kept_data_free(t, near, k, own.rd, own.wr, is_wr(kind), c);
+        }
+        return false;
     }
     false
 }
 
-// The ACT queue's head, an ACT, breaks no rule at cycle c.
-pub fn act_goes(t: Table, a: Head, k: KeptBank, a1: u64, a4: u64, refresh: u64, c: u64) -> bool
-    ensures { λ r. ⌜ r ≡ (a .there && actFree t (toldBank k) (stampOf a1) (stampOf a4) (stampOf refresh) (commandOf a c)) ⌝ }
+// The ACT queue's head, an ACT, breaks no rule at cycle c by its own group.
+pub fn act_goes(
+    t: Table,
+    a: Head,
+    k: KeptBank,
+    own: KeptGroup,
+    a4: u64,
+    refresh: u64,
+    c: u64,
+) -> bool
+    ensures { λ r. ⌜ r ≡ (a .there && actFree t (toldBank k) (toldGroup own) (stampOf a4) (stampOf refresh) (commandOf a c)) ⌝ }
 {
     if a.there {
-        return kept_act_free(t, k, a1, a4, since(refresh, wide(t.rfc), c), c);
+        return kept_act_free(t, k, own.act, a4, refresh, c);
     }
     false
 }

@@ -10,10 +10,13 @@ use heads::queue::advance;
 use heads::queue::queues_after;
 use records::table::Table;
 use records::tests::both_of;
-use records::tests::either_of;
+use timing::groups::acts_far;
+use timing::groups::data_far;
+use timing::groups::group_moved;
+use timing::groups::group_of;
+use timing::groups::group_opened;
 use timing::kept::Kept;
 use timing::kept::KeptBank;
-use timing::kept::either_64;
 use timing::kept::kept_after;
 use timing::kept::kept_rests;
 use timing::kinds::is_closing;
@@ -42,14 +45,18 @@ pub struct Ran {
 pub fn stops_at(acts: u32, datas: u32, due_acts: u32, due_datas: u32, c: u64) -> bool
     ensures { λ r. ⌜ r ≡ ((leb «due_datas» datas && leb «due_acts» acts) || leb 100000000 c) ⌝ }
 {
-    either_of(
-        both_of(due_datas <= datas, due_acts <= acts),
-        100000000 <= c,
-    )
+    if due_datas <= datas {
+        if due_acts <= acts {
+            return true;
+        }
+        return 100000000 <= c;
+    }
+    100000000 <= c
 }
 
 // At most `count` cycles; `all` is what the list puts into the two queues. The commands go into the buffer from its start. The state is a
-// local that is changed in place, cycle by cycle.
+// local that is changed in place, cycle by cycle. A table of one group asks its group alone. The heads' groups are read again only where a
+// command goes, so that an idle cycle reads no group of the state.
 pub fn run(
     t: Table,
     list: &[u8],
@@ -62,9 +69,14 @@ pub fn run(
     requires { ⌜ Ready t (now list) n (told start) count (length (now buffer)) × Counted t (now list) n all ⌝ }
     ensures { λ r. ⌜ Runs (runOf count t (transactionsFrom (now (list .entry)) n 0) (told start) []) (now (buffer .entry)) (now (buffer .exit)) r ⌝ }
 {
-    let far = distances(t);
+    let near = distances(t, true);
+    let away = distances(t, false);
     let mut s = start;
     let mut q = queues_after(t, list, n, start.acts, start.datas);
+    let mut dg = group_of(q.datas.head.bank, t.groups);
+    let mut ag = group_of(q.acts.head.bank, t.groups);
+    let mut gd = s.groups[dg];
+    let mut ga = s.groups[ag];
     let mut i: u32 = 0;
     let mut k: usize = 0;
     while i < count {
@@ -84,7 +96,13 @@ pub fn run(
         let kd = s.banks[di];
         i = i + 1;
         let later = cycle + 1;
-        if data_goes(t, far, dh, kd, s.rd, s.wr, s.acts, cycle) {
+        let moves = data_goes(t, near, dh, kd, gd, s.acts, cycle);
+        let mut moves_far = true;
+        if both_of(moves, t.groups != 1) {
+            let asked = dh.kind;
+            moves_far = data_far(t, near, away, s.groups, dg, is_wr(asked), cycle);
+        }
+        if both_of(moves, moves_far) {
             let kind = dh.kind;
             let write = is_wr(kind);
             put_command(command_of(dh, cycle), buffer, 8 * k);
@@ -97,8 +115,10 @@ pub fn run(
             s.cycle = later;
             s.datas = s.datas + 1;
             s.banks[di] = kept_after(kd, write, is_closing(kind), later);
-            s.rd = either_64(write, s.rd, later);
-            s.wr = either_64(write, later, s.wr);
+            s.groups[dg] = group_moved(s.groups[dg], write, later);
+            dg = group_of(next.head.bank, t.groups);
+            gd = s.groups[dg];
+            ga = s.groups[ag];
         } else {
             let head = ah.kind;
             if is_ref(head) {
@@ -114,6 +134,8 @@ pub fn run(
                         s.cycle = later;
                         s.acts = s.acts + 1;
                         s.refresh = later;
+                        ag = group_of(next.head.bank, t.groups);
+                        ga = s.groups[ag];
                     } else {
                         s.cycle = later;
                     }
@@ -123,7 +145,12 @@ pub fn run(
             } else {
                 let ai = ah.bank as usize;
                 let ka = s.banks[ai];
-                if act_goes(t, ah, ka, s.a1, s.a4, s.refresh, cycle) {
+                let opens = act_goes(t, ah, ka, ga, s.a4, s.refresh, cycle);
+                let mut opens_far = true;
+                if both_of(opens, t.groups != 1) {
+                    opens_far = acts_far(t, s.groups, ag, cycle);
+                }
+                if both_of(opens, opens_far) {
                     put_command(command_of(ah, cycle), buffer, 8 * k);
                     k = k + 1;
                     let next = advance(t, list, n, false, a);
@@ -143,6 +170,10 @@ pub fn run(
                     s.a3 = s.a2;
                     s.a2 = s.a1;
                     s.a1 = later;
+                    s.groups[ag] = group_opened(s.groups[ag], later);
+                    ag = group_of(next.head.bank, t.groups);
+                    gd = s.groups[dg];
+                    ga = s.groups[ag];
                 } else {
                     s.cycle = later;
                 }

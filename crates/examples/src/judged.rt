@@ -48,16 +48,16 @@ fn wr_rda_act(edition: u16, table: &[u8], wr: u8, act: u8, rda: u8) {
     judged(judge(edition, table, &bytes[..]));
 }
 
-pub(crate) fn table_d_judged(d: &[u8]) {
+pub(crate) fn table_t_judged(t: &[u8]) {
     text(b"ACT 0, WR 11, RDA 28, then ACT 51, and ACT 50\n");
-    wr_rda_act(9, d, 11, 51, 62);
-    wr_rda_act(9, d, 11, 50, 61);
+    wr_rda_act(9, t, 11, 51, 62);
+    wr_rda_act(9, t, 11, 50, 61);
     text(b"read of bank 0, write of bank 1 as pattern, L 54 and 53\n");
     let mut room = [0u8; 32];
     let mut places = [0u32; 2];
     let commands = &mut room[..];
     let finishes = &mut places[..];
-    built(schedule_bytes(9, d, &[0, 0, 1, 1, 1, 1, 1, 1], commands, finishes));
-    repeated(judge_pattern(9, d, commands, 54));
-    repeated(judge_pattern(9, d, commands, 53));
+    built(schedule_bytes(9, t, &[0, 0, 1, 1, 1, 1, 1, 1], commands, finishes));
+    repeated(judge_pattern(9, t, commands, 54));
+    repeated(judge_pattern(9, t, commands, 53));
 }

@@ -11,7 +11,7 @@ use desk::write_table;
 use judged::example_9;
 use judged::example_11;
 use judged::one_as_pattern;
-use judged::table_d_judged;
+use judged::table_t_judged;
 use records::house::table_a;
 use records::house::table_b;
 use records::house::table_c;
@@ -26,7 +26,7 @@ fn main() {
     with_a();
     with_b();
     with_c();
-    with_d();
+    with_t();
 }
 
 fn with_a() {
@@ -58,7 +58,7 @@ fn with_c() {
     example_11(table);
 }
 
-fn with_d() {
+fn with_t() {
     text(b"table T\n");
     let mut bytes = [0u8; 32];
     let table = &mut bytes[..];
@@ -69,7 +69,7 @@ fn with_d() {
     bounded(bound(9, table, 1, 4));
     bounded(bound(9, table, 5, 1));
     bounded(bound(9, table, 6, 2));
-    table_d_judged(table);
+    table_t_judged(table);
 }
 
 fn example_7(table: &[u8]) {

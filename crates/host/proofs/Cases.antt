@@ -43,4 +43,5 @@ each-case =
     ⨾ refl
     ⨾ refl
     ⨾ refl
+    ⨾ refl
     ⨾ tt

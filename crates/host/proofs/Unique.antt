@@ -4,7 +4,7 @@ use Prim.Native.Nat.{ℕ}
 use mathlib.Core.Path.{_≡_, sym, ap, _∙_}
 use mathlib.Core.List.{List}
 use Rattle.records.specs.Told.{Wrote}
-use Rattle.records.specs.Table.{readTable, writeTable}
+use Rattle.records.specs.Table.{readTable, writeTable, writeGroupTable}
 use Rattle.records.specs.Transaction.{transaction, readTransaction, writeTransaction, transactionsIn}
 use Rattle.records.specs.Command.{command, kindOf, readCommand, writeCommand}
 use Rattle.records.proofs.Unique.{one-answer}
@@ -35,6 +35,7 @@ only-record s =
     record {
       tableRead = one-answer (ofTable (readTable s));
       tableWritten = λ l. one-written (writeTable l s);
+      groupTableWritten = λ l. one-written (writeGroupTable l s);
       transactionRead = one-answer (ofTransaction (readTransaction s));
       transactionWritten = λ kind start bi bc. one-written (writeTransaction (transaction kind start bi bc) s);
       commandRead = one-answer (ofCommand (readCommand s));

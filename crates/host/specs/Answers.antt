@@ -11,7 +11,7 @@ use Rattle.records.specs.declared.transaction.TransactionRead.{TransactionRead}
 use Rattle.records.specs.declared.command.Command.{Command}
 use Rattle.records.specs.declared.command.CommandRead.{CommandRead}
 use Rattle.records.specs.declared.command.CommandRead.the-variants.{Read as CommandIs}
-use Rattle.records.specs.Table.{numbersOf}
+use Rattle.records.specs.Table.{groupNumbersOf}
 use Rattle.capture.specs.declared.one_record.CaptureRecordRead.{CaptureRecordRead}
 use Rattle.builder.specs.declared.bound.BoundAnswer.{BoundAnswer}
 use Rattle.builder.specs.declared.build.BuildAnswer.{BuildAnswer}
@@ -51,13 +51,13 @@ refusing x = answering (refusalNumbers x)
 abbrev pub ofWritten : Written → Answer
 ofWritten r = answering (writtenNumbers r)
 
--- the table's sixteen numbers, all 0 where it is refused
+-- the table's twenty numbers, all 0 where it is refused
 abbrev pub tableAnswer : Numbers → List ℕ → TableAnswer
 tableAnswer a l = record { refused = a .refused; position = a .position; edition = a .edition; numbers = l }
 
 abbrev pub ofTable : TableRead → TableAnswer
-ofTable (TableIs τ) = tableAnswer (tableNumbers (TableIs τ)) (numbersOf τ)
-ofTable (NoTable x) = tableAnswer (tableNumbers (NoTable x)) (replicate 16 0)
+ofTable (TableIs τ) = tableAnswer (tableNumbers (TableIs τ)) (groupNumbersOf τ)
+ofTable (NoTable x) = tableAnswer (tableNumbers (NoTable x)) (replicate 20 0)
 
 abbrev pub transactionAnswer : Numbers → TransactionAnswer
 transactionAnswer a =

@@ -1,7 +1,7 @@
 -- Each case of each answer as the struct of plain numbers that crosses to the host, as a single list under a single claim.
 use Prim.Native.Nat.{ℕ}
 use mathlib.Core.Path.{_≡_}
-use mathlib.Core.List.{List, [], _∷_}
+use mathlib.Core.List.{List, [], _∷_, _++_}
 use lib.ListN.{replicate}
 use Rattle.records.specs.declared.refusal.Refusal.{Refusal}
 use Rattle.records.specs.declared.refusal.Written.the-variants.{Done, Refused as NotWritten}
@@ -12,7 +12,7 @@ use Rattle.records.specs.declared.command.CommandRead.the-variants.{Read as Com
 use Rattle.records.specs.Told.{refusal}
 use Rattle.records.specs.Transaction.{transaction}
 use Rattle.records.specs.Command.{command}
-use Rattle.records.specs.House.{numbersA, tableA}
+use Rattle.records.specs.House.{numbersA, numbersD, tableA, tableD}
 use Rattle.rules.specs.declared.verdict.Rule.the-variants.{Rc, Rrd, Refresh, Rfc}
 use Rattle.rules.specs.declared.verdict.Verdict.the-variants.{Accepted, Refused}
 use Rattle.rules.specs.declared.verdict.PatternVerdict.the-variants.{Accepted as AllAccepted, Refused as RefusedAt}
@@ -52,8 +52,10 @@ abbrev pub cases : List (Type 0)
 cases =
     (ofWritten (Done 7) ≡ plain 0 0 7 0 0)
     ∷ (ofWritten (NotWritten no3) ≡ plain 3 5 7 0 0)
-    ∷ (ofTable (TableIs tableA) ≡ record { refused = 0; position = 0; edition = 7; numbers = numbersA })
-    ∷ (ofTable (NoTable no3) ≡ record { refused = 3; position = 5; edition = 7; numbers = replicate 16 0 })
+    -- of a table of sixteen numbers the last four are one group and the short numbers again
+    ∷ (ofTable (TableIs tableA) ≡ record { refused = 0; position = 0; edition = 7; numbers = numbersA ++ (1 ∷ 4 ∷ 6 ∷ 6 ∷ []) })
+    ∷ (ofTable (TableIs tableD) ≡ record { refused = 0; position = 0; edition = 7; numbers = numbersD })
+    ∷ (ofTable (NoTable no3) ≡ record { refused = 3; position = 5; edition = 7; numbers = replicate 20 0 })
     ∷ (ofTransaction (TransactionIs (transaction 1 2 3 4)) ≡ record { refused = 0; position = 0; edition = 0; kind = 1; start = 2; bi = 3; bc = 4 })
     ∷ (ofTransaction (NoTransaction no3) ≡ record { refused = 3; position = 5; edition = 7; kind = 0; start = 0; bi = 0; bc = 0 })
     ∷ (ofCommand (CommandIs (command 10 Wra 2 3)) ≡ record { refused = 0; position = 0; edition = 0; cycle = 10; kind = 4; bank = 2; number = 3 })

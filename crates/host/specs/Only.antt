@@ -4,7 +4,7 @@ use Prim.Native.Nat.{ℕ}
 use mathlib.Core.Path.{_≡_}
 use mathlib.Core.List.{List}
 use Rattle.records.specs.declared.transaction.Transaction.{Transaction}
-use Rattle.records.specs.Table.{readTable, writeTable}
+use Rattle.records.specs.Table.{readTable, writeTable, writeGroupTable}
 use Rattle.records.specs.Transaction.{transaction, readTransaction, writeTransaction, transactionsIn}
 use Rattle.records.specs.Command.{command, kindOf, readCommand, writeCommand}
 use Rattle.capture.specs.Record.{captureRecord, readCaptureRecord, writeCaptureRecord}
@@ -34,6 +34,7 @@ use Rattle.host.specs.Promises.{Writes, PatternSaid, Traces, ReadsInto, 
 pub record OnlyRecord (s : List ℕ) : Type 0 where
   pub tableRead : (x y : TableAnswer) → x ≡ ofTable (readTable s) → y ≡ ofTable (readTable s) → x ≡ y
   pub tableWritten : (l : List ℕ) (x y : Answer) (b d : List ℕ) → Writes (writeTable l s) x b → Writes (writeTable l s) y d → (x ≡ y) × (b ≡ d)
+  pub groupTableWritten : (l : List ℕ) (x y : Answer) (b d : List ℕ) → Writes (writeGroupTable l s) x b → Writes (writeGroupTable l s) y d → (x ≡ y) × (b ≡ d)
   pub transactionRead : (x y : TransactionAnswer) → x ≡ ofTransaction (readTransaction s) → y ≡ ofTransaction (readTransaction s) → x ≡ y
   pub transactionWritten : (kind start bi bc : ℕ) (x y : Answer) (b d : List ℕ)
       → Writes (writeTransaction (transaction kind start bi bc) s) x b → Writes (writeTransaction (transaction kind start bi bc) s) y d

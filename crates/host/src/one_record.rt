@@ -14,23 +14,30 @@ use capture::one_record::read_capture_record;
 use capture::one_record::write_capture_record;
 use commands::command::read_command;
 use commands::command::write_command;
+use records::group_table::write_group_table;
 use records::table::read_table;
 use records::table::write_table;
 use records::transaction::Transaction;
 use records::transaction::read_transaction;
 use records::transaction::write_transaction;
 ghost use mathlib.Core.Path.{_≡_};
-ghost use Rattle.records.specs.Table.{readTable, writeTable};
+ghost use Rattle.records.specs.Table.{readTable, writeTable, writeGroupTable};
 ghost use Rattle.records.specs.Transaction.{transaction, readTransaction, writeTransaction};
 ghost use Rattle.records.specs.Command.{kindOf, command, readCommand, writeCommand};
 ghost use Rattle.capture.specs.Record.{captureRecord, readCaptureRecord, writeCaptureRecord};
 ghost use Rattle.host.specs.Answers.{ofTable, ofTransaction, ofCommand, ofCaptureRecord};
 ghost use Rattle.host.specs.Promises.{Writes};
 
-// A table's sixteen numbers.
+// The sixteen numbers of a table of 32 bytes.
 #[repr(C)]
 pub struct Numbers {
     pub numbers: [u16; 16],
+}
+
+// The twenty numbers of a table of 40 bytes.
+#[repr(C)]
+pub struct GroupNumbers {
+    pub numbers: [u16; 20],
 }
 
 #[no_mangle]
@@ -46,6 +53,14 @@ pub extern "C" fn skv_write_table(numbers: Numbers, out: &mut [u8]) -> Answer
 {
     let n = numbers.numbers;
     of_written(write_table(n, out))
+}
+
+#[no_mangle]
+pub extern "C" fn skv_write_group_table(numbers: GroupNumbers, out: &mut [u8]) -> Answer
+    ensures { λ r. ⌜ Writes (writeGroupTable (numbers .numbers) (now (out .entry))) r (now (out .exit)) ⌝ }
+{
+    let n = numbers.numbers;
+    of_written(write_group_table(n, out))
 }
 
 #[no_mangle]

@@ -9,15 +9,16 @@ use records::table::Table;
 use records::table::TableRead;
 use records::transaction::TransactionRead;
 ghost use mathlib.Core.Path.{_≡_};
-ghost use Rattle.records.specs.Table.{numbersOf};
+ghost use Rattle.records.specs.Table.{groupNumbersOf};
 ghost use Rattle.host.specs.Answers.{ofTable, ofTransaction, commandAnswer, ofCommand, ofCaptureRecord};
 
+// Of a table of 32 bytes the last four numbers are one group and the short CCD, RRD and WTR again.
 #[repr(C)]
 pub struct TableAnswer {
     pub refused: u32,
     pub position: u32,
     pub edition: u32,
-    pub numbers: [u16; 16],
+    pub numbers: [u16; 20],
 }
 
 #[repr(C)]
@@ -52,8 +53,8 @@ pub struct CaptureRecordAnswer {
     pub bank: u8,
 }
 
-pub fn numbers_of(t: Table) -> [u16; 16]
-    ensures { λ r. ⌜ r ≡ numbersOf t ⌝ }
+pub fn numbers_of(t: Table) -> [u16; 20]
+    ensures { λ r. ⌜ r ≡ groupNumbersOf t ⌝ }
 {
     [
         t.edition,
@@ -72,6 +73,10 @@ pub fn numbers_of(t: Table) -> [u16; 16]
         t.wr,
         t.wtr,
         t.rfc,
+        t.groups,
+        t.ccdl,
+        t.rrdl,
+        t.wtrl,
     ]
 }
 
@@ -94,7 +99,7 @@ pub fn of_table(a: TableRead) -> TableAnswer
                 refused: r.refused,
                 position: r.position,
                 edition: r.edition,
-                numbers: [0; 16],
+                numbers: [0; 20],
             }
         }
     }

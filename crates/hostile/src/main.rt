@@ -1,29 +1,31 @@
 // Hands hostile bytes to the readers and the writers of the desk, and writes a line on what each answers.
 //
 // Standard input, of which 65,536 bytes are read at most, is a sequence of cases, `[call][n][n bytes]`. Calls 1, 3 and 5 read a table,
-// a transaction and a command from the n bytes. Calls 2, 4 and 6 write one: the values come first, in 32, 4 or 8 bytes, and the rest is
-// the buffer. The line is `case` for any other call, for a write whose bytes are too few for the values or leave more than 64 for the
-// buffer, and for a case that the input cuts short, which is the last.
-use commands::command::kind_number;
+// a transaction and a command from the n bytes. Calls 2, 4, 6 and 7 write a table of 32 bytes, a transaction, a command and a table of 40
+// bytes: the values come first, in 32, 4, 8 or 40 bytes, and the rest is the buffer. The line is `case` for any other call, for a write
+// whose bytes are too few for the values or leave more than 64 for the buffer, and for a case that the input cuts short, which is the last.
+mod told;
+
 use desk::read_command;
 use desk::read_table;
 use desk::read_transaction;
 use desk::write_command;
+use desk::write_group_table;
 use desk::write_table;
 use desk::write_transaction;
 use libc::STDIN_FILENO;
-use libc::STDOUT_FILENO;
-use records::command::Command;
 use records::command::CommandRead;
 use records::little::from_le32;
 use records::little::num_at;
-use records::refusal::Refusal;
-use records::refusal::Written;
-use records::table::Table;
 use records::table::TableRead;
-use records::transaction::Transaction;
 use records::transaction::TransactionRead;
 use records::transaction::transaction_at;
+use told::command;
+use told::numbers;
+use told::refused;
+use told::text;
+use told::transaction;
+use told::written;
 ghost use mathlib.Core.Path.{_≡_};
 ghost use Prim.Native.Nat.{_≤_};
 ghost use lib.ListN.{length};
@@ -66,6 +68,7 @@ fn one_case(call: u8, s: &[u8]) {
         4 => write_transaction_line(s),
         5 => command_line(read_command(s)),
         6 => write_command_line(s),
+        7 => write_group_table_line(s),
         _ => no_case(),
     }
 }
@@ -117,6 +120,25 @@ fn write_table_line(s: &[u8]) {
     let values = sixteen(s);
     let answer = write_table(values, room);
     text(b"write_table");
+    written(answer, room);
+}
+
+fn write_group_table_line(s: &[u8]) {
+    let from = 40;
+    if s.len() < from {
+        no_case();
+        return;
+    }
+    if 64 < s.len() - from {
+        no_case();
+        return;
+    }
+    let mut space = [0u8; 64];
+    let n = fill(&s[from..], &mut space);
+    let room = &mut space[..n];
+    let values = twenty(s);
+    let answer = write_group_table(values, room);
+    text(b"write_group_table");
     written(answer, room);
 }
 
@@ -183,6 +205,18 @@ fn sixteen(s: &[u8]) -> [u16; 16]
     ]
 }
 
+fn twenty(s: &[u8]) -> [u16; 20]
+    requires { ⌜ 40 ≤ length (now s) ⌝ }
+{
+    let mut n = [0u16; 20];
+    let mut k: usize = 0;
+    while k < 20 {
+        n[k] = num_at(s, 2 * k);
+        k += 1;
+    }
+    n
+}
+
 // Copies the bytes to the room's start, and answers how many they are.
 fn fill(s: &[u8], room: &mut [u8]) -> usize
     requires { ⌜ length (now s) ≤ length (now room) ⌝ }
@@ -194,94 +228,4 @@ fn fill(s: &[u8], room: &mut [u8]) -> usize
         i += 1;
     }
     i
-}
-
-fn numbers(t: Table) {
-    number(t.edition);
-    number(t.banks);
-    number(t.b);
-    number(t.ccd);
-    number(t.rcd);
-    number(t.rp);
-    number(t.ras);
-    number(t.rc);
-    number(t.rrd);
-    number(t.faw);
-    number(t.rl);
-    number(t.wl);
-    number(t.rtp);
-    number(t.wr);
-    number(t.wtr);
-    number(t.rfc);
-}
-
-fn transaction(x: Transaction) {
-    small(x.kind);
-    small(x.start);
-    small(x.bi);
-    small(x.bc);
-}
-
-fn command(c: Command) {
-    let k = c.kind;
-    long(c.cycle);
-    small(kind_number(k));
-    small(c.bank);
-    number(c.number);
-}
-
-fn refused(r: Refusal) {
-    text(b" refused");
-    small(r.number);
-    text(b" at");
-    long(r.position);
-    text(b" edition");
-    number(r.edition);
-}
-
-// The end of a writer's line, with all of the buffer it was lent.
-fn written(answer: Written, room: &[u8]) {
-    match answer {
-        Written::Done(edition) => {
-            text(b" edition");
-            number(edition);
-        }
-        Written::Refused(r) => refused(r),
-    }
-    text(b" ");
-    if room.len() == 0 {
-        text(b"-");
-    }
-    hex(room);
-    text(b"\n");
-}
-
-fn hex(room: &[u8]) {
-    let mut i = 0;
-    while i < room.len() {
-        byte(room[i]);
-        i += 1;
-    }
-}
-
-fn byte(b: u8) {
-    io::print_hex(STDOUT_FILENO, b as u64, 2);
-}
-
-// A number after a space, of each width.
-fn small(n: u8) {
-    long(n as u32);
-}
-
-fn number(n: u16) {
-    long(n as u32);
-}
-
-fn long(n: u32) {
-    text(b" ");
-    io::print_decimal(STDOUT_FILENO, n as u64);
-}
-
-fn text(s: &[u8]) {
-    io::write_all(STDOUT_FILENO, s);
 }

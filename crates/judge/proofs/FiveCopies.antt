@@ -30,7 +30,7 @@ use Rattle.judge.proofs.Seen.{whole-next}
 -- k copies are judged: the state sums them up, and the verdict on those left is that on all five
 pub record Round (τ : Table) (L : ℕ) (s : List ℕ) (k : ℕ) (st : State) : Type 0 where
   pub low : k ≤ 5
-  pub judging : Judging (whole L s k) st
+  pub judging : Judging τ (whole L s k) st
   pub rest : copiesFrom τ L (commandsIn s) (5 - k) k (whole L s k) ≡ copies τ L (commandsIn s) 5
 
 pub round-start : (τ : Table) (L : ℕ) (s : List ℕ) → Round τ L s 0 (fresh τ)
@@ -51,7 +51,7 @@ module _ {τ : Table} {L : ℕ} {s : List ℕ} {k : ℕ} {st : State} (q : Round
     pub round-stops : (x : Rule) (i : ℕ) → v ≡ Not x i → Refused x (k + 1) i ≡ copies τ L (commandsIn s) 5
     round-stops x i f = rw (add-one k) (sym (goes ∙ ap (goOn τ L (commandsIn s) (5 - suc k) k (whole L s k)) f))
 
-    pub round-next : (st' : State) → v ≡ Legally → (v ≡ Legally → Judging (whole L s (suc k)) st') → Round τ L s (k + 1) st'
+    pub round-next : (st' : State) → v ≡ Legally → (v ≡ Legally → Judging τ (whole L s (suc k)) st') → Round τ L s (k + 1) st'
     round-next st' f j =
         rw (add-one k)
         (record {

@@ -10,6 +10,8 @@ use lib.Dec.{ltb, eqb}
 use borrow.Author.Tests.{ltb-false}
 use Rattle.records.specs.Told.{firstFailed}
 use Rattle.records.proofs.Laws.{passes}
+use Rattle.rules.specs.declared.verdict.Rule.{Rule}
+use Rattle.rules.specs.declared.verdict.Verdict.the-variants.{Accepted, Refused}
 use Rattle.rules.proofs.TestLaws.{true-false}
 use Rattle.judge.specs.Answer.{notASchedule}
 
@@ -26,3 +28,9 @@ few size l e =
     on : (b : Bool) → (b || ltb 69632 (size / 8)) ≡ false → ltb 69632 (size / 8) ≡ false
     on true e = true-false true refl e
     on false e = e
+
+-- a verdict that refuses does not accept
+pub not-accepted : {A : Type 0} (x : Rule) (n : ℕ) → Refused x n ≡ Accepted → A
+not-accepted x n e =
+    let z : _≡_ {A = ℕ} 0 1 = cc in
+    absurd (omega arith)

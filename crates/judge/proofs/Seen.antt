@@ -7,6 +7,7 @@ use mathlib.Core.Path.{_≡_, refl, sym, ap, _∙_}
 use mathlib.Core.Bool.{Bool, true, false}
 use mathlib.Core.List.{List, [], _∷_}
 use lib.ListN.{length}
+use Rattle.records.specs.declared.table.Table.{Table}
 use Rattle.records.specs.declared.command.Command.{Command}
 use Rattle.records.specs.Command.{command, commandAt, commandsFrom, commandsIn}
 use Rattle.rules.specs.declared.state.State.{State}
@@ -78,7 +79,7 @@ abbrev seen : ℕ → List ℕ → ℕ → ℕ → List Command
 seen L s k i = before s (L * k) i (whole L s k)
 
 -- a state that sums up what was seen has counted to less than 32 bits hold
-pub room : (L : ℕ) (s : List ℕ) (k i : ℕ) {st : State} → k < 5 → i ≤ recordCount s → recordCount s ≤ 69632 → Sums (seen L s k i) st
+pub room : (L : ℕ) (s : List ℕ) (k i : ℕ) {τ : Table} {st : State} → k < 5 → i ≤ recordCount s → recordCount s ≤ 69632 → Sums τ (seen L s k i) st
     → (st .acts < 4294967295) × (st .datas < 4294967295)
 room L s k i k5 low few q =
     let copies : k * recordCount s ≤ 4 * 69632 = mul-le-mul {n₁ = k} {m₁ = recordCount s} {n₂ = 4} {m₂ = 69632} (omega arith) few in

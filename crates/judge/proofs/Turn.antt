@@ -17,7 +17,7 @@ use Rattle.rules.specs.declared.verdict.Found.{Found}
 use Rattle.rules.specs.declared.verdict.Found.the-variants.{Fine, Broken}
 use Rattle.rules.specs.declared.verdict.Verdict.{Verdict}
 use Rattle.rules.specs.declared.verdict.Verdict.the-variants.{Accepted, Refused}
-use Rattle.rules.specs.State.{note}
+use Rattle.rules.specs.State.{note, Held}
 use Rattle.rules.specs.History.{broken}
 use Rattle.rules.specs.Verdict.{allShut, judgeFrom}
 use Rattle.rules.proofs.Judged.{holds}
@@ -30,10 +30,10 @@ use Rattle.judge.proofs.Seen.{left, left-none, left-next}
 -- i records of a copy are judged: the state sums up all before the next, and the verdict on what is left is that on the whole copy
 pub record Turn (τ : Table) (s : List ℕ) (d : ℕ) (h : List Command) (n i : ℕ) (st : State) : Type 0 where
   pub low : i ≤ n
-  pub judging : Judging (before s d i h) st
+  pub judging : Judging τ (before s d i h) st
   pub rest : judgeFrom τ (left s d (n - i) i) i (before s d i h) ≡ judgeFrom τ (left s d n 0) 0 h
 
-pub turn-start : {τ : Table} {s : List ℕ} {d : ℕ} {h : List Command} {n : ℕ} {st : State} → Judging h st → Turn τ s d h n 0 st
+pub turn-start : {τ : Table} {s : List ℕ} {d : ℕ} {h : List Command} {n : ℕ} {st : State} → Judging τ h st → Turn τ s d h n 0 st
 turn-start q = record { low = omega arith; judging = q; rest = rw sub-zero }
 
 -- the verdict, by what the next record breaks
@@ -41,7 +41,7 @@ abbrev goOn : Table → List Command → ℕ → Command → List Command → Fo
 goOn τ rs n r h f = elim f [ Fine ↦ judgeFrom τ rs (suc n) (r ∷ h) | Broken x ↦ Refused x n ]
 
 -- x is record i
-module _ {τ : Table} {s : List ℕ} {d : ℕ} {h : List Command} {n i : ℕ} {st : State} (fit : τ .banks ≤ 16) (turn : Turn τ s d h n i st) (l : i < n)
+module _ {τ : Table} {s : List ℕ} {d : ℕ} {h : List Command} {n i : ℕ} {st : State} (fit : Held τ) (turn : Turn τ s d h n i st) (l : i < n)
     {x : Command} (here : recordIn s d i ≡ x) where
   abbrev H : List Command
   H = before s d i h
@@ -71,26 +71,26 @@ module _ {τ : Table} {s : List ℕ} {d : ℕ} {h : List Command} {n i : ℕ} {s
   pub turn-bank : found ≡ Fine → x .bank < 16
   turn-bank f = below τ fit x (holds τ x H (finds ∙ f) 0)
 
-  pub turn-next : found ≡ Fine → Turn τ s d h n (i + 1) (note st (x .cycle) (x .kind) (x .bank))
+  pub turn-next : found ≡ Fine → Turn τ s d h n (i + 1) (note τ st (x .cycle) (x .kind) (x .bank))
   turn-next f =
       rw (add-one i)
       (record {
         low = omega arith;
-        judging = subst (λ (y : Command). Judging (y ∷ H) (note st (x .cycle) (x .kind) (x .bank))) (sym here) (judging-note τ fit H st (turn .judging) x (finds ∙ f));
+        judging = subst (λ (y : Command). Judging τ (y ∷ H) (note τ st (x .cycle) (x .kind) (x .bank))) (sym here) (judging-note τ fit H st (turn .judging) x (finds ∙ f));
         rest = ap (λ (y : Command). judgeFrom τ rest (suc i) (y ∷ H)) here ∙ sym (goes ∙ ap (goOn τ rest i x H) f);
       })
 
 -- rule 10, off the state
-shut-same : (h : List Command) (st : State) → Judging h st → (m : ℕ) → m ≤ 16 → allShut m h ≡ shutBy st m
-shut-same h st q zero l = refl
-shut-same h st q (suc m) l = rw (judging-open h st q m (omega arith), shut-same h st q m (omega arith))
+shut-same : (τ : Table) (h : List Command) (st : State) → Judging τ h st → (m : ℕ) → m ≤ 16 → allShut m h ≡ shutBy st m
+shut-same τ h st q zero l = refl
+shut-same τ h st q (suc m) l = rw (judging-open τ h st q m (omega arith), shut-same τ h st q m (omega arith))
 
-module _ {τ : Table} {s : List ℕ} {d : ℕ} {h : List Command} {n i : ℕ} {st : State} (fit : τ .banks ≤ 16) (q : Turn τ s d h n i st) (l : n ≤ i) where
+module _ {τ : Table} {s : List ℕ} {d : ℕ} {h : List Command} {n i : ℕ} {st : State} (fit : Held τ) (q : Turn τ s d h n i st) (l : n ≤ i) where
   at-end : i ≡ n
   at-end = omega (arith, q .low)
 
-  pub turn-judging : Judging (before s d n h) st
-  turn-judging = subst (λ (m : ℕ). Judging (before s d m h) st) at-end (q .judging)
+  pub turn-judging : Judging τ (before s d n h) st
+  turn-judging = subst (λ (m : ℕ). Judging τ (before s d m h) st) at-end (q .judging)
 
   pub turn-end : pick (shutBy st (τ .banks)) Accepted (Refused End n) ≡ judgeFrom τ (left s d n 0) 0 h
   turn-end =
@@ -98,5 +98,5 @@ module _ {τ : Table} {s : List ℕ} {d : ℕ} {h : List Command} {n i : ℕ} {s
       sym (sym (q .rest)
       ∙ (ap (λ (y : ℕ). judgeFrom τ (left s d y i) i (before s d i h)) m
       ∙ (ap (λ (y : List Command). judgeFrom τ y i (before s d i h)) (left-none s d i)
-      ∙ (ap (λ (b : Bool). pick b Accepted (Refused End i)) (shut-same (before s d i h) st (q .judging) (τ .banks) fit)
+      ∙ (ap (λ (b : Bool). pick b Accepted (Refused End i)) (shut-same τ (before s d i h) st (q .judging) (τ .banks) (fit .banks))
       ∙ ap (λ (m : ℕ). pick (shutBy st (τ .banks)) Accepted (Refused End m)) at-end))))

@@ -1,4 +1,6 @@
 // The judge of schedules and the judge of repeated patterns.
+pub mod alone;
+pub mod among;
 pub mod answer;
 pub mod copy;
 pub mod pattern;

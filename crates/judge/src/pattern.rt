@@ -12,19 +12,21 @@ ghost use mathlib.Core.Path.{_≡_};
 ghost use Prim.Native.Nat.{_≤_};
 ghost use Rattle.records.specs.Command.{commandsIn};
 ghost use Rattle.rules.specs.Pattern.{copies};
+ghost use Rattle.rules.specs.State.{Held};
 ghost use Rattle.judge.specs.Answer.{PatternAnswers};
 ghost use Rattle.judge.specs.Seen.{recordCount};
 
 // The verdict on five copies, which is that on any number from five on.
 pub fn judge_five(t: Table, s: &[u8], length: u32) -> PatternVerdict
-    requires { ⌜ (t .banks ≤ 16) × (recordCount (now s) ≤ 69632) ⌝ }
+    requires { ⌜ Held t × (recordCount (now s) ≤ 69632) ⌝ }
     ensures { λ r. ⌜ r ≡ copies t length (commandsIn (now (s .entry))) 5 ⌝ }
 {
-    let q = distances(t);
+    let near = distances(t, true);
+    let away = distances(t, false);
     let mut state = kept_fresh(t.edition);
     let mut k: u32 = 0;
     while k < 5 {
-        let o = judge_copy(t, q, s, length, k, state);
+        let o = judge_copy(t, near, away, s, length, k, state);
         let after = o.state;
         let v = o.verdict;
         k = k + 1;
@@ -41,7 +43,7 @@ pub fn judge_five(t: Table, s: &[u8], length: u32) -> PatternVerdict
 }
 
 pub fn judge_pattern(t: Table, s: &[u8], length: u32) -> PatternJudged
-    requires { ⌜ t .banks ≤ 16 ⌝ }
+    requires { ⌜ Held t ⌝ }
     ensures { λ r. ⌜ PatternAnswers t (now (s .entry)) length r ⌝ }
 {
     let z = pattern_refusal(s.len(), length);

@@ -11,21 +11,30 @@ ghost use mathlib.Core.Path.{_≡_};
 ghost use Prim.Native.Nat.{_≤_};
 ghost use Rattle.records.specs.Command.{commandsIn};
 ghost use Rattle.rules.specs.Verdict.{judge};
+ghost use Rattle.rules.specs.State.{Held};
 ghost use Rattle.judge.specs.Answer.{judged};
 ghost use Rattle.judge.specs.Seen.{recordCount};
 
 // The verdict on records that number 7 lets pass. A schedule is the first copy of itself, 0 cycles later.
 pub fn verdict_on(t: Table, s: &[u8]) -> Verdict
-    requires { ⌜ (t .banks ≤ 16) × (recordCount (now s) ≤ 69632) ⌝ }
+    requires { ⌜ Held t × (recordCount (now s) ≤ 69632) ⌝ }
     ensures { λ r. ⌜ r ≡ judge t (commandsIn (now (s .entry))) ⌝ }
 {
-    let o = judge_copy(t, distances(t), s, 0, 0, kept_fresh(t.edition));
+    let o = judge_copy(
+        t,
+        distances(t, true),
+        distances(t, false),
+        s,
+        0,
+        0,
+        kept_fresh(t.edition),
+    );
     let v = o.verdict;
     v
 }
 
 pub fn judge_schedule(t: Table, s: &[u8]) -> Judged
-    requires { ⌜ t .banks ≤ 16 ⌝ }
+    requires { ⌜ Held t ⌝ }
     ensures { λ r. ⌜ r ≡ judged t (now (s .entry)) ⌝ }
 {
     let z = schedule_refusal(s.len());

@@ -14,7 +14,7 @@ use borrow.Author.Tests.{eqb-true}
 use Rattle.records.specs.declared.command.Kind.{Kind}
 use Rattle.records.specs.declared.command.Kind.the-variants.{Act, Rd, Rda, Wr, Wra, Ref, Other}
 use Rattle.records.specs.Tests.{pick}
-use Rattle.records.specs.Table.{tableOf, tableAt}
+use Rattle.records.specs.Table.{tableOf, groupTableOf, plainTableAt, groupTableAt, tableAt}
 use Rattle.records.specs.Command.{kindOf, kindNumber}
 
 -- every element is a byte
@@ -56,12 +56,26 @@ num-16 (x ∷ l) r zero h = le16-of x
 num-16 (x ∷ l) r (suc i) h =
     ap (num (bytes16 (x ∷ l) ++ r)) (twice i) ∙ num-past (x % 256) (x / 256) (bytes16 l ++ r) (2 * i) ∙ num-16 l r i (omega arith)
 
-pub table-16 : (l r : List ℕ) → length l ≡ 16 → tableAt (bytes16 l ++ r) ≡ tableOf l
-table-16 l r e =
+pub plain-16 : (l r : List ℕ) → length l ≡ 16 → plainTableAt (bytes16 l ++ r) ≡ tableOf l
+plain-16 l r e =
     rw (n 0 (omega arith), n 1 (omega arith), n 2 (omega arith), n 3 (omega arith), n 4 (omega arith), n 5 (omega arith), n 6 (omega arith), n 7 (omega arith), n 8 (omega arith), n 9 (omega arith), n 10 (omega arith), n 11 (omega arith), n 12 (omega arith), n 13 (omega arith), n 14 (omega arith), n 15 (omega arith))
   where
     n : (i : ℕ) → i < 16 → num (bytes16 l ++ r) (2 * i) ≡ getD l i 0
     n i h = num-16 l r i (omega arith)
+
+pub group-20 : (l r : List ℕ) → length l ≡ 20 → groupTableAt (bytes16 l ++ r) ≡ groupTableOf l
+group-20 l r e =
+    rw (n 0 (omega arith), n 1 (omega arith), n 2 (omega arith), n 3 (omega arith), n 4 (omega arith), n 5 (omega arith), n 6 (omega arith), n 7 (omega arith), n 8 (omega arith), n 9 (omega arith), n 10 (omega arith), n 11 (omega arith), n 12 (omega arith), n 13 (omega arith), n 14 (omega arith), n 15 (omega arith), n 16 (omega arith), n 17 (omega arith), n 18 (omega arith), n 19 (omega arith))
+  where
+    n : (i : ℕ) → i < 20 → num (bytes16 l ++ r) (2 * i) ≡ getD l i 0
+    n i h = num-16 l r i (omega arith)
+
+-- the size tells which of the two it is
+pub plain-at : (s : List ℕ) → length s ≡ 32 → tableAt s ≡ plainTableAt s
+plain-at s e = ap (λ (n : ℕ). pick (eqb n 40) (groupTableAt s) (plainTableAt s)) e
+
+pub group-at : (s : List ℕ) → length s ≡ 40 → tableAt s ≡ groupTableAt s
+group-at s e = ap (λ (n : ℕ). pick (eqb n 40) (groupTableAt s) (plainTableAt s)) e
 
 -- n numbers from a place on
 abbrev pub numbersFrom : ℕ → ℕ → List ℕ → List ℕ

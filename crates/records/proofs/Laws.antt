@@ -1,7 +1,7 @@
 -- What the proofs of the readers and writers cite: a call refuses by the first check that fails, and else answers.
 -- Assumes nothing.
-use Prim.Native.Nat.{ℕ}
-use mathlib.Core.Bool.{Bool, true, false, not, _&&_}
+use Prim.Native.Nat.{ℕ, _≤_}
+use mathlib.Core.Bool.{Bool, true, false, not, _&&_, _||_}
 use mathlib.Core.Path.{_≡_, refl, sym, ap, _∙_}
 use native.Mathlib.Omega.{arith}
 use mathlib.Core.List.{List, [], _∷_}
@@ -14,7 +14,7 @@ use Rattle.records.specs.Tests.{pick}
 use Rattle.records.specs.Told.{refusal, firstFailed, Wrote}
 use Rattle.records.specs.declared.table.Table.{Table}
 use Rattle.records.specs.declared.transaction.Transaction.{Transaction}
-use Rattle.records.specs.Table.{tableRefusal, inRange}
+use Rattle.records.specs.Table.{tableRefusalBy, tableSize, tableRefusal, inRange}
 use Rattle.records.specs.Transaction.{transactionRefusal, fitsIn}
 
 module _ {A : Type 0} (z y : ℕ) (e : z ≡ y) where
@@ -57,9 +57,26 @@ and-right true b e = e
 and-right false b e = let z : _≡_ {A = ℕ} 0 1 = cc in absurd (omega arith)
 
 -- the size of a record that is not refused
-pub table-size : (size : ℕ) (τ : Table) → tableRefusal size τ ≡ 0 → size ≡ 32
-table-size size τ e =
-    eqb-true size 32 (not-false _ (passes 1 (not (eqb size 32)) ((2, not (inRange τ)) ∷ []) (λ k. omega arith) e .0))
+pub refusal-right : (right : Bool) (τ : Table) → tableRefusalBy right τ ≡ 0 → right ≡ true
+refusal-right right τ e = not-false right (passes 1 (not right) ((2, not (inRange τ)) ∷ []) (λ k. omega arith) e .0)
+
+pub wrong-size : (size : ℕ) (τ : Table) → tableSize size ≡ false → tableRefusal size τ ≡ 1
+wrong-size size τ e = ap (λ (b : Bool). tableRefusalBy b τ) e
+
+pub refusal-size : (need size : ℕ) (τ : Table) → tableRefusalBy (eqb size need) τ ≡ 0 → size ≡ need
+refusal-size need size τ e = eqb-true size need (refusal-right (eqb size need) τ e)
+
+pub size-room : (size : ℕ) → tableSize size ≡ true → 32 ≤ size
+size-room size e = on (eqb size 32) refl (eqb size 40) refl e
+  where
+    on : (a : Bool) → eqb size 32 ≡ a → (b : Bool) → eqb size 40 ≡ b → (a || b) ≡ true → 32 ≤ size
+    on true p b q e = omega (arith, eqb-true size 32 p)
+    on false p true q e = omega (arith, eqb-true size 40 q)
+    on false p false q e = let z : _≡_ {A = ℕ} 0 1 = cc in absurd (omega arith)
+
+-- a table that is not refused has one of the two sizes
+pub table-size : (size : ℕ) (τ : Table) → tableRefusal size τ ≡ 0 → tableSize size ≡ true
+table-size size τ e = refusal-right (tableSize size) τ e
 
 pub transaction-size : (size : ℕ) (x : Transaction) → transactionRefusal size x ≡ 0 → size ≡ 4
 transaction-size size x e =

@@ -8,7 +8,7 @@ use native.Mathlib.Omega.{arith}
 use lib.Dec.{eqb, leb}
 use lib.ListN.{length, getD, take, drop, drop-of-length-le, length-take}
 use lib.Seq.{take-all, take-append-seam, getD-take, ext-getD}
-use borrow.Author.Tests.{eqb-true, le-leb, not-false}
+use borrow.Author.Tests.{eqb-true, eq-eqb, le-leb, not-false}
 use Rattle.records.specs.declared.refusal.Written.the-variants.{Done, Refused}
 use Rattle.records.specs.declared.table.Table.{Table}
 use Rattle.records.specs.declared.table.TableRead.the-variants.{Read as TableIs, Refused as NoTable}
@@ -20,61 +20,111 @@ use Rattle.records.specs.declared.command.CommandRead.the-variants.{Read
 use Rattle.records.specs.Tests.{pick}
 use Rattle.records.specs.Told.{refusal, over, Wrote}
 use Rattle.records.specs.Little.{num, bytes16}
-use Rattle.records.specs.Table.{tableOf, tableAt, numbersOf, tableRefusal, readTable, writeTable}
+use Rattle.records.specs.Table.{tableOf, groupTableOf, plainTableAt, tableAt, numbersOf, groupNumbersOf, tableSize, tableRefusalBy, tableRefusal, readTable, writeTable, writeGroupTable}
 use Rattle.records.specs.Transaction.{transactionAt, transactionRefusal, readTransaction, writeTransaction}
 use Rattle.records.specs.Transaction as Transactions
 use Rattle.records.specs.Command.{kindOf, kindNumber, command, commandAt, commandRefusal, roomRefusal, readCommand, writeCommand}
 use Rattle.records.specs.Command as Commands
-use Rattle.records.proofs.Laws.{read-is, read-was, write-is, write-was, passes, table-size, transaction-size}
+use Rattle.records.proofs.Laws.{read-is, read-was, write-is, write-was, passes, refusal-right, refusal-size, table-size, transaction-size}
 use Rattle.records.proofs.Bytes.{length-16, length-over}
-use Rattle.records.proofs.Inverse.{Bytes, le16-of, le32-of, of-le16, of-le32, table-16, bytes-from, elements-from, kind-number}
+use Rattle.records.proofs.Inverse.{Bytes, le16-of, le32-of, of-le16, of-le32, plain-16, group-20, plain-at, group-at, bytes-from, elements-from, kind-number}
 
 -- new bytes that fill the buffer
 over-all : (new s : List ℕ) → length s ≤ length new → over new s ≡ new
 over-all new s h = rw (drop-of-length-le s h) (append-nil new)
 
--- ---- the table
-
-abbrev tableDone : List ℕ → List ℕ → Wrote
-tableDone l s = record { answer = Done (tableOf l .edition); buffer = over (bytes16 l) s }
+-- ---- the table, of 32 bytes and of 40
 
 no-table : (τ : Table) (n : ℕ) → NoTable (refusal n 0 0) ≡ TableIs τ → ⊥
 no-table τ n k = let y : _≡_ {A = ℕ} 0 1 = cc in omega arith
 
-pub table-written-read : (l s : List ℕ) (e : ℕ) → length l ≡ 16 → writeTable l s .answer ≡ Done e → readTable (writeTable l s .buffer) ≡ TableIs (tableOf l)
-unfolding readTable writeTable
-table-written-read l s e n d =
-    ap (λ (w : Wrote). readTable (w .buffer)) (write-is (tableRefusal (length s) (tableOf l)) (tableDone l s) s z)
-    ∙ read-is tableRefusal tableAt TableIs (λ n. NoTable (refusal n 0 0)) (over (bytes16 l) s) (tableOf l) (table-16 l (drop (length (bytes16 l)) s) n)
-    (ap (λ (k : ℕ). tableRefusal k (tableOf l)) (length-over (bytes16 l) s (omega (arith, length-16 l, table-size (length s) (tableOf l) z))) ∙ z)
-  where
-    z : tableRefusal (length s) (tableOf l) ≡ 0
-    z = write-was (tableRefusal (length s) (tableOf l)) (tableDone l s) s e d
+-- a table record of n numbers: `of` makes the table of them, `numbers` takes them out of it
+module _ (n : ℕ) (right : tableSize (2 * n) ≡ true) (of : List ℕ → Table) (numbers : Table → List ℕ) where
+  abbrev done : List ℕ → List ℕ → Wrote
+  done l s = record { answer = Done (of l .edition); buffer = over (bytes16 l) s }
 
-pub table-read-written : (s b : List ℕ) (τ : Table) → Bytes s → length b ≡ 32 → readTable s ≡ TableIs τ
+  abbrev write : List ℕ → List ℕ → Wrote
+  write l s =
+      pick (eqb (tableRefusalBy (eqb (length s) (2 * n)) (of l)) 0) (done l s)
+      (record { answer = Refused (refusal (tableRefusalBy (eqb (length s) (2 * n)) (of l)) 0 0); buffer = s })
+
+  written-read : (at : (l r : List ℕ) → length l ≡ n → length (bytes16 l ++ r) ≡ 2 * n → tableAt (bytes16 l ++ r) ≡ of l)
+      → (l s : List ℕ) (e : ℕ) → length l ≡ n → write l s .answer ≡ Done e → readTable (write l s .buffer) ≡ TableIs (of l)
+  unfolding readTable
+  written-read at l s e k d =
+      ap (λ (w : Wrote). readTable (w .buffer)) (write-is (tableRefusalBy (eqb (length s) (2 * n)) (of l)) (done l s) s z)
+      ∙ read-is tableRefusal tableAt TableIs (λ n. NoTable (refusal n 0 0)) (over (bytes16 l) s) (of l) (at l (drop (length (bytes16 l)) s) k (filled ∙ size))
+      (ap (λ (m : ℕ). tableRefusal m (of l)) (filled ∙ size) ∙ (ap (λ (b : Bool). tableRefusalBy b (of l)) (right ∙ sym (refusal-right (eqb (length s) (2 * n)) (of l) z)) ∙ z))
+    where
+      z : tableRefusalBy (eqb (length s) (2 * n)) (of l) ≡ 0
+      z = write-was (tableRefusalBy (eqb (length s) (2 * n)) (of l)) (done l s) s e d
+
+      size : length s ≡ 2 * n
+      size = refusal-size (2 * n) (length s) (of l) z
+
+      filled : length (over (bytes16 l) s) ≡ length s
+      filled = length-over (bytes16 l) s (omega (arith, length-16 l, size))
+
+  read-written : ((t : Table) → of (numbers t) .edition ≡ t .edition) → (s b : List ℕ) (τ : Table) → of (numbers τ) ≡ τ → bytes16 (numbers (tableAt s)) ≡ s
+      → length s ≡ 2 * n → length b ≡ 2 * n → readTable s ≡ TableIs τ
+      → write (numbers τ) b ≡ record { answer = Done (τ .edition); buffer = s }
+  unfolding readTable
+  read-written ed s b τ same filled size m r =
+      write-is (tableRefusalBy (eqb (length b) (2 * n)) (of (numbers τ))) (done (numbers τ) b) b zero
+      ∙ (ap (λ (k : ℕ). record { answer = Done k; buffer = over (bytes16 (numbers τ)) b }) (ed τ)
+      ∙ ap (λ (l : List ℕ). record { answer = Done (τ .edition); buffer = l }) bytes)
+    where
+      was : (tableRefusal (length s) (tableAt s) ≡ 0) × (TableIs (tableAt s) ≡ TableIs τ)
+      was = read-was tableRefusal tableAt TableIs (λ n. NoTable (refusal n 0 0)) s τ (no-table τ) r
+
+      e : tableAt s ≡ τ
+      e = let k = was .1 in cc
+
+      zero : tableRefusalBy (eqb (length b) (2 * n)) (of (numbers τ)) ≡ 0
+      zero =
+          ap (tableRefusalBy (eqb (length b) (2 * n))) (same ∙ sym e)
+          ∙ (ap (λ (x : Bool). tableRefusalBy x (tableAt s)) (eq-eqb (length b) (2 * n) m ∙ sym (table-size (length s) (tableAt s) (was .0))) ∙ was .0)
+
+      written : bytes16 (numbers τ) ≡ s
+      written = ap (λ (t : Table). bytes16 (numbers t)) (sym e) ∙ filled
+
+      bytes : over (bytes16 (numbers τ)) b ≡ s
+      bytes = over-all (bytes16 (numbers τ)) b (rw written (omega (arith, size, m))) ∙ written
+
+pub table-written-read : (l s : List ℕ) (e : ℕ) → length l ≡ 16 → writeTable l s .answer ≡ Done e → readTable (writeTable l s .buffer) ≡ TableIs (tableOf l)
+unfolding writeTable
+table-written-read l s e n d =
+    written-read 16 refl tableOf numbersOf (λ l r k m. plain-at (bytes16 l ++ r) m ∙ plain-16 l r k) l s e n d
+
+pub group-table-written-read : (l s : List ℕ) (e : ℕ) → length l ≡ 20 → writeGroupTable l s .answer ≡ Done e
+    → readTable (writeGroupTable l s .buffer) ≡ TableIs (groupTableOf l)
+unfolding writeGroupTable
+group-table-written-read l s e n d =
+    written-read 20 refl groupTableOf groupNumbersOf (λ l r k m. group-at (bytes16 l ++ r) m ∙ group-20 l r k) l s e n d
+
+pub table-read-written : (s b : List ℕ) (τ : Table) → Bytes s → length s ≡ 32 → length b ≡ 32 → readTable s ≡ TableIs τ
     → writeTable (numbersOf τ) b ≡ record { answer = Done (τ .edition); buffer = s }
 unfolding readTable writeTable
-table-read-written s b τ y n r =
-    write-is (tableRefusal (length b) τ) (tableDone (numbersOf τ) b) b (ap (λ (k : ℕ). tableRefusal k τ) (n ∙ sym size) ∙ ap (tableRefusal (length s)) (sym e) ∙ z)
-    ∙ ap (λ (l : List ℕ). record { answer = Done (τ .edition); buffer = l }) bytes
+table-read-written s b τ y size n r =
+    read-written 16 refl tableOf numbersOf (λ t. refl) s b τ (ap (λ (t : Table). tableOf (numbersOf t)) (sym e) ∙ e) sixteen size n r
   where
     was : (tableRefusal (length s) (tableAt s) ≡ 0) × (TableIs (tableAt s) ≡ TableIs τ)
     was = read-was tableRefusal tableAt TableIs (λ n. NoTable (refusal n 0 0)) s τ (no-table τ) r
 
-    z : tableRefusal (length s) (tableAt s) ≡ 0
-    z = was .0
-
-    e : tableAt s ≡ τ
-    e = let k = was .1 in cc
-
-    size : length s ≡ 32
-    size = table-size (length s) (tableAt s) z
+    e : plainTableAt s ≡ τ
+    e = let k = was .1 in sym (plain-at s size) ∙ cc
 
     sixteen : bytes16 (numbersOf (tableAt s)) ≡ s
-    sixteen = bytes-from 16 0 s y (omega (arith, size)) ∙ take-all 32 s (omega (arith, size))
+    sixteen = ap (λ (t : Table). bytes16 (numbersOf t)) (plain-at s size) ∙ (bytes-from 16 0 s y (omega (arith, size)) ∙ take-all 32 s (omega (arith, size)))
 
-    bytes : over (bytes16 (numbersOf τ)) b ≡ s
-    bytes = ap (λ (t : Table). over (bytes16 (numbersOf t)) b) (sym e) ∙ over-all (bytes16 (numbersOf (tableAt s))) b (omega (arith, n)) ∙ sixteen
+pub group-table-read-written : (s b : List ℕ) (τ : Table) → Bytes s → length s ≡ 40 → length b ≡ 40 → readTable s ≡ TableIs τ
+    → writeGroupTable (groupNumbersOf τ) b ≡ record { answer = Done (τ .edition); buffer = s }
+unfolding writeGroupTable
+group-table-read-written s b τ y size n r =
+    read-written 20 refl groupTableOf groupNumbersOf (λ t. refl) s b τ refl twenty size n r
+  where
+    twenty : bytes16 (groupNumbersOf (tableAt s)) ≡ s
+    twenty = ap (λ (t : Table). bytes16 (groupNumbersOf t)) (group-at s size) ∙ (bytes-from 20 0 s y (omega (arith, size)) ∙ take-all 40 s (omega (arith, size)))
 
 -- ---- the transaction
 

@@ -10,7 +10,7 @@ use Rattle.records.specs.declared.command.Command.{Command}
 use Rattle.records.specs.declared.command.CommandRead.{CommandRead}
 use Rattle.records.specs.declared.refusal.Written.{Written}
 use Rattle.records.specs.Told.{Wrote, Leaves}
-use Rattle.records.specs.Table.{readTable, writeTable}
+use Rattle.records.specs.Table.{readTable, writeTable, writeGroupTable}
 use Rattle.records.specs.Transaction.{readTransaction, writeTransaction}
 use Rattle.records.specs.Command.{readCommand, writeCommand}
 
@@ -32,6 +32,9 @@ read-command-only s = one-answer (readCommand s)
 module _ (s : List ℕ) (x y : Written) (b d : List ℕ) where
   pub write-table-only : (l : List ℕ) → Leaves (writeTable l s) x b → Leaves (writeTable l s) y d → (x ≡ y) × (b ≡ d)
   write-table-only l = one-left (writeTable l s) x y b d
+
+  pub write-group-table-only : (l : List ℕ) → Leaves (writeGroupTable l s) x b → Leaves (writeGroupTable l s) y d → (x ≡ y) × (b ≡ d)
+  write-group-table-only l = one-left (writeGroupTable l s) x y b d
 
   pub write-transaction-only : (t : Transaction) → Leaves (writeTransaction t s) x b → Leaves (writeTransaction t s) y d → (x ≡ y) × (b ≡ d)
   write-transaction-only t = one-left (writeTransaction t s) x y b d

@@ -1,8 +1,8 @@
--- "House tables are constants, no device's data sheet": their sixteen numbers, and that each is accepted.
+-- "House tables are constants, no device's data sheet": their sixteen numbers, of D the twenty.
 use Prim.Native.Nat.{ℕ}
-use mathlib.Core.List.{List, [], _∷_}
+use mathlib.Core.List.{List, [], _∷_, _++_}
 use Rattle.records.specs.declared.table.Table.{Table}
-use Rattle.records.specs.Table.{tableOf}
+use Rattle.records.specs.Table.{tableOf, groupTableOf}
 
 -- A, with its FAW, its RTP and its RFC left open
 abbrev pub house : ℕ → ℕ → ℕ → List ℕ
@@ -23,6 +23,11 @@ numbersC = house 32 2 0
 abbrev pub numbersT : List ℕ
 numbersT = 9 ∷ 6 ∷ 4 ∷ 5 ∷ 11 ∷ 12 ∷ 26 ∷ 40 ∷ 7 ∷ 33 ∷ 13 ∷ 10 ∷ 8 ∷ 14 ∷ 3 ∷ 0 ∷ []
 
+-- Table D is the team's own: A in four groups, with a long CCD of 9, a long RRD of 20 and a long WTR of 13. Each is so long that a command of
+-- another group between two of one group may be no obstacle where the older one still is.
+abbrev pub numbersD : List ℕ
+numbersD = numbersA ++ (4 ∷ 9 ∷ 20 ∷ 13 ∷ [])
+
 abbrev pub tableA : Table
 tableA = tableOf numbersA
 
@@ -34,3 +39,6 @@ tableC = tableOf numbersC
 
 abbrev pub tableT : Table
 tableT = tableOf numbersT
+
+abbrev pub tableD : Table
+tableD = groupTableOf numbersD

@@ -1,5 +1,6 @@
 // The records of document 01: a timing table, a transaction, a command. The first two are read and written here, the last in `commands`.
 pub mod command;
+pub mod group_table;
 pub mod house;
 pub mod little;
 pub mod refusal;

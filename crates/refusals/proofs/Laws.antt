@@ -11,17 +11,17 @@ use lib.Seq.{ext-getD, getD-set-same, getD-set-other, take-suc}
 use borrow.Author.Count.{below-more}
 use Rattle.records.specs.Tests.{every}
 
--- the first k places of an array of sixteen hold f of the source's
-pub record Filled {A B : Type 0} (f : A → B) (x : A) (src : List A) (dst : List B) (k : ℕ) : Type 0 where
-  pub within : k ≤ 16
-  pub size : length dst ≡ 16
+-- the first k places of an array of N hold f of the source's
+pub record Filled {A B : Type 0} (N : ℕ) (f : A → B) (x : A) (src : List A) (dst : List B) (k : ℕ) : Type 0 where
+  pub within : k ≤ N
+  pub size : length dst ≡ N
   pub done : (j : ℕ) → j < k → getD dst j (f x) ≡ f (getD src j x)
 
-module _ {A B : Type 0} (f : A → B) (x : A) (src : List A) where
-  pub fill-start : (dst : List B) → length dst ≡ 16 → Filled f x src dst 0
+module _ {A B : Type 0} (N : ℕ) (f : A → B) (x : A) (src : List A) where
+  pub fill-start : (dst : List B) → length dst ≡ N → Filled N f x src dst 0
   fill-start dst e = record { within = omega arith; size = e; done = λ j p. absurd (omega arith) }
 
-  pub fill-turn : (dst : List B) (k : ℕ) (v : B) → Filled f x src dst k → k < 16 → v ≡ f (getD src k x) → Filled f x src (set dst k v) (k + 1)
+  pub fill-turn : (dst : List B) (k : ℕ) (v : B) → Filled N f x src dst k → k < N → v ≡ f (getD src k x) → Filled N f x src (set dst k v) (k + 1)
   fill-turn dst k v h p e =
       record {
         within = omega arith;
@@ -31,7 +31,7 @@ module _ {A B : Type 0} (f : A → B) (x : A) (src : List A) where
             (getD-set-same dst k v (f x) (omega (arith, h .size)) ∙ e);
       }
 
-  pub fill-end : (dst : List B) (k : ℕ) → Filled f x src dst k → 16 ≤ k → length src ≡ 16 → dst ≡ map f src
+  pub fill-end : (dst : List B) (k : ℕ) → Filled N f x src dst k → N ≤ k → length src ≡ N → dst ≡ map f src
   fill-end dst k h p e =
       ext-getD (f x) dst (map f src) (h .size ∙ sym (length-map src f ∙ e))
       (λ i q. h .done i (omega (arith, h .size)) ∙ sym (List·getD-map f src i x))

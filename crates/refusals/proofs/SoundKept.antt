@@ -17,7 +17,7 @@ use Rattle.records.specs.declared.transaction.Transaction.{Transaction}
 use Rattle.records.specs.declared.command.Command.{Command}
 use Rattle.rules.specs.declared.state.State.{State}
 use Rattle.rules.specs.Kinds.{inActQueue, isData}
-use Rattle.rules.specs.State.{breaksNone, shut, fresh, after}
+use Rattle.rules.specs.State.{breaksNone, shut, quiet, fresh, after}
 use Rattle.rules.specs.Queues.{Due, dueAt, actQueue, dataQueue, headAfter}
 use Rattle.rules.specs.CycleRule.{goes}
 use Rattle.rules.specs.Run.{run}
@@ -26,14 +26,14 @@ use Rattle.rules.proofs.Queue.{Place, actDue, dataDue, actPlace, dataPlace, act
 use Rattle.rules.proofs.DataKinds.{not-in-acts, is-data, act-queued, act-no-data}
 use Rattle.rules.proofs.Heads.{test-at}
 use Rattle.rules.proofs.Legal.{goes-all}
-use Rattle.refusals.specs.Refused.{banksBefore, lastBefore, backed, sound}
+use Rattle.refusals.specs.Refused.{banksBefore, groupsBefore, lastBefore, backed, sound}
 use Rattle.refusals.proofs.Backed.{in-list}
 use Rattle.refusals.proofs.StoredKept.{Stored, stored-later, stored-after, goes-now, next-cycle, run-keeps, every-map}
 
 -- the tests of number 9 but that of the cycle
 pub record Tested (τ : Table) (l : List Transaction) (s : State) : Type 0 where
   pub edition : s .edition ≡ τ .edition
-  pub stored : Stored (s .cycle) (τ .banks) s
+  pub stored : Stored (s .cycle) (τ .banks) (τ .groups) s
   pub acts : s .acts ≤ length (actQueue τ l)
   pub datas : s .datas ≤ length (dataQueue τ l)
   pub had : backed τ l (s .acts) (s .datas) ≡ true
@@ -44,6 +44,7 @@ module _ (τ : Table) (l : List Transaction) where
       ltb (s .cycle) 100000000
       ∷ eqb (s .edition) (τ .edition)
       ∷ banksBefore (s .cycle) (τ .banks) (s .banks)
+      ∷ groupsBefore (s .cycle) (τ .groups) (s .groups)
       ∷ lastBefore (s .cycle) s
       ∷ leb (s .acts) (length (actQueue τ l))
       ∷ (leb (s .datas) (length (dataQueue τ l)) && backed τ l (s .acts) (s .datas))
@@ -55,10 +56,10 @@ module _ (τ : Table) (l : List Transaction) where
     ltb-true (s .cycle) 100000000 (test-at (tests s) 0 e),
     record {
       edition = eqb-true (s .edition) (τ .edition) (test-at (tests s) 1 e);
-      stored = record { banks = test-at (tests s) 2 e; last = test-at (tests s) 3 e };
-      acts = leb-true (s .acts) (length (actQueue τ l)) (test-at (tests s) 4 e);
-      datas = leb-true (s .datas) (length (dataQueue τ l)) (and-fst (leb (s .datas) (length (dataQueue τ l))) (backed τ l (s .acts) (s .datas)) (test-at (tests s) 5 e));
-      had = and-snd (leb (s .datas) (length (dataQueue τ l))) (backed τ l (s .acts) (s .datas)) (test-at (tests s) 5 e);
+      stored = record { banks = test-at (tests s) 2 e; groups = test-at (tests s) 3 e; last = test-at (tests s) 4 e };
+      acts = leb-true (s .acts) (length (actQueue τ l)) (test-at (tests s) 5 e);
+      datas = leb-true (s .datas) (length (dataQueue τ l)) (and-fst (leb (s .datas) (length (dataQueue τ l))) (backed τ l (s .acts) (s .datas)) (test-at (tests s) 6 e));
+      had = and-snd (leb (s .datas) (length (dataQueue τ l))) (backed τ l (s .acts) (s .datas)) (test-at (tests s) 6 e);
     },
   )
 
@@ -69,6 +70,7 @@ module _ (τ : Table) (l : List Transaction) where
         lt-ltb (s .cycle) 100000000 h,
         eq-eqb (s .edition) (τ .edition) (q .edition),
         q .stored .banks,
+        q .stored .groups,
         q .stored .last,
         le-leb (s .acts) (length (actQueue τ l)) (q .acts),
         le-leb (s .datas) (length (dataQueue τ l)) (q .datas),
@@ -104,12 +106,12 @@ module _ (τ : Table) (l : List Transaction) where
   CountsFit s = (s .acts ≤ length (actQueue τ l)) × (s .datas ≤ length (dataQueue τ l)) × (backed τ l (s .acts) (s .datas) ≡ true)
 
   module _ (s : State) (q : Tested τ l s) where
-    data-counts : (x : Due) → headAfter (dataQueue τ l) (s .datas) ≡ some x → ltb (x .act) (s .acts) ≡ true → CountsFit (after s (some (dueAt (s .cycle) x)))
+    data-counts : (x : Due) → headAfter (dataQueue τ l) (s .datas) ≡ some x → ltb (x .act) (s .acts) ≡ true → CountsFit (after τ s (some (dueAt (s .cycle) x)))
     data-counts x e u =
         rw (data-kind (s .datas) x e .0, data-kind (s .datas) x e .1)
         (q .acts, omega (arith, in-list (dataQueue τ l) (s .datas) x e), rw (add-one (s .datas)) (one-more (s .acts) (dataQueue τ l) (s .datas) x e (q .had) u))
 
-    act-counts : (x : Due) → headAfter (actQueue τ l) (s .acts) ≡ some x → CountsFit (after s (some (dueAt (s .cycle) x)))
+    act-counts : (x : Due) → headAfter (actQueue τ l) (s .acts) ≡ some x → CountsFit (after τ s (some (dueAt (s .cycle) x)))
     act-counts x e =
         rw (act-kind (s .acts) x e .0, act-kind (s .acts) x e .1) (
           omega (arith, in-list (actQueue τ l) (s .acts) x e),
@@ -118,27 +120,27 @@ module _ (τ : Table) (l : List Transaction) where
               (λ x h. lt-ltb (x .act) (s .acts + 1) (omega (arith, ltb-true (x .act) (s .acts) h))) (take (s .datas) (dataQueue τ l)) (q .had),
         )
 
-    goes-counts : OnSome (λ c. CountsFit (after s (some c))) (goes τ l s)
+    goes-counts : OnSome (λ c. CountsFit (after τ s (some c))) (goes τ l s)
     goes-counts =
-        goes-all (breaksNone τ s) τ l (s .cycle) (s .acts) (s .datas) (λ c. CountsFit (after s (some c))) (λ x e u k. data-counts x e u) (λ x e k. act-counts x e)
+        goes-all (breaksNone τ s) τ l (s .cycle) (s .acts) (s .datas) (λ c. CountsFit (after τ s (some c))) (λ x e u k. data-counts x e u) (λ x e k. act-counts x e)
 
-  after-counts : (s : State) (o : Option Command) → Tested τ l s → OnSome (λ c. CountsFit (after s (some c))) o → CountsFit (after s o)
+  after-counts : (s : State) (o : Option Command) → Tested τ l s → OnSome (λ c. CountsFit (after τ s (some c))) o → CountsFit (after τ s o)
   after-counts s none q h = (q .acts, q .datas, q .had)
   after-counts s (some c) q h = h
 
-  after-edition : (s : State) (o : Option Command) → after s o .edition ≡ s .edition
+  after-edition : (s : State) (o : Option Command) → after τ s o .edition ≡ s .edition
   after-edition s none = refl
   after-edition s (some c) = refl
 
-  after-tested : (s : State) → Tested τ l s → Tested τ l (after s (goes τ l s))
+  after-tested : (s : State) → Tested τ l s → Tested τ l (after τ s (goes τ l s))
   after-tested s q =
       let k = after-counts s (goes τ l s) q (goes-counts s q) in
       record {
         edition = after-edition s (goes τ l s) ∙ q .edition;
-        stored = subst (λ (t : ℕ). Stored t (τ .banks) (after s (goes τ l s))) (sym (next-cycle τ l s (goes τ l s) (goes-now τ l s)))
-            (stored-after (s .cycle + 1) (τ .banks) s (goes τ l s)
+        stored = subst (λ (t : ℕ). Stored t (τ .banks) (τ .groups) (after τ s (goes τ l s))) (sym (next-cycle τ l s (goes τ l s) (goes-now τ l s)))
+            (stored-after τ (s .cycle + 1) (τ .banks) (τ .groups) s (goes τ l s)
             (on-map {P = λ c. c .cycle ≡ s .cycle} {Q = λ c. c .cycle < s .cycle + 1} (goes τ l s) (λ c e. omega arith) (goes-now τ l s))
-            (stored-later (s .cycle) (s .cycle + 1) (τ .banks) (omega arith) s (q .stored)));
+            (stored-later (s .cycle) (s .cycle + 1) (τ .banks) (τ .groups) (omega arith) s (q .stored)));
         acts = k .0;
         datas = k .1;
         had = k .2;
@@ -154,9 +156,14 @@ module _ (τ : Table) (l : List Transaction) where
   pub fresh-sound : sound τ l (fresh τ) ≡ true
   fresh-sound =
       tested-sound (fresh τ) (omega arith)
-      (record { edition = refl; stored = record { banks = nothing (τ .banks) 16; last = refl }; acts = omega arith; datas = omega arith; had = refl })
+      (record { edition = refl; stored = record { banks = nothing (τ .banks) 16; groups = no-group (τ .groups) 8; last = refl }; acts = omega arith; datas = omega arith; had = refl })
     where
       nothing : (n k : ℕ) → banksBefore 0 n (replicate k shut) ≡ true
       nothing zero k = refl
       nothing (suc n) zero = refl
       nothing (suc n) (suc k) = nothing n k
+
+      no-group : (n k : ℕ) → groupsBefore 0 n (replicate k quiet) ≡ true
+      no-group zero k = refl
+      no-group (suc n) zero = refl
+      no-group (suc n) (suc k) = no-group n k

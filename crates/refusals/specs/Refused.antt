@@ -10,6 +10,7 @@ use Rattle.records.specs.declared.table.Table.{Table}
 use Rattle.records.specs.declared.transaction.Transaction.{Transaction}
 use Rattle.rules.specs.declared.state.Stamp.{Stamp}
 use Rattle.rules.specs.declared.state.Bank.{Bank}
+use Rattle.rules.specs.declared.state.Group.{Group}
 use Rattle.rules.specs.declared.state.State.{State}
 use Rattle.rules.specs.State.{past}
 use Rattle.rules.specs.Queues.{actQueue, dataQueue}
@@ -27,9 +28,13 @@ before t s = past s 1 t
 abbrev pub bankStamps : Bank → List Stamp
 bankStamps k = k .act ∷ k .rd ∷ k .wr ∷ []
 
--- the last four ACTs, the last RD and the last WR of all, and the last REF
+-- those that a group stores
+abbrev pub groupStamps : Group → List Stamp
+groupStamps g = g .act ∷ g .rd ∷ g .wr ∷ []
+
+-- the last four ACTs and the last REF
 abbrev pub lastStamps : State → List Stamp
-lastStamps s = s .a1 ∷ s .a2 ∷ s .a3 ∷ s .a4 ∷ s .rd ∷ s .wr ∷ s .refresh ∷ []
+lastStamps s = s .a1 ∷ s .a2 ∷ s .a3 ∷ s .a4 ∷ s .refresh ∷ []
 
 abbrev pub bankBefore : ℕ → Bank → Bool
 bankBefore t k = every (before t) (bankStamps k)
@@ -37,6 +42,13 @@ bankBefore t k = every (before t) (bankStamps k)
 -- of the first n banks: nothing kept past the table's banks is read
 abbrev pub banksBefore : ℕ → ℕ → List Bank → Bool
 banksBefore t n ks = every (bankBefore t) (take n ks)
+
+abbrev pub groupBefore : ℕ → Group → Bool
+groupBefore t g = every (before t) (groupStamps g)
+
+-- of the first n groups: "nothing kept past the table's groups is read"
+abbrev pub groupsBefore : ℕ → ℕ → List Group → Bool
+groupsBefore t n gs = every (groupBefore t) (take n gs)
 
 abbrev pub lastBefore : ℕ → State → Bool
 lastBefore t s = every (before t) (lastStamps s)
@@ -58,6 +70,7 @@ soundBy τ s acts gone =
     (ltb (s .cycle) 100000000
     ∷ eqb (s .edition) (τ .edition)
     ∷ banksBefore (s .cycle) (τ .banks) (s .banks)
+    ∷ groupsBefore (s .cycle) (τ .groups) (s .groups)
     ∷ lastBefore (s .cycle) s
     ∷ leb (s .acts) acts
     ∷ gone

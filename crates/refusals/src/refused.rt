@@ -1,5 +1,6 @@
 // Numbers 5 and 9 of a run.
 use crate::stored::banks_before;
+use crate::stored::groups_before;
 use crate::stored::last_before;
 use heads::due::Counts;
 use heads::queue::queue_after;
@@ -64,17 +65,19 @@ pub fn is_backed(t: Table, list: &[u8], n: usize, acts: u32, datas: u32) -> bool
 
 // Number 9 does not apply: `due` ACTs stand in the queue, and `gone` tells of the data commands gone.
 pub fn is_sound(t: Table, s: Kept, due: u32, gone: bool) -> bool
-    requires { ⌜ t .banks ≤ 16 ⌝ }
+    requires { ⌜ (t .banks ≤ 16) × (t .groups ≤ 8) ⌝ }
     ensures { λ r. ⌜ r ≡ soundBy t (told s) due gone ⌝ }
 {
     let now = s.cycle;
     let started = s.edition;
     let edition = wide(t.edition);
     let ks = s.banks;
+    let gs = s.groups;
     let banks = banks_before(ks, t.banks, now);
-    let last = last_before(s.a1, s.a2, s.a3, s.a4, s.rd, s.wr, s.refresh, now);
+    let groups = groups_before(gs, t.groups, now);
+    let last = last_before(s.a1, s.a2, s.a3, s.a4, s.refresh, now);
     let counts = both_of(s.acts <= due, gone);
-    let stored = both_of(banks, both_of(last, counts));
+    let stored = both_of(banks, both_of(groups, both_of(last, counts)));
     both_of(now < 100000000, both_of(started == edition, stored))
 }
 

@@ -22,14 +22,15 @@ use Rattle.rules.specs.declared.verdict.Found.the-variants.{Fine, Broken
 use Rattle.rules.specs.declared.verdict.Verdict.{Verdict}
 use Rattle.rules.specs.declared.verdict.Verdict.the-variants.{Refused}
 use Rattle.rules.specs.Kinds.{isAct, isRd, isWr, isRef, firstBroken, rulesInOrder}
-use Rattle.rules.specs.Square.{fromRd, fromWr, writeTail}
+use Rattle.rules.specs.Square.{groupOf, fromRd, fromWr, writeTail}
 use Rattle.rules.specs.State.{past, atRest, bankAfter}
-use Rattle.rules.specs.History.{later, farAct, farData, farRefresh, allAtRest, actRules, refreshRules, dataRules, rulesBy, rules, broken}
+use Rattle.rules.specs.History.{later, farAct, farData, farRefresh, allAtRest, actRules, dataRules, rulesBy, rules, broken}
 use Rattle.rules.specs.Verdict.{allShut, judgeFrom}
 use Rattle.rules.specs.Pattern.{moved}
 use Rattle.rules.proofs.TestLaws.{to-T, bool-eq}
 use Rattle.rules.proofs.Below.{below-same}
-use Rattle.rules.proofs.Newest.{backIn, lastIn, any, bankIn, Rising, newest-act, newest-refresh, newest-data, fourth-same, open-same, act-same, precharge-same, rest-same}
+use Rattle.rules.proofs.Newest.{backIn, lastIn, any, inGroup, outside, bankIn, Rising, newest-act, newest-refresh, newest-data, fourth-same}
+use Rattle.rules.proofs.BankRules.{open-same, act-same, precharge-same, rest-same}
 use Rattle.rules.proofs.Judged.{holds}
 
 -- a stamp, a bank, a record, d later
@@ -77,12 +78,19 @@ module _ (d : ℕ) (h h' : List Command) (q : Alike d h h') where
 
   module _ (τ : Table) where
     rrd-alike : (t b : ℕ) → every (farAct τ b (t + d)) h' ≡ every (farAct τ b t) h
-    rrd-alike t b = newest-act τ b (t + d) h' (q .rising') ∙ (past-last (any isAct) (τ .rrd) t ∙ sym (newest-act τ b t h (q .rising)))
+    rrd-alike t b =
+        newest-act τ b (t + d) h' (q .rising')
+        ∙ rw (past-last (inGroup τ isAct (groupOf τ b)) (τ .rrdl) t, past-last (outside τ isAct (groupOf τ b)) (τ .rrd) t) (sym (newest-act τ b t h (q .rising)))
 
     distance-alike : (w : Bool) (t b : ℕ) → every (farData τ w b (t + d)) h' ≡ every (farData τ w b t) h
     distance-alike w t b =
         newest-data τ b (t + d) h' (q .rising') w
-        ∙ rw (past-last (any isRd) (fromRd τ w) t, past-last (any isWr) (fromWr τ w) t) (sym (newest-data τ b t h (q .rising) w))
+        ∙ rw (
+          past-last (inGroup τ isRd (groupOf τ b)) (fromRd τ true w) t,
+          past-last (outside τ isRd (groupOf τ b)) (fromRd τ false w) t,
+          past-last (inGroup τ isWr (groupOf τ b)) (fromWr τ true w) t,
+          past-last (outside τ isWr (groupOf τ b)) (fromWr τ false w) t,
+        ) (sym (newest-data τ b t h (q .rising) w))
 
     rfc-alike : (t : ℕ) → every (farRefresh τ (t + d)) h' ≡ every (farRefresh τ t) h
     rfc-alike t = newest-refresh τ 0 (t + d) h' (q .rising') ∙ (past-last (any isRef) (τ .rfc) t ∙ sym (newest-refresh τ 0 t h (q .rising)))

@@ -122,7 +122,7 @@ module _ (τ : Table) (l : List Transaction) (v : ℕ) (ta : ℕ → ℕ) (c : �
   pub at-old : (b : ℕ) → b ≢ actBank τ l (s .acts) → getD (set (s .banks) (actBank τ l (s .acts)) newB) b shut ≡ bankOf s b
   at-old b h = getD-set-other (s .banks) (actBank τ l (s .acts)) b newB shut h
 
-  pub base-act : Base τ l v (ext ta (s .acts) t) t (note s t Act (actBank τ l (s .acts)))
+  pub base-act : Base τ l v (ext ta (s .acts) t) t (note τ s t Act (actBank τ l (s .acts)))
   base-act =
       record {
         size = rw length-set (q .size);
@@ -154,7 +154,7 @@ module _ (τ : Table) (l : List Transaction) (v : ℕ) (ta : ℕ → ℕ) (c : �
   same-bank : (b : ℕ) → getD (set (s .banks) 0 (bankOf s 0)) b shut ≡ bankOf s b
   same-bank b = rw (set-getD (s .banks) 0 shut)
 
-  pub base-ref : Base τ l (v + 1) (ext ta (s .acts) t) t (note s t Ref 0)
+  pub base-ref : Base τ l (v + 1) (ext ta (s .acts) t) t (note τ s t Ref 0)
   base-ref =
       record {
         size = rw length-set (q .size);
@@ -199,7 +199,7 @@ pub record DataNote (τ : Table) (s s' : State) (t b : ℕ) (z : Bool) : Type 1 
   pub nowRd : (d c : ℕ) → Upto d c (bankOf s b .rd) → t + d ≤ c → Upto d c (nowBank .rd)
   pub nowWr : (d c : ℕ) → Upto d c (bankOf s b .wr) → t + d ≤ c → Upto d c (nowBank .wr)
 
-pub data-note : (τ : Table) (s : State) (t b : ℕ) (w z : Bool) → DataNote τ s (note s t (dataKind w z) b) t b z
+pub data-note : (τ : Table) (s : State) (t b : ℕ) (w z : Bool) → DataNote τ s (note τ s t (dataKind w z) b) t b z
 data-note τ s t b w z =
     record {
       nextCycle = refl;

@@ -26,7 +26,8 @@ use Rattle.rules.specs.Run.{served, steps, Ran, run}
 use Rattle.rules.specs.Promise.{nextCycle}
 use Rattle.rules.proofs.TestLaws.{true-false, and-both, and-fst, and-snd}
 use Rattle.rules.proofs.Ranges.{Ranges, ranges}
-use Rattle.rules.proofs.Newest.{AllBelow, allBelow-up, open-same}
+use Rattle.rules.proofs.Newest.{AllBelow, allBelow-up}
+use Rattle.rules.proofs.BankRules.{open-same}
 use Rattle.rules.proofs.Link.{Sums}
 use Rattle.rules.proofs.Judged.{legal-accepted}
 use Rattle.rules.proofs.Numbers.{from?}
@@ -74,7 +75,7 @@ module _ (τ : Table) (acc : Accepted τ) (l : List Transaction) (fit : listFits
   pub by-state : (n : ℕ) → gone n τ l ≡ historyAt n
   by-state = exact τ rng l each-fits
 
-  pub sums-at : (n : ℕ) → Sums (historyAt n) (stateAt n)
+  pub sums-at : (n : ℕ) → Sums τ (historyAt n) (stateAt n)
   sums-at n = fresh-legal τ rng l each-fits n .0
 
   progress-at : (n : ℕ) → Progress τ l (stateAt n) (historyAt n)

@@ -22,7 +22,8 @@ use Rattle.rules.specs.State.{isOpen, shut, bankAfter, addIf}
 use Rattle.rules.specs.History.{openIn, rulesBy}
 use Rattle.rules.specs.Pattern.{moved, copy, onto}
 use Rattle.rules.proofs.TestLaws.{true-false, and-fst}
-use Rattle.rules.proofs.Newest.{backIn, bankOn, bankIn, Rising, open-same}
+use Rattle.rules.proofs.Newest.{backIn, bankOn, bankIn, Rising}
+use Rattle.rules.proofs.BankRules.{open-same}
 use Rattle.rules.proofs.Judged.{holds, in-known, LegalHistory, legal-rising}
 use Rattle.rules.proofs.Alike.{stampLater, bankLater, Alike, alike-moved}
 

@@ -77,7 +77,7 @@ module _ (τ : Table) (l : List Transaction) where
       (λ p e. is-known (isWrite (p .transaction)) _) (λ p e. act-known (p .transaction))
 
   step-count : (s : State) (h : List Command) (o : Option Command) → OnSome (λ c. isKnown (c .kind) ≡ true) o
-      → (length (push o h) + (s .acts + s .datas) ≡ length h + (after s o .acts + after s o .datas)) × (length (push o h) ≤ length h + 1)
+      → (length (push o h) + (s .acts + s .datas) ≡ length h + (after τ s o .acts + after τ s o .datas)) × (length (push o h) ≤ length h + 1)
   step-count s h none k = (refl, omega arith)
   step-count s h (some c) k = (omega (arith, one-of (c .kind) k (s .acts) (s .datas)), omega arith)
 
@@ -87,7 +87,7 @@ module _ (τ : Table) (l : List Transaction) where
   steps-count zero s h = (refl, omega arith)
   steps-count (suc n) s h =
       let a = step-count s h (goes τ l s) (goes-known s) in
-      let b = steps-count n (after s (goes τ l s)) (push (goes τ l s) h) in
+      let b = steps-count n (after τ s (goes τ l s)) (push (goes τ l s) h) in
       (omega (arith, a .0, b .0), omega (arith, a .1, b .1))
 
   -- the room that n steps need, from a state whose counts are not past the queues' ends

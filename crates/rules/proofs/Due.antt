@@ -13,7 +13,7 @@ use Rattle.records.specs.declared.table.Table.{Table}
 use Rattle.records.specs.declared.transaction.Transaction.{Transaction}
 use Rattle.records.specs.Tests.{pick}
 use Rattle.records.specs.Transaction.{isRefresh}
-use Rattle.rules.specs.Square.{writeTail}
+use Rattle.rules.specs.Square.{ccdOf, rrdOf, fromRd, fromWr, writeTail}
 use Rattle.rules.specs.Bound.{greatest, mostCcd, mostRrd, mostFromRd, mostFromWr, partsS, boundS, boundD, partsX, boundX, bound, span, startAt}
 use Rattle.rules.specs.Finish.{countFrom}
 use Rattle.rules.proofs.Ranges.{Ranges}
@@ -32,10 +32,29 @@ less0 a b z h = omega arith
 
 module _ (τ : Table) (rng : Ranges τ) where
   pub rrd-one : 1 ≤ mostRrd τ
-  rrd-one = rng .rrd .least
+  rrd-one = omega (arith, rng .rrd .least, rng .rrdl .least)
 
   pub ccd-two : 2 ≤ mostCcd τ
-  ccd-two = rng .two
+  ccd-two = omega (arith, rng .two, rng .ccdl .least)
+
+  -- no two commands ask for more than the long numbers, nor for less than the short ones
+  pub rrd-long : (near : Bool) → rrdOf τ near ≤ mostRrd τ
+  rrd-long true = omega arith
+  rrd-long false = rng .rrdl .least
+
+  pub ccd-short : (near : Bool) → τ .ccd ≤ ccdOf τ near
+  ccd-short true = rng .ccdl .least
+  ccd-short false = omega arith
+
+  pub rd-long : (near w : Bool) → fromRd τ near w ≤ mostFromRd τ w
+  rd-long true w = omega arith
+  rd-long false true = omega (arith, rng .ccdl .least)
+  rd-long false false = rng .ccdl .least
+
+  pub wr-long : (near w : Bool) → fromWr τ near w ≤ mostFromWr τ w
+  wr-long true w = omega arith
+  wr-long false true = rng .ccdl .least
+  wr-long false false = omega (arith, rng .ccdl .least, rng .wtrl .least)
 
 module _ (τ : Table) where
   pub S-one : 1 ≤ boundS τ

@@ -23,7 +23,7 @@ use Rattle.rules.specs.History.{inTable}
 use Rattle.rules.specs.CycleRule.{goesAt, goes, push, gone}
 use Rattle.rules.specs.Run.{steps}
 use Rattle.rules.proofs.TestLaws.{and-both, OnSome}
-use Rattle.rules.proofs.Ranges.{Ranges}
+use Rattle.rules.proofs.Ranges.{Ranges, held}
 use Rattle.rules.proofs.Link.{Sums, sums-fresh}
 use Rattle.rules.proofs.Judged.{LegalHistory}
 use Rattle.rules.proofs.Legal.{dueIn, QueuesFit, goes-same, steps-legal}
@@ -67,20 +67,20 @@ queues-fit τ l v =
 
 -- the last of n + 1 steps
 pub steps-last : (n : ℕ) (τ : Table) (l : List Transaction) (s : State) (h : List Command)
-    → steps (suc n) τ l s h ≡ (after (steps n τ l s h .0) (goes τ l (steps n τ l s h .0)), push (goes τ l (steps n τ l s h .0)) (steps n τ l s h .1))
+    → steps (suc n) τ l s h ≡ (after τ (steps n τ l s h .0) (goes τ l (steps n τ l s h .0)), push (goes τ l (steps n τ l s h .0)) (steps n τ l s h .1))
 steps-last n τ l s h = let z : suc n ≡ n + 1 = omega arith in ap (λ (k : ℕ). steps k τ l s h) z ∙ steps-add n 1 τ l s h
 
 module _ (τ : Table) (rng : Ranges τ) (l : List Transaction) (v : AllFit τ l) where
   -- after n steps the state sums up what has gone, which is a legal history
-  pub fresh-legal : (n : ℕ) → Sums (steps n τ l (fresh τ) [] .1) (steps n τ l (fresh τ) [] .0) × LegalHistory τ (steps n τ l (fresh τ) [] .1)
-  fresh-legal n = steps-legal n τ (rng .banks .most) l (queues-fit τ l v) (fresh τ) [] (sums-fresh τ) tt
+  pub fresh-legal : (n : ℕ) → Sums τ (steps n τ l (fresh τ) [] .1) (steps n τ l (fresh τ) [] .0) × LegalHistory τ (steps n τ l (fresh τ) [] .1)
+  fresh-legal n = steps-legal n τ (held τ rng) l (queues-fit τ l v) (fresh τ) [] (sums-fresh τ) tt
 
   pub exact : (n : ℕ) → gone n τ l ≡ steps n τ l (fresh τ) [] .1
   exact zero = refl
   exact (suc n) =
       let s = steps n τ l (fresh τ) [] .0 in
       let h = steps n τ l (fresh τ) [] .1 in
-      let e : goesAt τ l (s .cycle) h ≡ goes τ l s = sym (goes-same τ (rng .banks .most) h s (fresh-legal n .0) l (queues-fit τ l v)) in
+      let e : goesAt τ l (s .cycle) h ≡ goes τ l s = sym (goes-same τ (held τ rng) h s (fresh-legal n .0) l (queues-fit τ l v)) in
       let t : s .cycle ≡ n = steps-cycle n τ l (fresh τ) [] ∙ zero-add n in
       ap (λ (y : List Command). push (goesAt τ l n y) y) (exact n)
       ∙ (ap (λ (o : Option Command). push o h) (ap (λ (c : ℕ). goesAt τ l c h) (sym t) ∙ e)

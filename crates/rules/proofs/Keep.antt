@@ -23,7 +23,7 @@ use Rattle.rules.proofs.Numbers.{same?, from?}
 use Rattle.rules.proofs.Queue.{actBank, isActAt}
 use Rattle.rules.proofs.Fit.{bank-lt, bank-apart}
 use Rattle.rules.proofs.Heads.{test-at, actOk, dataOk}
-use Rattle.rules.proofs.Recent.{Upto, upto-up, past-upto, ext, ext-eq, ext-other, rd-data, wr-data, nine-blocked}
+use Rattle.rules.proofs.Recent.{Upto, upto-up, past-upto, ext, ext-eq, ext-other, rd-data, wr-data, rd-act, wr-act, nine-blocked}
 use Rattle.rules.proofs.Base.{Went, Base, base-up, base-idle, at-old, base-act, DataNote, data-note, doneAfter, miss, base-data}
 use Rattle.rules.proofs.Due.{rrd-one, ccd-two, D-rrd, dueBy}
 use Rattle.rules.proofs.Phase.{Spot, headTest, Blocked, byAct, byData, InTime, Serving, Between}
@@ -71,7 +71,7 @@ module _ (τ : Table) (rng : Ranges τ) (l : List Transaction) (A0 M0 : ℕ) (x 
 
   -- an ACT goes, of this transaction or a later one
   pub step-act : s .cycle + 1 ≤ byData τ F x j r → isActAt l (s .acts) ≡ true → actBank τ l (s .acts) < τ .banks → actOk τ s (actBank τ l (s .acts)) ≡ true
-      → Serving τ l A0 M0 x F (ext ta (s .acts) (s .cycle)) j r (note s (s .cycle) Act (actBank τ l (s .acts)))
+      → Serving τ l A0 M0 x F (ext ta (s .acts) (s .cycle)) j r (note τ s (s .cycle) Act (actBank τ l (s .acts)))
   step-act e act lt ok =
       record {
         base = base-up τ l (A0 + j) ta' (s .cycle) (s .cycle + 1) s' (omega arith)
@@ -87,8 +87,8 @@ module _ (τ : Table) (rng : Ranges τ) (l : List Transaction) (A0 M0 : ℕ) (x 
         refreshF = q .refreshF;
         refreshNow = inr (upto-up (τ .rfc) (s .cycle) (s .cycle + 1) (s .refresh) (omega arith)
             (past-upto (τ .rfc) (s .cycle) (s .refresh) (test-at (actTests τ s (s .cycle) (actBank τ l (s .acts))) 8 ok)));
-        rdDue = q .rdDue;
-        wrDue = q .wrDue;
+        rdDue = rd-act τ s (s .cycle) (actBank τ l (s .acts)) (mostFromRd τ (isWrite x)) (byData τ F x j r) (q .rdDue);
+        wrDue = wr-act τ s (s .cycle) (actBank τ l (s .acts)) (mostFromWr τ (isWrite x)) (byData τ F x j r) (q .wrDue);
         unop = λ i k k'. rw (at-old τ l (A0 + j) ta (s .cycle) s (q .base) (s .cycle) (omega arith) lt closed act (bankAt τ x i) (not-this i k k'))
             (q .unop i k (omega arith));
         actTime = time;
@@ -99,7 +99,7 @@ module _ (τ : Table) (rng : Ranges τ) (l : List Transaction) (A0 M0 : ℕ) (x 
       ta' = ext ta (s .acts) (s .cycle)
 
       s' : State
-      s' = note s (s .cycle) Act (actBank τ l (s .acts))
+      s' = note τ s (s .cycle) Act (actBank τ l (s .acts))
 
       closed : isOpen (bankOf s (actBank τ l (s .acts))) ≡ false
       closed = not-true (isOpen (bankOf s (actBank τ l (s .acts)))) (test-at (actTests τ s (s .cycle) (actBank τ l (s .acts))) 0 ok)
@@ -120,7 +120,7 @@ module _ (τ : Table) (rng : Ranges τ) (l : List Transaction) (A0 M0 : ℕ) (x 
   -- the data command at the head goes
   module _ (ok : headTest τ A0 x j s ≡ true) (z : Bool) where
     abbrev pub s″ : State
-    s″ = note s (s .cycle) (dataKind (isWrite x) z) (bankAt τ x j)
+    s″ = note τ s (s .cycle) (dataKind (isWrite x) z) (bankAt τ x j)
 
     gone : A0 + j < s .acts
     gone = ltb-true (A0 + j) (s .acts) (and-fst (ltb (A0 + j) (s .acts)) (dataOk τ s (bankAt τ x j) (isWrite x)) ok)
@@ -158,9 +158,9 @@ module _ (τ : Table) (rng : Ranges τ) (l : List Transaction) (A0 M0 : ℕ) (x 
             refreshF = rw (n .sameRefresh) (q .refreshF);
             refreshNow = rw (n .sameRefresh, n .sameActs, n .nextCycle)
                 (⊎-elim (λ y. inl y) (λ y. inr (upto-up (τ .rfc) (s .cycle) (s .cycle + 1) (s .refresh) (omega arith) y)) (q .refreshNow));
-            rdDue = rd-data s (s .cycle) (bankAt τ x j) (isWrite x) z (mostFromRd τ (isWrite x)) (byData τ F x j r) (byData τ F x j' r') (omega arith) (q .rdDue)
+            rdDue = rd-data τ s (s .cycle) (bankAt τ x j) (isWrite x) z (mostFromRd τ (isWrite x)) (byData τ F x j r) (byData τ F x j' r') (omega arith) (q .rdDue)
                 (λ e. rw e (omega (arith, q .dataTime)));
-            wrDue = wr-data s (s .cycle) (bankAt τ x j) (isWrite x) z (mostFromWr τ (isWrite x)) (byData τ F x j r) (byData τ F x j' r') (omega arith) (q .wrDue)
+            wrDue = wr-data τ s (s .cycle) (bankAt τ x j) (isWrite x) z (mostFromWr τ (isWrite x)) (byData τ F x j r) (byData τ F x j' r') (omega arith) (q .wrDue)
                 (λ e. rw e (omega (arith, q .dataTime)));
             unop = λ i k k'. rw (miss τ l (A0 + j) ta (s .cycle) s (q .base) (s .cycle) (omega arith) in-room gone rule8 z s″ noted (bankAt τ x i)
                 (λ p. omega (arith, bank-apart τ x (sp .ok) i j k (q .jIn) (p ∙ sp .bankK j (q .jIn)), gone, n .sameActs))) (q .unop i k (omega (arith, n .sameActs)));

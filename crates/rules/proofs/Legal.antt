@@ -1,6 +1,6 @@
 -- What goes breaks no rule against what has gone before it.
 -- Assumes nothing.
-use Prim.Native.Nat.{ℕ, zero, suc, _≤_, _<_}
+use Prim.Native.Nat.{ℕ, zero, suc, _<_}
 use native.Mathlib.Omega.{arith}
 use mathlib.Core.Path.{_≡_, refl, sym, ap, _∙_, subst}
 use mathlib.Core.Bool.{Bool, true, false}
@@ -14,7 +14,7 @@ use Rattle.records.specs.declared.command.Command.{Command}
 use Rattle.rules.specs.declared.state.State.{State}
 use Rattle.rules.specs.declared.verdict.Found.the-variants.{Fine}
 use Rattle.rules.specs.Kinds.{firstBroken, rulesInOrder}
-use Rattle.rules.specs.State.{testsBy, breaksNone, after}
+use Rattle.rules.specs.State.{testsBy, breaksNone, after, Held}
 use Rattle.rules.specs.History.{inTable, later, rulesBy, broken, isFine}
 use Rattle.rules.specs.Queues.{Due, dueAt, actQueue, dataQueue, headAfter}
 use Rattle.rules.specs.CycleRule.{hadAct, legalAt, otherwise, goesBy, actsIn, goesAt, goes, push}
@@ -65,10 +65,10 @@ pub record QueuesFit (τ : Table) (l : List Transaction) : Type 0 where
   pub datas : every (dueIn τ) (dataQueue τ l) ≡ true
 
 -- a state has a place for each bank of the table
-pub below : (τ : Table) → τ .banks ≤ 16 → (c : Command) → inTable τ (c .kind) (c .bank) ≡ true → c .bank < 16
-below τ fit c i = omega (arith, in-bank τ (c .kind) (c .bank) i)
+pub below : (τ : Table) → Held τ → (c : Command) → inTable τ (c .kind) (c .bank) ≡ true → c .bank < 16
+below τ fit c i = omega (arith, fit .banks, in-bank τ (c .kind) (c .bank) i)
 
-module _ (τ : Table) (fit : τ .banks ≤ 16) (h : List Command) (s : State) (q : Sums h s) where
+module _ (τ : Table) (fit : Held τ) (h : List Command) (s : State) (q : Sums τ h s) where
   -- the rule that a record breaks, read off the state, where `now` says whether it keeps rule 2
   pub broken-same : (c : Command) (now : Bool) → later (c .cycle) h ≡ now
       → broken τ c h ≡ firstBroken (inTable τ (c .kind) (c .bank) ∷ now ∷ testsBy τ s (c .kind) (c .cycle) (c .bank)) rulesInOrder
@@ -129,17 +129,17 @@ module _ (τ : Table) (fit : τ .banks ≤ 16) (h : List Command) (s : State) (q
         good : (x : Due) → dueIn τ x ≡ true → breaksNone τ s (dueAt (s .cycle) x) ≡ true → Good (dueAt (s .cycle) x)
         good x i u = (refl, i, is-fine (broken τ (dueAt (s .cycle) x) h) (legal-same (dueAt (s .cycle) x) refl i ∙ u))
 
-    pub step-legal : LegalHistory τ h → Sums (push (goes τ l s) h) (after s (goes τ l s)) × LegalHistory τ (push (goes τ l s) h)
+    pub step-legal : LegalHistory τ h → Sums τ (push (goes τ l s) h) (after τ s (goes τ l s)) × LegalHistory τ (push (goes τ l s) h)
     step-legal k = on (goes τ l s) goes-good
       where
-        on : (o : Option Command) → OnSome Good o → Sums (push o h) (after s o) × LegalHistory τ (push o h)
-        on none g = (sums-idle h s q, k)
-        on (some c) g = (sums-note h s q c (omega (arith, g .0)) (below τ fit c (g .1)), (g .2, k))
+        on : (o : Option Command) → OnSome Good o → Sums τ (push o h) (after τ s o) × LegalHistory τ (push o h)
+        on none g = (sums-idle τ h s q, k)
+        on (some c) g = (sums-note τ fit h s q c (omega (arith, g .0)) (below τ fit c (g .1)), (g .2, k))
 
 -- after n steps the state sums up what has gone, which is a legal history
-pub steps-legal : (n : ℕ) (τ : Table) → τ .banks ≤ 16 → (l : List Transaction) → QueuesFit τ l → (s : State) (h : List Command) → Sums h s → LegalHistory τ h
-    → Sums (steps n τ l s h .1) (steps n τ l s h .0) × LegalHistory τ (steps n τ l s h .1)
+pub steps-legal : (n : ℕ) (τ : Table) → Held τ → (l : List Transaction) → QueuesFit τ l → (s : State) (h : List Command) → Sums τ h s → LegalHistory τ h
+    → Sums τ (steps n τ l s h .1) (steps n τ l s h .0) × LegalHistory τ (steps n τ l s h .1)
 steps-legal zero τ fit l f s h q k = (q, k)
 steps-legal (suc n) τ fit l f s h q k =
     let z = step-legal τ fit h s q l f k in
-    steps-legal n τ fit l f (after s (goes τ l s)) (push (goes τ l s) h) (z .0) (z .1)
+    steps-legal n τ fit l f (after τ s (goes τ l s)) (push (goes τ l s) h) (z .0) (z .1)

@@ -5,6 +5,7 @@ pub mod Numbers
 pub mod Below
 pub mod Ranges
 pub mod Newest
+pub mod BankRules
 pub mod Link
 pub mod Judged
 pub mod Legal
@@ -16,6 +17,7 @@ pub mod Queue
 pub mod Fit
 pub mod DataKinds
 pub mod Heads
+pub mod Groups
 pub mod Recent
 pub mod Base
 pub mod Due
@@ -44,3 +46,4 @@ pub mod Built
 pub mod Promises
 pub mod Demands
 pub mod Ends
+pub mod OneGroup

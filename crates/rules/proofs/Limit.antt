@@ -11,7 +11,7 @@ use Rattle.records.specs.declared.table.Table.{Table}
 use Rattle.records.specs.declared.transaction.Transaction.{Transaction}
 use Rattle.records.specs.Tests.{pick}
 use Rattle.records.specs.Transaction.{isRefresh}
-use Rattle.rules.specs.Bound.{boundS, boundD, boundX, bound, startAt}
+use Rattle.rules.specs.Bound.{mostCcd, boundS, boundD, boundX, bound, startAt}
 use Rattle.rules.proofs.Ranges.{Ranges}
 use Rattle.rules.proofs.Fit.{Fits, AllFit}
 use Rattle.rules.proofs.Finishes.{nth}
@@ -36,10 +36,10 @@ module _ (τ : Table) (rng : Ranges τ) where
   unfolding bound
   bound-max i c hi hc =
       let n : i * c ≤ 16 * c = mul-le-mul-right c hi in
-      let a : (i * c - 1) * τ .ccd ≤ 255 * τ .ccd = mul-le-mul-right (τ .ccd) (omega arith) in
+      let a : (i * c - 1) * mostCcd τ ≤ 255 * mostCcd τ = mul-le-mul-right (mostCcd τ) (omega arith) in
       let b : (i - 1) * (boundD τ + 1) ≤ 15 * (boundD τ + 1) = mul-le-mul-right (boundD τ + 1) (omega arith) in
-      let d : (c - 1) * τ .ccd ≤ 15 * τ .ccd = mul-le-mul-right (τ .ccd) (omega arith) in
-      go ((i * c - 1) * τ .ccd) ((i - 1) * (boundD τ + 1)) ((c - 1) * τ .ccd) (omega arith) (omega (arith, D-max)) (omega arith)
+      let d : (c - 1) * mostCcd τ ≤ 15 * mostCcd τ = mul-le-mul-right (mostCcd τ) (omega arith) in
+      go ((i * c - 1) * mostCcd τ) ((i - 1) * (boundD τ + 1)) ((c - 1) * mostCcd τ) (omega arith) (omega (arith, D-max)) (omega arith)
     where
       go : (x y z : ℕ) → x ≤ 260865 → y ≤ 15360 → z ≤ 15345 → max (boundX τ + x) (boundS τ + τ .rcd + max x (y + z)) ≤ 265980
       go x y z p q r = omega (arith, X-max, S-max, rng .rcd .most)

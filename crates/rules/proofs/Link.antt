@@ -1,9 +1,10 @@
 -- The state sums up the history: read off it, each of rules 3 to 9, 11 and 12 says what it says against all records before.
 -- Assumes nothing.
 use Prim.Native.Nat.{ℕ, suc, _+_, _≤_, _<_}
+use native.Mathlib.Nat.{mod-lt}
 use native.Mathlib.Omega.{arith}
 use mathlib.Core.Path.{_≡_, refl, sym, ap, _∙_, subst}
-use mathlib.Core.Bool.{Bool, true, false}
+use mathlib.Core.Bool.{Bool, true, false, _&&_, and-true, and-false}
 use mathlib.Core.List.{List, [], _∷_}
 use lib.Dec.{T, eqb, le→leb}
 use lib.ListN.{length, getD, set, length-set, length-replicate, getD-replicate}
@@ -16,16 +17,23 @@ use Rattle.records.specs.declared.command.Kind.the-variants.{Act, Rd, Rda, Wr, 
 use Rattle.records.specs.declared.command.Command.{Command}
 use Rattle.rules.specs.declared.state.Stamp.{Stamp}
 use Rattle.rules.specs.declared.state.Stamp.the-variants.{At}
+use Rattle.rules.specs.declared.state.Group.{Group}
 use Rattle.rules.specs.declared.state.State.{State}
 use Rattle.rules.specs.Kinds.{isAct, isRd, isWr, isRef, isData, inActQueue}
-use Rattle.rules.specs.State.{bankOf, shut, atRest, rule6, rule9, rule11, rule12, actTests, refreshTests, dataTests, testsBy, fresh, bankAfter, addIf, note, idle}
+use Rattle.rules.specs.Square.{groupOf, rrdOf, square}
+use Rattle.rules.specs.State.{past, bankOf, shut, groupAt, quiet, farBy, groupAfter, atRest, rule6, rule9, rule11, rule12, actTests, refreshTests, dataTests, testsBy, fresh, bankAfter, addIf, note, idle, Held}
 use Rattle.rules.specs.History.{later, actBack, farAct, farData, farRefresh, allAtRest, actRules, refreshRules, dataRules, rulesBy}
 use Rattle.rules.specs.CycleRule.{actsIn, datasIn}
 use Rattle.rules.proofs.Below.{below-same}
-use Rattle.rules.proofs.Newest.{lastIn, any, bankIn, Rising, AllBelow, allBelow-up, newest-act, newest-refresh, newest-data, back-same, open-same, act-same, precharge-same, rest-same}
+use Rattle.rules.proofs.Newest.{lastIn, any, inGroup, bankIn, Rising, AllBelow, allBelow-up, groups-act, newest-refresh, groups-data}
+use Rattle.rules.proofs.BankRules.{open-same, act-same, precharge-same, rest-same}
+
+-- what the records say of a group
+abbrev pub groupIn : Table → ℕ → List Command → Group
+groupIn τ g h = record { act = lastIn (inGroup τ isAct g) h; rd = lastIn (inGroup τ isRd g) h; wr = lastIn (inGroup τ isWr g) h }
 
 -- the state sums up the history
-pub record Sums (h : List Command) (s : State) : Type 0 where
+pub record Sums (τ : Table) (h : List Command) (s : State) : Type 0 where
   pub rising : Rising h
   pub low : AllBelow (s .cycle) h
   pub size : length (s .banks) ≡ 16
@@ -36,11 +44,11 @@ pub record Sums (h : List Command) (s : State) : Type 0 where
   pub a2 : s .a2 ≡ actBack 1 h
   pub a3 : s .a3 ≡ actBack 2 h
   pub a4 : s .a4 ≡ actBack 3 h
-  pub rd : s .rd ≡ lastIn (any isRd) h
-  pub wr : s .wr ≡ lastIn (any isWr) h
+  pub groupSize : length (s .groups) ≡ 8
+  pub group : (g : ℕ) → g < 8 → groupAt s g ≡ groupIn τ g h
   pub refresh : s .refresh ≡ lastIn (any isRef) h
 
-pub sums-fresh : (τ : Table) → Sums [] (fresh τ)
+pub sums-fresh : (τ : Table) → Sums τ [] (fresh τ)
 sums-fresh τ =
     record {
       rising = tt;
@@ -53,13 +61,13 @@ sums-fresh τ =
       a2 = refl;
       a3 = refl;
       a4 = refl;
-      rd = refl;
-      wr = refl;
+      groupSize = length-replicate 8 quiet;
+      group = λ g l. getD-replicate 8 g quiet quiet l;
       refresh = refl;
     }
 
-pub sums-idle : (h : List Command) (s : State) → Sums h s → Sums h (idle s)
-sums-idle h s q =
+pub sums-idle : (τ : Table) (h : List Command) (s : State) → Sums τ h s → Sums τ h (idle s)
+sums-idle τ h s q =
     record {
       rising = q .rising;
       low = allBelow-up (s .cycle) (s .cycle + 1) (omega arith) h (q .low);
@@ -71,8 +79,8 @@ sums-idle h s q =
       a2 = q .a2;
       a3 = q .a3;
       a4 = q .a4;
-      rd = q .rd;
-      wr = q .wr;
+      groupSize = q .groupSize;
+      group = q .group;
       refresh = q .refresh;
     }
 
@@ -80,7 +88,7 @@ pub later-of : (t : ℕ) (h : List Command) → AllBelow t h → T (later t h)
 later-of t [] q = tt
 later-of t (r ∷ h) q = le→leb (suc (r .cycle)) t (q .0)
 
-module _ (h : List Command) (s : State) (q : Sums h s) (r : Command) (ge : s .cycle ≤ r .cycle) (lt : r .bank < 16) where
+module _ (τ : Table) (fit : Held τ) (h : List Command) (s : State) (q : Sums τ h s) (r : Command) (ge : s .cycle ≤ r .cycle) (lt : r .bank < 16) where
   bank-note : (b : ℕ) → b < 16
       → getD (set (s .banks) (r .bank) (bankAfter (r .kind) (r .cycle) (bankOf s (r .bank)))) b shut ≡ bankIn b (r ∷ h)
   bank-note b l = on (eqb (r .bank) b) refl
@@ -95,7 +103,34 @@ module _ (h : List Command) (s : State) (q : Sums h s) (r : Command) (ge : s .cy
       on false e =
           getD-set-other (s .banks) (r .bank) b _ shut (λ p. eqb-false (r .bank) b e (sym p)) ∙ q .bank b l
 
-  pub sums-note : Sums (r ∷ h) (note s (r .cycle) (r .kind) (r .bank))
+  one : groupOf τ (r .bank) < 8
+  one = omega (arith, mod-lt (r .bank) (fit .some), fit .groups)
+
+  -- the group of the record's bank takes it in, and no other does
+  group-in : (g : ℕ) → groupIn τ g (r ∷ h) ≡ pick (eqb (groupOf τ (r .bank)) g) (groupAfter (r .kind) (r .cycle) (groupIn τ g h)) (groupIn τ g h)
+  group-in g = on (eqb (groupOf τ (r .bank)) g) (r .kind) (r .cycle) (groupIn τ g h)
+    where
+      on : (e : Bool) (k : Kind) (c : ℕ) (x : Group)
+          → record { act = pick (isAct k && e) (At c) (x .act); rd = pick (isRd k && e) (At c) (x .rd); wr = pick (isWr k && e) (At c) (x .wr) }
+          ≡ pick e (groupAfter k c x) x
+      on true k c x = rw (and-true (isAct k), and-true (isRd k), and-true (isWr k))
+      on false k c x = rw (and-false (isAct k), and-false (isRd k), and-false (isWr k))
+
+  group-note : (g : ℕ) → g < 8
+      → getD (set (s .groups) (groupOf τ (r .bank)) (groupAfter (r .kind) (r .cycle) (groupAt s (groupOf τ (r .bank))))) g quiet ≡ groupIn τ g (r ∷ h)
+  group-note g l = on (eqb (groupOf τ (r .bank)) g) refl ∙ sym (group-in g)
+    where
+      on : (e : Bool) → eqb (groupOf τ (r .bank)) g ≡ e
+          → getD (set (s .groups) (groupOf τ (r .bank)) (groupAfter (r .kind) (r .cycle) (groupAt s (groupOf τ (r .bank))))) g quiet
+          ≡ pick e (groupAfter (r .kind) (r .cycle) (groupIn τ g h)) (groupIn τ g h)
+      on true e =
+          subst (λ (m : ℕ). getD (set (s .groups) (groupOf τ (r .bank)) (groupAfter (r .kind) (r .cycle) (groupAt s (groupOf τ (r .bank))))) m quiet ≡ groupAfter (r .kind) (r .cycle) (groupIn τ m h))
+          (eqb-true (groupOf τ (r .bank)) g e)
+          (getD-set-same (s .groups) (groupOf τ (r .bank)) _ quiet (omega (arith, q .groupSize, one)) ∙ ap (groupAfter (r .kind) (r .cycle)) (q .group (groupOf τ (r .bank)) one))
+      on false e =
+          getD-set-other (s .groups) (groupOf τ (r .bank)) g _ quiet (λ p. eqb-false (groupOf τ (r .bank)) g e (sym p)) ∙ q .group g l
+
+  pub sums-note : Sums τ (r ∷ h) (note τ s (r .cycle) (r .kind) (r .bank))
   sums-note =
       record {
         rising = (later-of (r .cycle) h (allBelow-up (s .cycle) (r .cycle) ge h (q .low)), q .rising);
@@ -108,8 +143,8 @@ module _ (h : List Command) (s : State) (q : Sums h s) (r : Command) (ge : s .cy
         a2 = back (isAct (r .kind)) 0 (s .a1) (s .a2) (q .a1) (q .a2);
         a3 = back (isAct (r .kind)) 1 (s .a2) (s .a3) (q .a2) (q .a3);
         a4 = back (isAct (r .kind)) 2 (s .a3) (s .a4) (q .a3) (q .a4);
-        rd = ap (pick (isRd (r .kind)) (At (r .cycle))) (q .rd);
-        wr = ap (pick (isWr (r .kind)) (At (r .cycle))) (q .wr);
+        groupSize = length-set (s .groups) (groupOf τ (r .bank)) _ ∙ q .groupSize;
+        group = group-note;
         refresh = ap (pick (isRef (r .kind)) (At (r .cycle))) (q .refresh);
       }
     where
@@ -118,12 +153,17 @@ module _ (h : List Command) (s : State) (q : Sums h s) (r : Command) (ge : s .cy
       back false n x y p p' = p'
 
 -- the tests off the state are the rules against the history
-module _ (τ : Table) (fit : τ .banks ≤ 16) (h : List Command) (s : State) (q : Sums h s) where
+module _ (τ : Table) (fit : Held τ) (h : List Command) (s : State) (q : Sums τ h s) where
   rrd-same : (t b : ℕ) → every (farAct τ b t) h ≡ rule6 τ s t b
-  rrd-same t b = newest-act τ b t h (q .rising) ∙ rw (q .a1, back-same 0 h)
+  rrd-same t b =
+      groups-act τ b t h (q .rising) (fit .some)
+      ∙ below-same (τ .groups) _ (λ g. past (groupAt s g .act) (rrdOf τ (eqb g (groupOf τ b))) t) (λ g l. rw (q .group g (omega (arith, fit .groups))))
 
   distance-same : (w : Bool) (t b : ℕ) → every (farData τ w b t) h ≡ rule9 τ s w t b
-  distance-same w t b = newest-data τ b t h (q .rising) w ∙ rw (q .rd, q .wr)
+  distance-same w t b =
+      groups-data τ b t h (q .rising) (fit .some) w
+      ∙ below-same (τ .groups) _ (λ g. farBy (square τ (eqb g (groupOf τ b))) (groupAt s g .rd) (groupAt s g .wr) w t)
+      (λ g l. rw (q .group g (omega (arith, fit .groups))))
 
   rfc-same : (t : ℕ) → every (farRefresh τ t) h ≡ rule12 τ s t
   rfc-same t = newest-refresh τ 0 t h (q .rising) ∙ rw (q .refresh)
@@ -131,7 +171,7 @@ module _ (τ : Table) (fit : τ .banks ≤ 16) (h : List Command) (s : State) (q
   rest-told : (t : ℕ) → allAtRest τ t h ≡ rule11 τ s t
   rest-told t =
       rest-same τ t h (q .rising)
-      ∙ below-same (τ .banks) (λ b. atRest τ (bankIn b h) t) (λ b. atRest τ (bankOf s b) t) (λ b l. rw (q .bank b (omega arith)))
+      ∙ below-same (τ .banks) (λ b. atRest τ (bankIn b h) t) (λ b. atRest τ (bankOf s b) t) (λ b l. rw (q .bank b (omega (arith, fit .banks))))
 
   act-rules : (t b : ℕ) → b < 16 → actRules τ t b h ≡ actTests τ s t b
   act-rules t b l = rw (q .bank b l, q .a4, open-same b h, precharge-same τ t b h (q .rising), act-same b h, rrd-same t b, rfc-same t)

@@ -21,7 +21,8 @@ use Rattle.records.specs.Tests.{pick, allOf}
 use Rattle.records.specs.Transaction.{isWrite, isRefresh}
 use Rattle.records.specs.Command.{command}
 use Rattle.rules.specs.Kinds.{isRd, isWr, isData}
-use Rattle.rules.specs.State.{isOpen, shut, bankOf, actTests, testsBy, breaksNone, fresh, bankAfter, addIf, note, idle, after}
+use Rattle.rules.specs.Square.{groupOf, square}
+use Rattle.rules.specs.State.{isOpen, shut, bankOf, groupAt, farBy, rule9, groupAfter, actTests, testsBy, breaksNone, fresh, bankAfter, addIf, note, idle, after}
 use Rattle.rules.specs.Queues.{dueAt, bankAt, actCount}
 use Rattle.rules.specs.CycleRule.{goes, push}
 use Rattle.rules.specs.Run.{steps}
@@ -37,7 +38,9 @@ use Rattle.rules.proofs.Caps.{after-size, acts-up, datas-up}
 use Rattle.rules.proofs.Progress.{Progress, progress-fresh, progress-step}
 use Rattle.rules.proofs.Front.{find-front, actOf, Own, data-own, actOf-lt}
 use Rattle.rules.proofs.StillOpen.{due-open}
-use Rattle.rules.proofs.Side.{Mid, Side, early, mid, late, sort, same, own-number, later-number, Step, step-early, step-late}
+use Rattle.rules.proofs.Below.{below-same}
+use Rattle.rules.proofs.Groups.{set-each, set-pair}
+use Rattle.rules.proofs.Side.{SameData, Mid, Side, early, mid, late, sort, same, own-number, later-number, Step, step-early, step-late}
 
 module _ (τ : Table) (rng : Ranges τ) (xs ys : List Transaction) (v : AllFit τ xs) where
   module _ (s u : State) (h g : List Command) (q : Mid τ xs ys s u) (more : s .datas < dataSum xs) (e : ofFirst (length xs) g ≡ h) (st : Progress τ xs s h) where
@@ -47,6 +50,12 @@ module _ (τ : Table) (rng : Ranges τ) (xs ys : List Transaction) (v : AllFit �
         on (dataPlace xs (s .datas)) (data-own τ xs v 0 0 (s .datas))
         ∙ ap (dataFrom (breaksNone τ u) τ (u .cycle) (u .acts)) (sym (ap (dataPlace (xs ++ ys)) (sym (q .datas)) ∙ find-front dataCount ys xs 0 0 (s .datas) more))
       where
+        nine : (w : Bool) (t b : ℕ) → rule9 τ s w t b ≡ rule9 τ u w t b
+        nine w t b =
+            below-same (τ .groups) (λ g. farBy (square τ (eqb g (groupOf τ b))) (groupAt s g .rd) (groupAt s g .wr) w t)
+            (λ g. farBy (square τ (eqb g (groupOf τ b))) (groupAt u g .rd) (groupAt u g .wr) w t)
+            (λ g l. rw (q .group g .0, q .group g .1))
+
         on : (o : Option Place) → OnSome (Own τ xs 0 (s .datas)) o
             → dataFrom (breaksNone τ s) τ (s .cycle) (s .acts) o ≡ dataFrom (breaksNone τ u) τ (u .cycle) (u .acts) o
         on none k = refl
@@ -60,8 +69,7 @@ module _ (τ : Table) (rng : Ranges τ) (xs ys : List Transaction) (v : AllFit �
               lt-ltb (dataDue τ p .act) (s .acts) (omega (arith, q .actsS)),
               lt-ltb (dataDue τ p .act) (u .acts) (omega (arith, q .actsU)),
               b,
-              q .rd,
-              q .wr,
+              nine (isWrite (p .transaction)) (s .cycle) (dataDue τ p .bank),
               q .cycle,
             )
 
@@ -79,36 +87,38 @@ module _ (τ : Table) (rng : Ranges τ) (xs ys : List Transaction) (v : AllFit �
             (λ y. (k .1, data-bank τ p k')) (λ y. tt)
 
     -- the same data command goes in both
-    mid-data : (c : Command) → Head c → Side τ xs ys (after s (some c)) (after u (some c))
+    mid-data : (c : Command) → Head c → Side τ xs ys (after τ s (some c)) (after τ u (some c))
     mid-data c k =
-        sort τ xs ys (after s (some c)) (after u (some c))
+        sort τ xs ys (after τ s (some c)) (after τ u (some c))
         (record {
-          actsS = omega (arith, q .actsS, acts-up s (some c));
-          actsU = omega (arith, q .actsU, acts-up u (some c));
-          sizeS = rw length-set (q .sizeS);
-          sizeU = rw length-set (q .sizeU);
+          actsS = omega (arith, q .actsS, acts-up τ s (some c));
+          actsU = omega (arith, q .actsU, acts-up τ u (some c));
+          sizeS = rw (length-set (s .banks)) (q .sizeS);
+          sizeU = rw (length-set (u .banks)) (q .sizeU);
           cycle = refl;
           datas = ap (addIf (isData (c .kind))) (q .datas);
-          rd = ap (pick (isRd (c .kind)) (At (c .cycle))) (q .rd);
-          wr = ap (pick (isWr (c .kind)) (At (c .cycle))) (q .wr);
+          groupSize = rw (length-set (s .groups), length-set (u .groups)) (q .groupSize);
+          group = set-pair SameData (s .groups) (u .groups) (groupOf τ (c .bank)) (groupAfter (c .kind) (c .cycle) (groupAt s (groupOf τ (c .bank))))
+              (groupAfter (c .kind) (c .cycle) (groupAt u (groupOf τ (c .bank)))) (q .groupSize) (q .group)
+              (ap (pick (isRd (c .kind)) (At (c .cycle))) (q .group (groupOf τ (c .bank)) .0), ap (pick (isWr (c .kind)) (At (c .cycle))) (q .group (groupOf τ (c .bank)) .1));
           bank = λ n a b. agree n a b (same? (actBank τ xs (actOf xs n)) (c .bank));
         })
       where
-        hit : (w : State) → τ .banks ≤ length (w .banks) → (b : ℕ) → b ≡ c .bank → bankOf (after w (some c)) b ≡ bankAfter (c .kind) (c .cycle) (bankOf w (c .bank))
+        hit : (w : State) → τ .banks ≤ length (w .banks) → (b : ℕ) → b ≡ c .bank → bankOf (after τ w (some c)) b ≡ bankAfter (c .kind) (c .cycle) (bankOf w (c .bank))
         hit w z b p = rw p (getD-set-same (w .banks) (c .bank) (bankAfter (c .kind) (c .cycle) (bankOf w (c .bank))) shut (omega (arith, k .1)))
 
-        miss : (w : State) (b : ℕ) → b ≢ c .bank → bankOf (after w (some c)) b ≡ bankOf w b
+        miss : (w : State) (b : ℕ) → b ≢ c .bank → bankOf (after τ w (some c)) b ≡ bankOf w b
         miss w b p = getD-set-other (w .banks) (c .bank) b (bankAfter (c .kind) (c .cycle) (bankOf w (c .bank))) shut p
 
         here : bankOf s (c .bank) ≡ bankOf u (c .bank)
         here = rw (k .0) (q .bank (s .datas) (omega arith) more)
 
-        agree : (n : ℕ) → after s (some c) .datas ≤ n → n < dataSum xs → (actBank τ xs (actOf xs n) ≡ c .bank) ⊎ (actBank τ xs (actOf xs n) ≢ c .bank)
-            → bankOf (after s (some c)) (actBank τ xs (actOf xs n)) ≡ bankOf (after u (some c)) (actBank τ xs (actOf xs n))
+        agree : (n : ℕ) → after τ s (some c) .datas ≤ n → n < dataSum xs → (actBank τ xs (actOf xs n) ≡ c .bank) ⊎ (actBank τ xs (actOf xs n) ≢ c .bank)
+            → bankOf (after τ s (some c)) (actBank τ xs (actOf xs n)) ≡ bankOf (after τ u (some c)) (actBank τ xs (actOf xs n))
         agree n a b (inl z) =
             hit s (q .sizeS) (actBank τ xs (actOf xs n)) z ∙ (ap (bankAfter (c .kind) (c .cycle)) here ∙ sym (hit u (q .sizeU) (actBank τ xs (actOf xs n)) z))
         agree n a b (inr z) =
-            miss s (actBank τ xs (actOf xs n)) z ∙ (q .bank n (omega (arith, datas-up s (some c))) b ∙ sym (miss u (actBank τ xs (actOf xs n)) z))
+            miss s (actBank τ xs (actOf xs n)) z ∙ (q .bank n (omega (arith, datas-up τ s (some c))) b ∙ sym (miss u (actBank τ xs (actOf xs n)) z))
 
     -- nothing goes in the first, and nothing or a command of ys from the ACT queue in the second
     mid-idle : Side τ xs ys (idle s) (idle u)
@@ -121,23 +131,23 @@ module _ (τ : Table) (rng : Ranges τ) (xs ys : List Transaction) (v : AllFit �
           sizeU = q .sizeU;
           cycle = ap (λ (y : ℕ). y + 1) (q .cycle);
           datas = q .datas;
-          rd = q .rd;
-          wr = q .wr;
+          groupSize = q .groupSize;
+          group = q .group;
           bank = q .bank;
         })
 
-    mid-act : (b : ℕ) → actOk τ u b ≡ true → Side τ xs ys (idle s) (note u (u .cycle) Act b)
+    mid-act : (b : ℕ) → actOk τ u b ≡ true → Side τ xs ys (idle s) (note τ u (u .cycle) Act b)
     mid-act b ok =
-        sort τ xs ys (idle s) (note u (u .cycle) Act b)
+        sort τ xs ys (idle s) (note τ u (u .cycle) Act b)
         (record {
           actsS = q .actsS;
           actsU = omega (arith, q .actsU);
           sizeS = q .sizeS;
-          sizeU = rw length-set (q .sizeU);
+          sizeU = rw (length-set (u .banks)) (q .sizeU);
           cycle = ap (λ (y : ℕ). y + 1) (q .cycle);
           datas = q .datas;
-          rd = q .rd;
-          wr = q .wr;
+          groupSize = rw (length-set (u .groups)) (q .groupSize);
+          group = set-each (λ g. SameData (groupAt s g)) (u .groups) (groupOf τ b) (groupAfter Act (u .cycle) (groupAt u (groupOf τ b))) (q .group) (q .group (groupOf τ b));
           bank = λ n i i'. q .bank n i i' ∙ sym (getD-set-other (u .banks) b (actBank τ xs (actOf xs n)) (bankAfter Act (u .cycle) (bankOf u b)) shut (apart n i i'));
         })
       where
@@ -151,18 +161,18 @@ module _ (τ : Table) (rng : Ranges τ) (xs ys : List Transaction) (v : AllFit �
             (ap isOpen (sym (q .bank n i i')) ∙ due-open τ rng xs v s h st n i i' (omega (arith, q .actsS, actOf-lt τ xs v n i'))))
             closed
 
-    mid-ref : Side τ xs ys (idle s) (note u (u .cycle) Ref 0)
+    mid-ref : Side τ xs ys (idle s) (note τ u (u .cycle) Ref 0)
     mid-ref =
-        sort τ xs ys (idle s) (note u (u .cycle) Ref 0)
+        sort τ xs ys (idle s) (note τ u (u .cycle) Ref 0)
         (record {
           actsS = q .actsS;
           actsU = omega (arith, q .actsU);
           sizeS = q .sizeS;
-          sizeU = rw length-set (q .sizeU);
+          sizeU = rw (length-set (u .banks)) (q .sizeU);
           cycle = ap (λ (y : ℕ). y + 1) (q .cycle);
           datas = q .datas;
-          rd = q .rd;
-          wr = q .wr;
+          groupSize = rw (length-set (u .groups)) (q .groupSize);
+          group = set-each (λ g. SameData (groupAt s g)) (u .groups) (groupOf τ 0) (groupAfter Ref (u .cycle) (groupAt u (groupOf τ 0))) (q .group) (q .group (groupOf τ 0));
           bank = λ n i i'. rw (set-getD (u .banks) 0 shut) (q .bank n i i');
         })
 
@@ -213,7 +223,7 @@ module _ (τ : Table) (rng : Ranges τ) (xs ys : List Transaction) (v : AllFit �
   side-steps zero s u h g z st r e = e
   side-steps (suc n) s u h g z st r e =
       let k = step s u h g z st r e in
-      side-steps n (after s (goes τ xs s)) (after u (goes τ (xs ++ ys) u)) (push (goes τ xs s) h) (push (goes τ (xs ++ ys) u) g)
+      side-steps n (after τ s (goes τ xs s)) (after τ u (goes τ (xs ++ ys) u)) (push (goes τ xs s) h) (push (goes τ (xs ++ ys) u) g)
       (rw after-size z) (progress-step τ rng xs v s h st) (k .0) (k .1)
 
   -- at every cycle the commands of xs in the two runs are the same

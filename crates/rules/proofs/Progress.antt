@@ -116,11 +116,11 @@ module _ (τ : Table) (rng : Ranges τ) (l : List Transaction) (v : AllFit τ l)
 
     -- what the step is shown to keep, of the command o
     abbrev After : Option Command → Type 0
-    After o = Progress τ l (after s o) (push o h)
+    After o = Progress τ l (after τ s o) (push o h)
 
     -- the same transaction goes on
-    still : (rest : List Transaction) → l ≡ q .done ++ rest → (o : Option Command) → OnSome (OfNumber K) o → Capped l (after s o)
-        → Stands τ l (q .done) rest F (after s o) → After o
+    still : (rest : List Transaction) → l ≡ q .done ++ rest → (o : Option Command) → OnSome (OfNumber K) o → Capped l (after τ s o)
+        → Stands τ l (q .done) rest F (after τ s o) → After o
     still rest e o u k w =
         record {
           done = q .done;
@@ -144,8 +144,8 @@ module _ (τ : Table) (rng : Ranges τ) (l : List Transaction) (v : AllFit τ l)
       sums : (f : Transaction → ℕ) → sum f (q .done) + f x ≡ sum f (q .done ++ x ∷ [])
       sums f = sym (sum-append f (q .done) (x ∷ []) ∙ omega arith)
 
-      finished : (c : Command) → LastOf K (s .cycle) c → s .cycle ≤ startAt x F + span τ x → Capped l (after s (some c)) → (ta : ℕ → ℕ)
-          → Between τ l (actSum (q .done) + actCount x) (dataSum (q .done) + dataCount x) (s .cycle) (countFrom τ x (s .cycle)) ta (after s (some c))
+      finished : (c : Command) → LastOf K (s .cycle) c → s .cycle ≤ startAt x F + span τ x → Capped l (after τ s (some c)) → (ta : ℕ → ℕ)
+          → Between τ l (actSum (q .done) + actCount x) (dataSum (q .done) + dataCount x) (s .cycle) (countFrom τ x (s .cycle)) ta (after τ s (some c))
           → After (some c)
       finished c u b k ta en =
           record {
@@ -157,9 +157,9 @@ module _ (τ : Table) (rng : Ranges τ) (l : List Transaction) (v : AllFit τ l)
             finishes = subst (λ (n : ℕ). Finishes τ l n (ext (q .last) K (s .cycle)) start' (c ∷ h)) (sym len)
                 (subst (λ (y : Transaction). Finishes τ l (K + 1) (ext (q .last) K (s .cycle)) (ext (q .start) (K + 1) (countFrom τ y (s .cycle))) (c ∷ h)) here
                 (finishes-more τ l K (q .last) (q .start) h (q .finishes) (s .cycle) c u (rw here b)));
-            stands = subst (λ (f : ℕ). Stands τ l (q .done ++ x ∷ []) rest f (after s (some c)))
+            stands = subst (λ (f : ℕ). Stands τ l (q .done ++ x ∷ []) rest f (after τ s (some c)))
                 (sym (ext-eq (q .start) (K + 1) (countFrom τ x (s .cycle)) (length (q .done ++ x ∷ [])) len))
-                (go-on τ rng l (q .done ++ x ∷ []) rest v split' (s .cycle) (countFrom τ x (s .cycle)) ta (after s (some c))
+                (go-on τ rng l (q .done ++ x ∷ []) rest v split' (s .cycle) (countFrom τ x (s .cycle)) ta (after τ s (some c))
                 (rw (← sums actCount, ← sums dataCount) en));
             caps = k;
           }
@@ -174,7 +174,7 @@ module _ (τ : Table) (rng : Ranges τ) (l : List Transaction) (v : AllFit τ l)
     unfolding Next NextRef spot
     progress-step = on (q .rest) (q .split) (q .stands)
       where
-        caps' : Capped l (after s (goes τ l s))
+        caps' : Capped l (after τ s (goes τ l s))
         caps' = caps-step τ l s (q .caps)
 
         on : (rest : List Transaction) → l ≡ q .done ++ rest → Stands τ l (q .done) rest F s → After (goes τ l s)
@@ -193,11 +193,11 @@ module _ (τ : Table) (rng : Ranges τ) (l : List Transaction) (v : AllFit τ l)
 
             -- the transaction ends with the command that goes
             ends : (o : Option Command) → goes τ l s ≡ o → s .cycle ≤ F' + span τ x → ((c : Command) × (o ≡ some c) × LastOf K (s .cycle) c)
-                → ((ta : ℕ → ℕ) × Between τ l (actSum (q .done) + actCount x) (dataSum (q .done) + dataCount x) (s .cycle) (countFrom τ x (s .cycle)) ta (after s o)) → After o
+                → ((ta : ℕ → ℕ) × Between τ l (actSum (q .done) + actCount x) (dataSum (q .done) + dataCount x) (s .cycle) (countFrom τ x (s .cycle)) ta (after τ s o)) → After o
             ends o p b y z =
                 subst After (sym (y .1))
-                (finished x rest e (y .0) (y .2) b (subst (λ (o : Option Command). Capped l (after s o)) (p ∙ y .1) caps') (z .0)
-                (subst (λ (o : Option Command). Between τ l (actSum (q .done) + actCount x) (dataSum (q .done) + dataCount x) (s .cycle) (countFrom τ x (s .cycle)) (z .0) (after s o))
+                (finished x rest e (y .0) (y .2) b (subst (λ (o : Option Command). Capped l (after τ s o)) (p ∙ y .1) caps') (z .0)
+                (subst (λ (o : Option Command). Between τ l (actSum (q .done) + actCount x) (dataSum (q .done) + dataCount x) (s .cycle) (countFrom τ x (s .cycle)) (z .0) (after τ s o))
                 (y .1) (z .1)))
 
             by : (z : Bool) → isRefresh x ≡ z → InService z τ l (q .done) x F' s → After (goes τ l s)
@@ -208,7 +208,7 @@ module _ (τ : Table) (rng : Ranges τ) (l : List Transaction) (v : AllFit τ l)
                 inRef : NextRef τ l (actSum (q .done)) (dataSum (q .done)) x F' K s (goes τ l s) → After (goes τ l s)
                 inRef (inl y) =
                     still (x ∷ rest) e (goes τ l s) (y .0) caps'
-                    (subst (λ (z : Bool). InService z τ l (q .done) x F' (after s (goes τ l s))) (sym er) (y .1))
+                    (subst (λ (z : Bool). InService z τ l (q .done) x F' (after τ s (goes τ l s))) (sym er) (y .1))
                 inRef (inr y) = ends (goes τ l s) refl (y .0) (y .1) (y .2)
             by false er w =
                 inPhase (phase-step τ rng l v (actSum (q .done)) (dataSum (q .done)) x (spot τ l (q .done) x rest v e er) F' (w .0) (w .1) (w .2) s (w .3))
@@ -216,9 +216,9 @@ module _ (τ : Table) (rng : Ranges τ) (l : List Transaction) (v : AllFit τ l)
                 inPhase : Next τ l (actSum (q .done)) (dataSum (q .done)) x F' K s (goes τ l s) → After (goes τ l s)
                 inPhase (inl y) =
                     still (x ∷ rest) e (goes τ l s) (y .0) caps'
-                    (subst (λ (z : Bool). InService z τ l (q .done) x F' (after s (goes τ l s))) (sym er) (y .1))
+                    (subst (λ (z : Bool). InService z τ l (q .done) x F' (after τ s (goes τ l s))) (sym er) (y .1))
                 inPhase (inr y) = ends (goes τ l s) refl (y .0) (y .1) (y .2 .0, rw er (y .2 .1))
 
   pub steps-progress : (n : ℕ) (s : State) (h : List Command) → Progress τ l s h → Progress τ l (steps n τ l s h .0) (steps n τ l s h .1)
   steps-progress zero s h q = q
-  steps-progress (suc n) s h q = steps-progress n (after s (goes τ l s)) (push (goes τ l s) h) (progress-step s h q)
+  steps-progress (suc n) s h q = steps-progress n (after τ s (goes τ l s)) (push (goes τ l s) h) (progress-step s h q)

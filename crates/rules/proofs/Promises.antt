@@ -174,9 +174,11 @@ module _ (τ : Table) (acc : Accepted τ) where
   runs-kept l fit =
       record {
         splits = λ n m s. n-then-m n m τ l s;
-        edition = λ n s. past-kept τ l (each-fits τ acc l fit) n s [] .2;
-        size = λ n s. past-kept τ l (each-fits τ acc l fit) n s [] .1;
-        pastKept = λ n s. past-kept τ l (each-fits τ acc l fit) n s [] .0;
-        pastUnread = λ n s u q. past-unread τ l (each-fits τ acc l fit) n s u [] q;
+        edition = λ n s. past-kept τ (ranges τ acc .groups .least) l (each-fits τ acc l fit) n s [] .edition;
+        size = λ n s. past-kept τ (ranges τ acc .groups .least) l (each-fits τ acc l fit) n s [] .bankCount;
+        pastKept = λ n s. past-kept τ (ranges τ acc .groups .least) l (each-fits τ acc l fit) n s [] .pastBanks;
+        groupSize = λ n s. past-kept τ (ranges τ acc .groups .least) l (each-fits τ acc l fit) n s [] .groupCount;
+        groupsKept = λ n s. past-kept τ (ranges τ acc .groups .least) l (each-fits τ acc l fit) n s [] .pastGroups;
+        pastUnread = λ n s u q. past-unread τ (ranges τ acc .groups .least) l (each-fits τ acc l fit) n s u [] q;
         room = λ n s a d. run-room τ l n s a d;
       }

@@ -27,7 +27,7 @@ use Rattle.rules.proofs.TestLaws.{true-false, OnSome}
 use Rattle.rules.proofs.Ranges.{Ranges}
 use Rattle.rules.proofs.Numbers.{same?, from?}
 use Rattle.rules.proofs.Below.{below-all}
-use Rattle.rules.proofs.Queue.{Place, dataCount, placeOf, actPlace, dataPlace, dataDue, actOfPlace, isActAt, sum, actSum, dataSum, at-own, sum-append}
+use Rattle.rules.proofs.Queue.{Place, dataCount, placeOf, actPlace, dataPlace, dataDue, actOfPlace, isActAt, actSum, dataSum, at-own, sum-append}
 use Rattle.rules.proofs.Fit.{Refreshing}
 use Rattle.rules.proofs.Front.{find-back}
 use Rattle.rules.proofs.Heads.{dataFrom, actFrom, tryData, tryAct, goes-try, refreshOk}
@@ -103,7 +103,7 @@ module _ (τ : Table) (rng : Ranges τ) (l : List Transaction) (A M F : ℕ) (re
         }
 
     -- it goes, and the next count starts at its finish
-    refresh-goes : Between τ l (A + 1) M (s .cycle) (s .cycle + τ .rfc) (ext ta (s .acts) (s .cycle)) (note s (s .cycle) Ref 0)
+    refresh-goes : Between τ l (A + 1) M (s .cycle) (s .cycle + τ .rfc) (ext ta (s .acts) (s .cycle)) (note τ s (s .cycle) Ref 0)
     refresh-goes =
         record {
           base = base-ref τ l A ta c s (q .base) (s .cycle) (q .lo) (q .here);
@@ -120,9 +120,9 @@ module _ (τ : Table) (rng : Ranges τ) (l : List Transaction) (A M F : ℕ) (re
 -- it waits on, or goes with the command o, in time
 unfoldable pub NextRef : (τ : Table) (l : List Transaction) (A M : ℕ) (x : Transaction) (F K : ℕ) (s : State) (o : Option Command) → Type 0
 NextRef τ l A M x F K s o =
-    (OnSome (OfNumber K) o × ((ta : ℕ → ℕ) × (c : ℕ) × RefNext τ l A M F ta c (after s o)))
+    (OnSome (OfNumber K) o × ((ta : ℕ → ℕ) × (c : ℕ) × RefNext τ l A M F ta c (after τ s o)))
     ⊎ ((s .cycle ≤ F + span τ x) × ((c : Command) × (o ≡ some c) × LastOf K (s .cycle) c)
-    × ((ta : ℕ → ℕ) × Between τ l (A + actCount x) (M + dataCount x) (s .cycle) (countFrom τ x (s .cycle)) ta (after s o)))
+    × ((ta : ℕ → ℕ) × Between τ l (A + actCount x) (M + dataCount x) (s .cycle) (countFrom τ x (s .cycle)) ta (after τ s o)))
 
 -- the place of the REF of x, after the transactions p
 pub ref-place : (p : List Transaction) (x : Transaction) (rest : List Transaction) → isRefresh x ≡ true
@@ -172,7 +172,7 @@ module _ (τ : Table) (rng : Ranges τ) (p : List Transaction) (x : Transaction)
             ∙ (ap (λ (o : Option Command). otherwise o (tryAct τ L s)) no-data
             ∙ (ap (actFrom (breaksNone τ s) τ (s .cycle)) (ap (actPlace L) (q .here) ∙ ref-place p x rest (w .refresh)) ∙ rw (w .refresh)))
 
-        next : Between τ L (actSum p + actCount x) (dataSum p + dataCount x) (s .cycle) (countFrom τ x (s .cycle)) (ext ta (s .acts) (s .cycle)) (note s (s .cycle) Ref 0)
+        next : Between τ L (actSum p + actCount x) (dataSum p + dataCount x) (s .cycle) (countFrom τ x (s .cycle)) (ext ta (s .acts) (s .cycle)) (note τ s (s .cycle) Ref 0)
         next =
             let e : dataSum p + dataCount x ≡ dataSum p = omega (arith, no-datas) in
             rw (e, w .refresh) (refresh-goes τ rng L (actSum p) (dataSum p) F not-act ta c s q)

@@ -46,9 +46,9 @@ LastOf K t c = (canEnd (c .kind) ≡ true) × (c .number ≡ K) × (c .cycle ≡
 -- the phase goes on, or it ends with the command o, in time
 unfoldable pub Next : (τ : Table) (l : List Transaction) (A0 M0 : ℕ) (x : Transaction) (F K : ℕ) (s : State) (o : Option Command) → Type 0
 Next τ l A0 M0 x F K s o =
-    (OnSome (OfNumber K) o × ((ta : ℕ → ℕ) × (j : ℕ) × (r : ℕ) × Serving τ l A0 M0 x F ta j r (after s o)))
+    (OnSome (OfNumber K) o × ((ta : ℕ → ℕ) × (j : ℕ) × (r : ℕ) × Serving τ l A0 M0 x F ta j r (after τ s o)))
     ⊎ ((s .cycle ≤ F + span τ x) × ((c : Command) × (o ≡ some c) × LastOf K (s .cycle) c)
-    × ((ta : ℕ → ℕ) × Between τ l (A0 + x .bi) (M0 + x .bi * x .bc) (s .cycle) (s .cycle) ta (after s o)))
+    × ((ta : ℕ → ℕ) × Between τ l (A0 + x .bi) (M0 + x .bi * x .bc) (s .cycle) (s .cycle) ta (after τ s o)))
 
 module _ (τ : Table) (rng : Ranges τ) (l : List Transaction) (v : AllFit τ l) (A0 M0 : ℕ) (x : Transaction) (sp : Spot τ l A0 M0 x) (F : ℕ) (ta : ℕ → ℕ) (j r : ℕ)
     (s : State) (q : Serving τ l A0 M0 x F ta j r s) where
@@ -127,7 +127,7 @@ module _ (τ : Table) (rng : Ranges τ) (l : List Transaction) (v : AllFit τ l)
               ext ta (s .acts) (s .cycle),
               j,
               r,
-              subst (λ (y : ℕ). Serving τ l A0 M0 x F (ext ta (s .acts) (s .cycle)) j r (note s (s .cycle) Act y)) (sym b)
+              subst (λ (y : ℕ). Serving τ l A0 M0 x F (ext ta (s .acts) (s .cycle)) j r (note τ s (s .cycle) Act y)) (sym b)
                   (step-act τ rng l A0 M0 x sp F ta j r s q e (is-act ∙ ap not er) (subst (λ (y : ℕ). y < τ .banks) b lt) (subst (λ (y : ℕ). actOk τ s y ≡ true) b ok)),
             ),
           )

@@ -24,7 +24,7 @@ stopped zero τ l s h e = refl
 stopped (suc m) τ l s h e = rw (e, run)
 
 pub going : (n : ℕ) (τ : Table) (l : List Transaction) (s : State) (h : List Command) → stops τ l s ≡ false
-    → run (suc n) τ l s h ≡ oneMore (run n τ l (after s (goes τ l s)) (push (goes τ l s) h))
+    → run (suc n) τ l s h ≡ oneMore (run n τ l (after τ s (goes τ l s)) (push (goes τ l s) h))
 going n τ l s h e = rw (e, run)
 
 pub run-add : (n m : ℕ) (τ : Table) (l : List Transaction) (s : State) (h : List Command)
@@ -34,12 +34,12 @@ run-add zero m τ l s h =
     let z' : 0 + run m τ l s h .cycles ≡ run m τ l s h .cycles = omega arith in rw (z, z')
 run-add (suc n) m τ l s h =
     let z : suc n + m ≡ suc (n + m) = omega arith in
-    rw z (on (stops τ l s) refl (run-add n m τ l (after s (goes τ l s)) (push (goes τ l s) h)))
+    rw z (on (stops τ l s) refl (run-add n m τ l (after τ s (goes τ l s)) (push (goes τ l s) h)))
   where
     next : Ran
-    next = run n τ l (after s (goes τ l s)) (push (goes τ l s) h)
+    next = run n τ l (after τ s (goes τ l s)) (push (goes τ l s) h)
 
-    on : (b : Bool) → stops τ l s ≡ b → run (n + m) τ l (after s (goes τ l s)) (push (goes τ l s) h) ≡ join next (run m τ l (next .state) (next .history))
+    on : (b : Bool) → stops τ l s ≡ b → run (n + m) τ l (after τ s (goes τ l s)) (push (goes τ l s) h) ≡ join next (run m τ l (next .state) (next .history))
         → run (suc (n + m)) τ l s h ≡ join (run (suc n) τ l s h) (run m τ l (run (suc n) τ l s h .state) (run (suc n) τ l s h .history))
     on true e ih = rw (stopped (suc (n + m)) τ l s h e, stopped (suc n) τ l s h e, stopped m τ l s h e)
     on false e ih =
@@ -52,21 +52,21 @@ run-add (suc n) m τ l s h =
 pub run-steps : (n : ℕ) (τ : Table) (l : List Transaction) (s : State) (h : List Command)
     → steps (run n τ l s h .cycles) τ l s h ≡ (run n τ l s h .state, run n τ l s h .history)
 run-steps zero τ l s h = refl
-run-steps (suc n) τ l s h = on (stops τ l s) refl (run-steps n τ l (after s (goes τ l s)) (push (goes τ l s) h))
+run-steps (suc n) τ l s h = on (stops τ l s) refl (run-steps n τ l (after τ s (goes τ l s)) (push (goes τ l s) h))
   where
     next : Ran
-    next = run n τ l (after s (goes τ l s)) (push (goes τ l s) h)
+    next = run n τ l (after τ s (goes τ l s)) (push (goes τ l s) h)
 
-    on : (b : Bool) → stops τ l s ≡ b → steps (next .cycles) τ l (after s (goes τ l s)) (push (goes τ l s) h) ≡ (next .state, next .history)
+    on : (b : Bool) → stops τ l s ≡ b → steps (next .cycles) τ l (after τ s (goes τ l s)) (push (goes τ l s) h) ≡ (next .state, next .history)
         → steps (run (suc n) τ l s h .cycles) τ l s h ≡ (run (suc n) τ l s h .state, run (suc n) τ l s h .history)
     on true e ih = rw (stopped (suc n) τ l s h e) refl
     on false e ih = rw (going n τ l s h e, add-one (next .cycles)) ih
 
 pub run-cycles : (n : ℕ) (τ : Table) (l : List Transaction) (s : State) (h : List Command) → run n τ l s h .cycles ≤ n
 run-cycles zero τ l s h = omega arith
-run-cycles (suc n) τ l s h = on (stops τ l s) refl (run-cycles n τ l (after s (goes τ l s)) (push (goes τ l s) h))
+run-cycles (suc n) τ l s h = on (stops τ l s) refl (run-cycles n τ l (after τ s (goes τ l s)) (push (goes τ l s) h))
   where
-    on : (b : Bool) → stops τ l s ≡ b → run n τ l (after s (goes τ l s)) (push (goes τ l s) h) .cycles ≤ n → run (suc n) τ l s h .cycles ≤ suc n
+    on : (b : Bool) → stops τ l s ≡ b → run n τ l (after τ s (goes τ l s)) (push (goes τ l s) h) .cycles ≤ n → run (suc n) τ l s h .cycles ≤ suc n
     on true e ih = rw (stopped (suc n) τ l s h e) (omega arith)
     on false e ih = rw (going n τ l s h e) (omega arith)
 
@@ -80,15 +80,15 @@ push-append (some c) g h = refl
 
 history-over : (n : ℕ) (τ : Table) (l : List Transaction) (s : State) (g h : List Command) → run n τ l s (g ++ h) ≡ before-older h (run n τ l s g)
 history-over zero τ l s g h = refl
-history-over (suc n) τ l s g h = on (stops τ l s) refl (history-over n τ l (after s (goes τ l s)) (push (goes τ l s) g) h)
+history-over (suc n) τ l s g h = on (stops τ l s) refl (history-over n τ l (after τ s (goes τ l s)) (push (goes τ l s) g) h)
   where
     on : (b : Bool) → stops τ l s ≡ b
-        → run n τ l (after s (goes τ l s)) (push (goes τ l s) g ++ h) ≡ before-older h (run n τ l (after s (goes τ l s)) (push (goes τ l s) g))
+        → run n τ l (after τ s (goes τ l s)) (push (goes τ l s) g ++ h) ≡ before-older h (run n τ l (after τ s (goes τ l s)) (push (goes τ l s) g))
         → run (suc n) τ l s (g ++ h) ≡ before-older h (run (suc n) τ l s g)
     on true e ih = stopped (suc n) τ l s (g ++ h) e ∙ ap (before-older h) (sym (stopped (suc n) τ l s g e))
     on false e ih =
         going n τ l s (g ++ h) e
-        ∙ (ap (λ (k : List Command). oneMore (run n τ l (after s (goes τ l s)) k)) (push-append (goes τ l s) g h)
+        ∙ (ap (λ (k : List Command). oneMore (run n τ l (after τ s (goes τ l s)) k)) (push-append (goes τ l s) g h)
         ∙ (ap oneMore ih ∙ ap (before-older h) (sym (going n τ l s g e))))
 
 -- n cycles and then m give the commands and the state of n + m at once, each run writing its own commands

@@ -29,7 +29,7 @@ use Rattle.rules.proofs.Progress.{InService, Stands, Progress, progress
 
 pub steps-add : (n m : ℕ) (τ : Table) (l : List Transaction) (s : State) (h : List Command) → steps (n + m) τ l s h ≡ steps m τ l (steps n τ l s h .0) (steps n τ l s h .1)
 steps-add zero m τ l s h = let z : 0 + m ≡ m = omega arith in rw z
-steps-add (suc n) m τ l s h = let z : suc n + m ≡ suc (n + m) = omega arith in rw z (steps-add n m τ l (after s (goes τ l s)) (push (goes τ l s) h))
+steps-add (suc n) m τ l s h = let z : suc n + m ≡ suc (n + m) = omega arith in rw z (steps-add n m τ l (after τ s (goes τ l s)) (push (goes τ l s) h))
 
 -- from where a count starts to where the next one does, at most
 abbrev pub full : Table → Transaction → ℕ
@@ -56,13 +56,13 @@ pub goes-now : (τ : Table) (l : List Transaction) (s : State) → OnSome (λ c.
 goes-now τ l s =
     goes-place (breaksNone τ s) τ l (s .cycle) (s .acts) (s .datas) (λ c. c .cycle ≡ s .cycle) (λ p e. refl) (λ p e. refl)
 
-pub one-cycle : (s : State) (o : Option Command) → OnSome (λ c. c .cycle ≡ s .cycle) o → after s o .cycle ≡ s .cycle + 1
-one-cycle s none u = refl
-one-cycle s (some c) u = ap (λ (y : ℕ). y + 1) u
+pub one-cycle : (τ : Table) (s : State) (o : Option Command) → OnSome (λ c. c .cycle ≡ s .cycle) o → after τ s o .cycle ≡ s .cycle + 1
+one-cycle τ s none u = refl
+one-cycle τ s (some c) u = ap (λ (y : ℕ). y + 1) u
 
 pub steps-cycle : (n : ℕ) (τ : Table) (l : List Transaction) (s : State) (h : List Command) → steps n τ l s h .0 .cycle ≡ s .cycle + n
 steps-cycle zero τ l s h = omega arith
-steps-cycle (suc n) τ l s h = steps-cycle n τ l (after s (goes τ l s)) (push (goes τ l s) h) ∙ omega (arith, one-cycle s (goes τ l s) (goes-now τ l s))
+steps-cycle (suc n) τ l s h = steps-cycle n τ l (after τ s (goes τ l s)) (push (goes τ l s) h) ∙ omega (arith, one-cycle τ s (goes τ l s) (goes-now τ l s))
 
 module _ (τ : Table) (rng : Ranges τ) (l : List Transaction) (v : AllFit τ l) where
   pub late-served : (s : State) (h : List Command) (q : Progress τ l s h) → total τ l (length l) < s .cycle → (s .datas ≡ dataSum l) × (s .acts ≡ actSum l)

@@ -12,8 +12,9 @@ use borrow.Author.Tests.{le-ltb}
 use Rattle.records.specs.declared.table.Table.{Table}
 use Rattle.records.specs.declared.transaction.Transaction.{Transaction}
 use Rattle.records.specs.declared.command.Command.{Command}
+use Rattle.rules.specs.declared.state.Group.{Group}
 use Rattle.rules.specs.declared.state.State.{State}
-use Rattle.rules.specs.State.{bankOf, breaksNone, idle, after}
+use Rattle.rules.specs.State.{bankOf, groupAt, breaksNone, idle, after}
 use Rattle.rules.specs.Queues.{actCount}
 use Rattle.rules.specs.CycleRule.{goes, push}
 use Rattle.rules.specs.Promise.{ofFirst}
@@ -32,6 +33,10 @@ goes-number P τ l s d a =
     goes-place (breaksNone τ s) τ l (s .cycle) (s .acts) (s .datas) (λ c. P (c .number))
     (λ p e. subst (OnSome (λ p. P (p .number))) e d) (λ p e. subst (OnSome (λ p. P (p .number))) e a)
 
+-- two groups that tell the same RD and WR
+abbrev pub SameData : Group → Group → Type 0
+SameData x y = (x .rd ≡ y .rd) × (x .wr ≡ y .wr)
+
 module _ (τ : Table) (xs ys : List Transaction) where
   -- all ACTs of xs have gone in both; the two agree on what its data commands due are tested by
   pub record Mid (s u : State) : Type 0 where
@@ -41,8 +46,8 @@ module _ (τ : Table) (xs ys : List Transaction) where
     pub sizeU : τ .banks ≤ length (u .banks)
     pub cycle : s .cycle ≡ u .cycle
     pub datas : s .datas ≡ u .datas
-    pub rd : s .rd ≡ u .rd
-    pub wr : s .wr ≡ u .wr
+    pub groupSize : length (s .groups) ≡ length (u .groups)
+    pub group : (g : ℕ) → SameData (groupAt s g) (groupAt u g)
     pub bank : (n : ℕ) → s .datas ≤ n → n < dataSum xs → bankOf s (actBank τ xs (actOf xs n)) ≡ bankOf u (actBank τ xs (actOf xs n))
 
   -- nothing of xs is left in either
@@ -65,7 +70,7 @@ module _ (τ : Table) (xs ys : List Transaction) where
   pub same : (s : State) → τ .banks ≤ length (s .banks) → Side s s
   same s z = ⊎-elim (λ h. early refl h)
       (λ h. let a : actSum xs ≤ s .acts = omega (arith, h .1) in
-      sort s s (record { actsS = a; actsU = a; sizeS = z; sizeU = z; cycle = refl; datas = refl; rd = refl; wr = refl; bank = λ n k k'. refl })) (from? (s .acts) (actSum xs))
+      sort s s (record { actsS = a; actsU = a; sizeS = z; sizeU = z; cycle = refl; datas = refl; groupSize = refl; group = λ g. (refl, refl); bank = λ n k k'. refl })) (from? (s .acts) (actSum xs))
 
   -- while an ACT of xs is left, the same command goes
   early-data : (s : State) → s .acts < actSum xs → tryData τ (xs ++ ys) s ≡ tryData τ xs s
@@ -95,24 +100,24 @@ module _ (τ : Table) (xs ys : List Transaction) where
 
   -- the next states, and what the histories keep
   unfoldable pub Step : (s u : State) (h g : List Command) → Option Command → Option Command → Type 0
-  Step s u h g o o' = Side (after s o) (after u o') × (ofFirst (length xs) (push o' g) ≡ push o h)
+  Step s u h g o o' = Side (after τ s o) (after τ u o') × (ofFirst (length xs) (push o' g) ≡ push o h)
 
   pub step-early : (s : State) (h g : List Command) → τ .banks ≤ length (s .banks) → s .acts < actSum xs → ofFirst (length xs) g ≡ h
       → Step s s h g (goes τ xs s) (goes τ (xs ++ ys) s)
   unfolding Step
   step-early s h g z k e =
       rw (early-goes s k)
-      (same (after s (goes τ xs s)) (rw after-size z), keep-own (length xs) (goes τ xs s) g (own-number s) ∙ ap (push (goes τ xs s)) e)
+      (same (after τ s (goes τ xs s)) (rw after-size z), keep-own (length xs) (goes τ xs s) g (own-number s) ∙ ap (push (goes τ xs s)) e)
 
   pub step-late : (s u : State) (h g : List Command) → Late s u → ofFirst (length xs) g ≡ h → Step s u h g (goes τ xs s) (goes τ (xs ++ ys) u)
   unfolding Step
   step-late s u h g q e =
       rw (none-left τ xs s (q .datasS) (q .actsS)) (
-        late {s = idle s} {u = after u (goes τ (xs ++ ys) u)} (record {
+        late {s = idle s} {u = after τ u (goes τ (xs ++ ys) u)} (record {
           actsS = q .actsS;
-          actsU = omega (arith, q .actsU, acts-up u (goes τ (xs ++ ys) u));
+          actsU = omega (arith, q .actsU, acts-up τ u (goes τ (xs ++ ys) u));
           datasS = q .datasS;
-          datasU = omega (arith, q .datasU, datas-up u (goes τ (xs ++ ys) u));
+          datasU = omega (arith, q .datasU, datas-up τ u (goes τ (xs ++ ys) u));
         }),
         keep-other (length xs) (goes τ (xs ++ ys) u) g
             (goes-number (λ k. length xs ≤ k) τ (xs ++ ys) u (later-number dataCount (u .datas) (q .datasU)) (later-number actCount (u .acts) (q .actsU))) ∙ e,

@@ -32,7 +32,7 @@ use Rattle.rules.proofs.RunTo.{stopped, going}
 pub served-steps : (n : ℕ) (τ : Table) (l : List Transaction) (s : State) (h : List Command) → dataSum l ≤ s .datas → actSum l ≤ s .acts → steps n τ l s h .1 ≡ h
 served-steps zero τ l s h d a = refl
 served-steps (suc n) τ l s h d a =
-    subst (λ (o : Option Command). steps n τ l (after s o) (push o h) .1 ≡ h) (sym (none-left τ l s d a)) (served-steps n τ l (idle s) h d a)
+    subst (λ (o : Option Command). steps n τ l (after τ s o) (push o h) .1 ≡ h) (sym (none-left τ l s d a)) (served-steps n τ l (idle s) h d a)
 
 pub is-served : (τ : Table) (l : List Transaction) (s : State) → dataSum l ≤ s .datas → actSum l ≤ s .acts → served τ l s ≡ true
 is-served τ l s d a =
@@ -52,7 +52,7 @@ module _ (τ : Table) (rng : Ranges τ) (l : List Transaction) (v : AllFit τ l)
   Ended : State → List Command → Type 0
   Ended s h = served τ l s ≡ true → s .cycle ≡ nextCycle h
 
-  ended-step : (s : State) (h : List Command) → stops τ l s ≡ false → (o : Option Command) → Ended (after s o) (push o h)
+  ended-step : (s : State) (h : List Command) → stops τ l s ≡ false → (o : Option Command) → Ended (after τ s o) (push o h)
   unfolding Ended
   ended-step s h t none e = true-false (stops τ l s) (rw e) t
   ended-step s h t (some c) e = refl
@@ -68,10 +68,10 @@ module _ (τ : Table) (rng : Ranges τ) (l : List Transaction) (v : AllFit τ l)
   unfolding Ended
   reach zero s h q e = record { progress = q; ended = e; took = omega arith; full = inl refl }
   reach (suc n) s h q e =
-      on (stops τ l s) refl (λ t. reach n (after s (goes τ l s)) (push (goes τ l s) h) (progress-step τ rng l v s h q) (ended-step s h t (goes τ l s)))
+      on (stops τ l s) refl (λ t. reach n (after τ s (goes τ l s)) (push (goes τ l s) h) (progress-step τ rng l v s h q) (ended-step s h t (goes τ l s)))
     where
       on : (b : Bool) → stops τ l s ≡ b
-          → (stops τ l s ≡ false → Reached n (after s (goes τ l s) .cycle) (run n τ l (after s (goes τ l s)) (push (goes τ l s) h)))
+          → (stops τ l s ≡ false → Reached n (after τ s (goes τ l s) .cycle) (run n τ l (after τ s (goes τ l s)) (push (goes τ l s) h)))
           → Reached (suc n) (s .cycle) (run (suc n) τ l s h)
       on true t ih =
           subst (Reached (suc n) (s .cycle)) (sym (stopped (suc n) τ l s h t)) (record { progress = q; ended = e; took = omega arith; full = inr t })
@@ -81,7 +81,7 @@ module _ (τ : Table) (rng : Ranges τ) (l : List Transaction) (v : AllFit τ l)
           (record {
             progress = y .progress;
             ended = y .ended;
-            took = omega (arith, y .took, one-cycle s (goes τ l s) (goes-now τ l s));
+            took = omega (arith, y .took, one-cycle τ s (goes τ l s) (goes-now τ l s));
             full = ⊎-elim (λ z. inl (omega (arith, z))) (λ z. inr z) (y .full);
           })
 

@@ -1,13 +1,14 @@
 -- The worked examples follow from the written rules themselves.
 -- Assumes nothing.
-use mathlib.Core.Path.{_≡_, refl}
+use mathlib.Core.Path.{refl}
 use mathlib.Core.List.{[], _∷_}
 use Rattle.records.specs.declared.command.Kind.the-variants.{Ref}
 use Rattle.records.specs.Command.{command}
-use Rattle.records.specs.House.{tableA, tableB, tableT}
+use Rattle.records.specs.House.{tableA, tableB, tableT, tableD}
 use Rattle.rules.specs.Queues.{actQueue, dataQueue}
 use Rattle.rules.specs.Bound.{bound, boundS, boundD, boundX}
-use Rattle.rules.specs.Worked.{one, five, patternT, tableR, thenRef, examples, All}
+use Rattle.rules.specs.Worked.{one, five, patternT, tableR, thenRef, All}
+use Rattle.rules.specs.WorkedGroups.{oneGroup, allExamples}
 use Rattle.rules.proofs.Pattern.{five-legal}
 
 infixr 4 _⨾_
@@ -15,7 +16,7 @@ infixr 4 _⨾_
 abbrev _⨾_ : {P Q : Type 0} → P → Q → P × Q
 p ⨾ ps = (p, ps)
 
-pub worked : All examples
+pub worked : All allExamples
 unfolding bound boundS boundD boundX actQueue dataQueue
 worked =
     refl
@@ -104,5 +105,27 @@ worked =
     ⨾ five-legal tableR 50 (command 0 Ref 0 0 ∷ []) .0 refl
     ⨾ (λ n. refl)
     ⨾ five-legal tableR 88 (thenRef 38 0) .0 refl
+    ⨾ (λ n. refl)
+    ⨾ refl
+    ⨾ refl
+    ⨾ refl
+    ⨾ refl
+    ⨾ refl
+    ⨾ refl
+    ⨾ refl
+    ⨾ refl
+    ⨾ refl
+    ⨾ refl
+    ⨾ record { cycles = 20; schedule = refl; acts = refl; datas = refl }
+    ⨾ record { cycles = 17; schedule = refl; acts = refl; datas = refl }
+    ⨾ record { cycles = 31; schedule = refl; acts = refl; datas = refl }
+    ⨾ refl
+    ⨾ refl
+    ⨾ record { cycles = 36; schedule = refl; acts = refl; datas = refl }
+    ⨾ refl
+    ⨾ refl
+    ⨾ refl
+    ⨾ refl
+    ⨾ five-legal tableD 40 oneGroup .0 refl
     ⨾ (λ n. refl)
     ⨾ tt

@@ -6,24 +6,24 @@ use Rattle.records.specs.declared.table.Table.{Table}
 use Rattle.records.specs.declared.transaction.Transaction.{Transaction}
 use Rattle.records.specs.Tests.{pick}
 use Rattle.records.specs.Transaction.{isRefresh}
-use Rattle.rules.specs.Square.{fromRd, fromWr, writeTail}
+use Rattle.rules.specs.Square.{ccdOf, rrdOf, fromRd, fromWr, writeTail}
 
 abbrev pub greatest : List ℕ → ℕ
 greatest [] = 0
 greatest (x ∷ l) = max x (greatest l)
 
--- the greatest CCD, RRD, and distances from a RD and from a WR that any two commands ask for
+-- the greatest CCD, RRD, and distances from a RD and from a WR that any two commands ask for: "In the bound CCD, RRD and WTR are the long ones."
 abbrev pub mostCcd : Table → ℕ
-mostCcd τ = τ .ccd
+mostCcd τ = ccdOf τ true
 
 abbrev pub mostRrd : Table → ℕ
-mostRrd τ = τ .rrd
+mostRrd τ = rrdOf τ true
 
 abbrev pub mostFromRd : Table → Bool → ℕ
-mostFromRd τ w = fromRd τ w
+mostFromRd τ w = fromRd τ true w
 
 abbrev pub mostFromWr : Table → Bool → ℕ
-mostFromWr τ w = fromWr τ w
+mostFromWr τ w = fromWr τ true w
 
 -- "S is the greatest of 1, RAS − RCD + RP, RC − RCD, RTP + RP, WL + B + WR + RP, RRD − RCD, FAW − RCD."
 abbrev pub partsS : Table → List ℕ

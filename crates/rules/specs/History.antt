@@ -13,7 +13,7 @@ use Rattle.rules.specs.declared.state.Stamp.the-variants.{Never, At}
 use Rattle.rules.specs.declared.verdict.Found.{Found}
 use Rattle.rules.specs.declared.verdict.Found.the-variants.{Fine, Broken}
 use Rattle.rules.specs.Kinds.{isAct, isRd, isWr, isRef, isKnown, firstBroken, rulesInOrder}
-use Rattle.rules.specs.Square.{fromRd, fromWr, writeTail}
+use Rattle.rules.specs.Square.{groupOf, rrdOf, fromRd, fromWr, writeTail}
 use Rattle.rules.specs.State.{past}
 
 -- rule 1: "kind above 4, or bank not below banks"; it "admits kind 5 with bank 0 only" (document 02, request 5)
@@ -78,13 +78,18 @@ fourthAct h = actBack 3 h
 abbrev pub far : (Kind → Bool) → ℕ → ℕ → Command → Bool
 far p d t r = not (p (r .kind)) || leb (r .cycle + d) t
 
--- rule 6: an ACT to bank b at cycle t is far enough from an earlier ACT
+-- a record to a bank of bank b's group
+abbrev pub nearTo : Table → ℕ → Command → Bool
+nearTo τ b r = eqb (groupOf τ (r .bank)) (groupOf τ b)
+
+-- rule 6: an ACT to bank b at cycle t is far enough from an earlier ACT. Rules 6 and 9 look "over all earlier commands, since a neighbour in
+-- another group hides an older one"
 abbrev pub farAct : Table → ℕ → ℕ → Command → Bool
-farAct τ b t r = far isAct (τ .rrd) t r
+farAct τ b t r = far isAct (rrdOf τ (nearTo τ b r)) t r
 
 -- rule 9: a data command to bank b at cycle t, a write or not, is no nearer to an earlier one than their distance
 abbrev pub farData : Table → Bool → ℕ → ℕ → Command → Bool
-farData τ w b t r = far isRd (fromRd τ w) t r && far isWr (fromWr τ w) t r
+farData τ w b t r = far isRd (fromRd τ (nearTo τ b r) w) t r && far isWr (fromWr τ (nearTo τ b r) w) t r
 
 -- rule 11: "a REF with a bank open or before a bank's precharge start + RP"
 abbrev pub atRestIn : Table → ℕ → List Command → ℕ → Bool

@@ -10,5 +10,7 @@ pub mod Run
 pub mod Bound
 pub mod Finish
 pub mod Worked
+pub mod WorkedGroups
 pub mod Promise
 pub mod Demands
+pub mod Before

@@ -1,8 +1,8 @@
 -- What is promised of the built schedule and of runs, for a table that is accepted and a list that fits it.
-use Prim.Native.Nat.{ℕ, zero, suc, _+_, _-_, _≤_, _<_}
-use mathlib.Core.Bool.{Bool, true, false}
+use Prim.Native.Nat.{ℕ, suc, _+_, _-_, _≤_, _<_}
+use mathlib.Core.Bool.{true}
 use mathlib.Core.Path.{_≡_}
-use mathlib.Core.Option.{Option, none, some}
+use mathlib.Core.Option.{none, some}
 use mathlib.Core.List.{List, [], _∷_, _++_}
 use lib.Dec.{ltb}
 use lib.ListN.{length, getElem?, take, drop}
@@ -83,7 +83,7 @@ pub record Kept (τ : Table) (l : List Transaction) (rs : List Command) : Type 0
       → (onto (run n τ l (fresh τ) [] .history) [] ≡ rs) × (run n τ l (fresh τ) [] .cycles ≡ nextCycle (onto rs []))
   pub ends : (n : ℕ) → 100000000 ≤ n → served τ l (run n τ l (fresh τ) [] .state) ≡ true
 
--- two states that tell the same of the table's banks and of all else; the edition and what lies past the table's banks may differ
+-- two states that tell the same of the table's banks and groups and of all else; the edition and what lies past the table's banks and groups may differ
 pub record SameTold (τ : Table) (s u : State) : Type 0 where
   pub cycle : s .cycle ≡ u .cycle
   pub acts : s .acts ≡ u .acts
@@ -93,8 +93,7 @@ pub record SameTold (τ : Table) (s u : State) : Type 0 where
   pub a2 : s .a2 ≡ u .a2
   pub a3 : s .a3 ≡ u .a3
   pub a4 : s .a4 ≡ u .a4
-  pub rd : s .rd ≡ u .rd
-  pub wr : s .wr ≡ u .wr
+  pub groups : take (τ .groups) (s .groups) ≡ take (τ .groups) (u .groups)
   pub refresh : s .refresh ≡ u .refresh
 
 -- from any state, reached or not
@@ -106,10 +105,12 @@ pub record RunsKept (τ : Table) (l : List Transaction) : Type 0 where
         history = run m τ l (run n τ l s [] .state) [] .history ++ run n τ l s [] .history;
         cycles = run n τ l s [] .cycles + run m τ l (run n τ l s [] .state) [] .cycles;
       }
-  -- the edition and what lies past the table's banks are left as they stood, and not read
+  -- the edition and what lies past the table's banks and groups are left as they stood, and not read
   pub edition : (n : ℕ) (s : State) → run n τ l s [] .state .edition ≡ s .edition
   pub size : (n : ℕ) (s : State) → length (run n τ l s [] .state .banks) ≡ length (s .banks)
   pub pastKept : (n : ℕ) (s : State) → drop (τ .banks) (run n τ l s [] .state .banks) ≡ drop (τ .banks) (s .banks)
+  pub groupSize : (n : ℕ) (s : State) → length (run n τ l s [] .state .groups) ≡ length (s .groups)
+  pub groupsKept : (n : ℕ) (s : State) → drop (τ .groups) (run n τ l s [] .state .groups) ≡ drop (τ .groups) (s .groups)
   pub pastUnread : (n : ℕ) (s u : State) → SameTold τ s u
       → (run n τ l s [] .history ≡ run n τ l u [] .history) × (run n τ l s [] .cycles ≡ run n τ l u [] .cycles)
       × SameTold τ (run n τ l s [] .state) (run n τ l u [] .state)

@@ -1,8 +1,7 @@
 -- "A run takes a count of cycles and stops at that count, when the list is served, or at cycle 100,000,000, whichever is first."
 use Prim.Native.Nat.{ℕ, zero, suc, _+_}
 use mathlib.Core.Bool.{Bool, true, false, _&&_, _||_}
-use mathlib.Core.Option.{Option, none, some}
-use mathlib.Core.List.{List, [], _∷_}
+use mathlib.Core.List.{List}
 use lib.Dec.{leb}
 use lib.ListN.{length}
 use Rattle.records.specs.declared.table.Table.{Table}
@@ -23,7 +22,7 @@ stops τ l s = served τ l s || leb 100000000 (s .cycle)
 -- n steps of the cycle rule from a state, with the history newest first
 abbrev pub steps : ℕ → Table → List Transaction → State → List Command → State × List Command
 steps zero τ l s h = (s, h)
-steps (suc n) τ l s h = let g = goes τ l s in steps n τ l (after s g) (push g h)
+steps (suc n) τ l s h = let g = goes τ l s in steps n τ l (after τ s g) (push g h)
 
 -- what a run leaves: the state, what has gone, newest first, and "the cycles run, which is the number of steps the cycle rule took"
 pub record Ran : Type 0 where
@@ -38,4 +37,4 @@ oneMore r = record { state = r .state; history = r .history; cycles = r .cycles 
 abbrev pub run : ℕ → Table → List Transaction → State → List Command → Ran
 run zero τ l s h = record { state = s; history = h; cycles = 0 }
 run (suc n) τ l s h =
-    elim (stops τ l s) [ true ↦ record { state = s; history = h; cycles = 0 } | false ↦ oneMore (run n τ l (after s (goes τ l s)) (push (goes τ l s) h)) ]
+    elim (stops τ l s) [ true ↦ record { state = s; history = h; cycles = 0 } | false ↦ oneMore (run n τ l (after τ s (goes τ l s)) (push (goes τ l s) h)) ]

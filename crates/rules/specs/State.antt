@@ -1,9 +1,9 @@
 -- Document 01, "Running a few cycles": what a state tells, the rules read off it, and the state after a command.
-use Prim.Native.Nat.{ℕ, zero, suc, _+_}
-use mathlib.Core.Bool.{Bool, true, false, not, _&&_, _||_}
+use Prim.Native.Nat.{ℕ, _+_, _≤_}
+use mathlib.Core.Bool.{Bool, true, false, not, _&&_}
 use mathlib.Core.Option.{Option, none, some}
-use mathlib.Core.List.{List, [], _∷_, _++_}
-use lib.Dec.{leb, ltb, eqb}
+use mathlib.Core.List.{List, [], _∷_}
+use lib.Dec.{leb, eqb}
 use lib.ListN.{getD, set, replicate}
 use Rattle.records.specs.Tests.{pick, allOf, everyBelow}
 use Rattle.records.specs.declared.table.Table.{Table}
@@ -13,9 +13,10 @@ use Rattle.records.specs.declared.command.Command.{Command}
 use Rattle.rules.specs.declared.state.Stamp.{Stamp}
 use Rattle.rules.specs.declared.state.Stamp.the-variants.{Never, At}
 use Rattle.rules.specs.declared.state.Bank.{Bank}
+use Rattle.rules.specs.declared.state.Group.{Group}
 use Rattle.rules.specs.declared.state.State.{State}
 use Rattle.rules.specs.Kinds.{isAct, isRd, isWr, isRef, isData, inActQueue}
-use Rattle.rules.specs.Square.{square, side, cell, writeTail}
+use Rattle.rules.specs.Square.{groupOf, rrdOf, square, side, cell, writeTail}
 
 -- cycle t is at least d after the stamp; "never" breaks no rule
 abbrev pub past : Stamp → ℕ → ℕ → Bool
@@ -32,26 +33,47 @@ shut = record { opened = 0; act = Never; rd = Never; wr = Never }
 abbrev pub bankOf : State → ℕ → Bank
 bankOf s b = getD (s .banks) b shut
 
+-- a group that no command has reached
+abbrev pub quiet : Group
+quiet = record { act = Never; rd = Never; wr = Never }
+
+abbrev pub groupAt : State → ℕ → Group
+groupAt s g = getD (s .groups) g quiet
+
+-- a state has places for a table's banks and groups: number 2 lets no table pass that has more of them, or no group
+pub record Held (τ : Table) : Type 0 where
+  pub banks : τ .banks ≤ 16
+  pub some : 1 ≤ τ .groups
+  pub groups : τ .groups ≤ 8
+
 -- rule 4: "Rules 4, 5 and 8 read the bank's cycles". t is at least RP after each of the three from which the precharge starts
 abbrev pub charged : Table → Bank → ℕ → Bool
 charged τ k t =
     past (k .act) (τ .ras + τ .rp) t && (past (k .rd) (τ .rtp + τ .rp) t && past (k .wr) (writeTail τ + τ .rp) t)
 
--- "of the four ACTs, kept newest first, rule 6 reads the first": for an ACT to bank b at cycle t
-abbrev pub rule6 : Table → State → ℕ → ℕ → Bool
-rule6 τ s t b = past (s .a1) (τ .rrd) t
+-- an ACT to a bank of the group `own` at cycle t is far enough from each group's latest ACT
+abbrev pub actsFar : Table → List Group → ℕ → ℕ → Bool
+actsFar τ gs own t = everyBelow (τ .groups) (λ g. past (getD gs g quiet .act) (rrdOf τ (eqb g own)) t)
 
--- "and rule 7 the fourth"
+-- "rule 6 the groups' latest ACTs, no longer the first of the four" (document 02, request 7)
+abbrev pub rule6 : Table → State → ℕ → ℕ → Bool
+rule6 τ s t b = actsFar τ (s .groups) (groupOf τ b) t
+
+-- "of the four ACTs, kept newest first, .. rule 7 the fourth"
 abbrev pub rule7 : Table → State → ℕ → Bool
 rule7 τ s t = past (s .a4) (τ .faw) t
 
--- cycle t is far enough, by a square of distances, from the last RD and the last WR, for a write or not
+-- cycle t is far enough, by a square of distances, from the last RD and the last WR of a group, for a write or not
 abbrev pub farBy : List (List ℕ) → Stamp → Stamp → Bool → ℕ → Bool
 farBy q rd wr w t = past rd (cell q 0 (side w)) t && past wr (cell q 1 (side w)) t
 
--- "rule 9 reads the last RD and WR of all": for a data command to bank b at cycle t, a write or not
+-- a data command to a bank of the group `own` at cycle t, a write or not, is far enough from each group's latest RD and WR
+abbrev pub dataFar : Table → List Group → ℕ → Bool → ℕ → Bool
+dataFar τ gs own w t = everyBelow (τ .groups) (λ g. farBy (square τ (eqb g own)) (getD gs g quiet .rd) (getD gs g quiet .wr) w t)
+
+-- "In a run rule 9 reads the groups' reads and writes"
 abbrev pub rule9 : Table → State → Bool → ℕ → ℕ → Bool
-rule9 τ s w t b = farBy (square τ) (s .rd) (s .wr) w t
+rule9 τ s w t b = dataFar τ (s .groups) (groupOf τ b) w t
 
 -- a bank that is closed and charged
 abbrev pub atRest : Table → Bank → ℕ → Bool
@@ -113,8 +135,7 @@ fresh τ =
       a2 = Never;
       a3 = Never;
       a4 = Never;
-      rd = Never;
-      wr = Never;
+      groups = replicate 8 quiet;
       refresh = Never;
     }
 
@@ -128,12 +149,16 @@ bankAfter Wra c k = record { opened = 0; act = k .act; rd = k .rd; wr = At c }
 bankAfter Ref c k = k
 bankAfter (Other n) c k = k
 
+-- a group after a command to one of its banks at cycle c: its latest ACT, RD and WR
+abbrev pub groupAfter : Kind → ℕ → Group → Group
+groupAfter k c g = record { act = pick (isAct k) (At c) (g .act); rd = pick (isRd k) (At c) (g .rd); wr = pick (isWr k) (At c) (g .wr) }
+
 abbrev pub addIf : Bool → ℕ → ℕ
 addIf b n = pick b (n + 1) n
 
 -- the state after a command of a kind to bank b at cycle c; "The cycle then advances by one."
-abbrev pub note : State → ℕ → Kind → ℕ → State
-note s c k b =
+abbrev pub note : Table → State → ℕ → Kind → ℕ → State
+note τ s c k b =
     record {
       edition = s .edition;
       cycle = c + 1;
@@ -144,8 +169,7 @@ note s c k b =
       a2 = pick (isAct k) (s .a1) (s .a2);
       a3 = pick (isAct k) (s .a2) (s .a3);
       a4 = pick (isAct k) (s .a3) (s .a4);
-      rd = pick (isRd k) (At c) (s .rd);
-      wr = pick (isWr k) (At c) (s .wr);
+      groups = set (s .groups) (groupOf τ b) (groupAfter k c (groupAt s (groupOf τ b)));
       refresh = pick (isRef k) (At c) (s .refresh);
     }
 
@@ -162,11 +186,10 @@ idle s =
       a2 = s .a2;
       a3 = s .a3;
       a4 = s .a4;
-      rd = s .rd;
-      wr = s .wr;
+      groups = s .groups;
       refresh = s .refresh;
     }
 
-abbrev pub after : State → Option Command → State
-after s none = idle s
-after s (some c) = note s (c .cycle) (c .kind) (c .bank)
+abbrev pub after : Table → State → Option Command → State
+after τ s none = idle s
+after τ s (some c) = note τ s (c .cycle) (c .kind) (c .bank)

@@ -1,6 +1,6 @@
--- Document 01, "Examples from the desk": those marked †, its figures for table A, figures for table T and with refreshes,
--- as a single list under a single claim.
-use Prim.Native.Nat.{ℕ, zero, suc, _+_}
+-- Document 01, "Examples from the desk": those marked †, its figures for table A, figures for table T and with refreshes; with those of
+-- `WorkedGroups`, a single list under a single claim.
+use Prim.Native.Nat.{ℕ, suc, _+_}
 use mathlib.Core.Path.{_≡_}
 use mathlib.Core.Bool.{true, false}
 use mathlib.Core.List.{List, [], _∷_}
@@ -122,7 +122,7 @@ thenRef t b = command 0 Act 0 0 ∷ command 10 Rda 0 0 ∷ command t Ref b 1 ∷
 abbrev pub examples : List (Type 0)
 examples =
     -- "For A: RD to WR 8, WR to RD 18, S 34, D 8, X 18."
-    (square tableA ≡ (4 ∷ 8 ∷ []) ∷ (18 ∷ 4 ∷ []) ∷ [])
+    (square tableA false ≡ (4 ∷ 8 ∷ []) ∷ (18 ∷ 4 ∷ []) ∷ [])
     ∷ (boundS tableA ≡ 34)
     ∷ (boundD tableA ≡ 8)
     ∷ (boundX tableA ≡ 18)
@@ -163,7 +163,7 @@ examples =
     ∷ (fits tableA (read 7 2 1) ≡ true)
     ∷ Built tableA (read 7 2 1 ∷ []) twelve
     -- table T: the distances, the write's tail, the bound
-    ∷ (square tableT ≡ (5 ∷ 10 ∷ []) ∷ (17 ∷ 5 ∷ []) ∷ [])
+    ∷ (square tableT false ≡ (5 ∷ 10 ∷ []) ∷ (17 ∷ 5 ∷ []) ∷ [])
     ∷ (writeTail tableT ≡ 28)
     ∷ (boundS tableT ≡ 40)
     ∷ (boundD tableT ≡ 9)

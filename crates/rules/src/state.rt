@@ -14,8 +14,15 @@ pub struct Bank {
     pub wr: Stamp,
 }
 
+// A group of banks: the cycles of its latest ACT, RD and WR.
+pub struct Group {
+    pub act: Stamp,
+    pub rd: Stamp,
+    pub wr: Stamp,
+}
+
 // `cycle` is the next to be tried; `acts` and `datas` have left the two queues; `a1` to `a4` are the cycles of the last four ACTs, newest
-// first; `rd` and `wr` those of the last RD and the last WR of all; `refresh` that of the last REF.
+// first; `refresh` that of the last REF.
 pub struct State {
     pub edition: u32,
     pub cycle: u64,
@@ -26,7 +33,6 @@ pub struct State {
     pub a2: Stamp,
     pub a3: Stamp,
     pub a4: Stamp,
-    pub rd: Stamp,
-    pub wr: Stamp,
+    pub groups: [Group; 8],
     pub refresh: Stamp,
 }

@@ -1,9 +1,9 @@
 // Hands hostile lists, states and buffers to the calls that build, run and tell the bound, and writes lines on what each answers.
 //
-// Standard input, of which 65,536 bytes are read at most, is a sequence of cases, `[call][expected: u16][table: 32 bytes]` and then, for call 1, a build,
-// `[room: u16][slots: u16][n: u16][n bytes]`; for call 2, a run, `[count: u32][room: u16][state: 250 bytes][n: u16][n bytes]`; for call 3,
-// a bound, `[BI][BC]`. The rooms are in bytes, the n bytes are the transactions. The line is `case` for any other call, and for a case that
-// the input cuts short: nothing after it is read.
+// Standard input, of which 131,072 bytes are read at most, is a sequence of cases, `[call][expected: u16][t: u8]` and then, for call 1, a build,
+// `[room: u16][slots: u16][n: u16][t bytes][n bytes]`; for call 2, a run, `[count: u32][room: u16][n: u16][state: 338 bytes][t bytes][n bytes]`;
+// for call 3, a bound, `[BI][BC][t bytes]`. The t bytes are the table, the rooms are in bytes, the n bytes are the transactions. The line is
+// `case` for any other call, and for a case that the input cuts short: nothing after it is read.
 mod build;
 mod run;
 mod state;
@@ -19,12 +19,11 @@ use told::long;
 use told::number;
 use told::refused;
 use told::text;
-ghost use mathlib.Core.Path.{_≡_};
-ghost use Prim.Native.Nat.{_≤_};
+ghost use Prim.Native.Nat.{_≤_, _<_};
 ghost use lib.ListN.{length};
 
 fn main() {
-    let mut input = io::large_buffer();
+    let mut input = [0u8; 131072];
     let n = io::read_full(STDIN_FILENO, &mut input);
     all_cases(&input[..n]);
 }
@@ -55,7 +54,13 @@ fn one_case(s: &[u8]) -> usize
 }
 
 fn size(n: u16) -> usize
-    ensures { λ r. ⌜ r ≡ n ⌝ }
+    ensures { λ r. ⌜ r < 65536 ⌝ }
+{
+    n as usize
+}
+
+fn table_size(n: u8) -> usize
+    ensures { λ r. ⌜ r < 256 ⌝ }
 {
     n as usize
 }
@@ -63,48 +68,60 @@ fn size(n: u16) -> usize
 fn build_case(s: &[u8]) -> usize
     ensures { λ r. ⌜ r ≤ length (now (s .entry)) ⌝ }
 {
-    let from = 41;
-    if s.len() < from {
+    let table = 10;
+    if s.len() < table {
         return 0;
     }
-    let n = size(num_at(s, 39));
-    if s.len() - from < n {
+    let from = table + table_size(s[3]);
+    let end = from + size(num_at(s, 8));
+    if s.len() < end {
         return 0;
     }
-    let end = from + n;
-    let room = num_at(s, 35);
-    let slots = num_at(s, 37);
-    build::lines(num_at(s, 1), &s[3..35], room, slots, &s[from..end]);
+    let room = num_at(s, 4);
+    let slots = num_at(s, 6);
+    build::lines(num_at(s, 1), &s[table..from], room, slots, &s[from..end]);
     end
 }
 
 fn run_case(s: &[u8]) -> usize
     ensures { λ r. ⌜ r ≤ length (now (s .entry)) ⌝ }
 {
-    let from = 293;
-    if s.len() < from {
+    let table = 350;
+    if s.len() < table {
         return 0;
     }
-    let n = size(num_at(s, 291));
-    if s.len() - from < n {
+    let from = table + table_size(s[3]);
+    let end = from + size(num_at(s, 10));
+    if s.len() < end {
         return 0;
     }
-    let end = from + n;
-    let count = long_at(s, 35);
-    let room = num_at(s, 39);
-    let state = controller_at(&s[41..291]);
-    run::lines(num_at(s, 1), &s[3..35], count, room, state, &s[from..end]);
+    let count = long_at(s, 4);
+    let room = num_at(s, 8);
+    let state = controller_at(&s[12..350]);
+    run::lines(
+        num_at(s, 1),
+        &s[table..from],
+        count,
+        room,
+        state,
+        &s[from..end],
+    );
     end
 }
 
 fn bound_case(s: &[u8]) -> usize
     ensures { λ r. ⌜ r ≤ length (now (s .entry)) ⌝ }
 {
-    if s.len() < 37 {
+    let table = 6;
+    if s.len() < table {
         return 0;
     }
-    bound_line(num_at(s, 1), &s[3..35], s[35], s[36]);
-    37
+    let end = table + table_size(s[3]);
+    if s.len() < end {
+        return 0;
+    }
+    bound_line(num_at(s, 1), &s[table..end], s[4], s[5]);
+    end
 }
 
 fn bound_line(expected: u16, table: &[u8], bi: u8, bc: u8) {

@@ -1,9 +1,10 @@
-// The 250 bytes of a state, and its line.
+// The 338 bytes of a state, and its line.
 use crate::told::first;
 use crate::told::long;
 use crate::told::text;
 use controller::controller::Controller;
 use controller::controller::HostBank;
+use controller::controller::HostGroup;
 use records::little::from_le32;
 ghost use Prim.Native.Nat.{_+_, _≤_};
 ghost use lib.ListN.{length};
@@ -16,9 +17,10 @@ pub(crate) fn long_at(s: &[u8], at: usize) -> u32
 }
 
 pub(crate) fn controller_at(s: &[u8]) -> Controller
-    requires { ⌜ 250 ≤ length (now s) ⌝ }
+    requires { ⌜ 338 ≤ length (now s) ⌝ }
 {
     let banks = banks_at(s);
+    let groups = groups_at(s);
     Controller {
         edition: from_le32(s[0], s[1], 0, 0),
         cycle: long_at(s, 2),
@@ -31,9 +33,8 @@ pub(crate) fn controller_at(s: &[u8]) -> Controller
             long_at(s, 230),
             long_at(s, 234),
         ],
-        rd: long_at(s, 238),
-        wr: long_at(s, 242),
-        refresh: long_at(s, 246),
+        groups: groups,
+        refresh: long_at(s, 334),
     }
 }
 
@@ -65,8 +66,35 @@ fn bank_at(s: &[u8], at: usize) -> HostBank
     }
 }
 
+fn groups_at(s: &[u8]) -> [HostGroup; 8]
+    requires { ⌜ 334 ≤ length (now s) ⌝ }
+{
+    let mut groups = [HostGroup {
+        act: 0,
+        rd: 0,
+        wr: 0,
+    }; 8];
+    let mut k: usize = 0;
+    while k < 8 {
+        groups[k] = group_at(s, 238 + 12 * k);
+        k += 1;
+    }
+    groups
+}
+
+fn group_at(s: &[u8], at: usize) -> HostGroup
+    requires { ⌜ at + 12 ≤ length (now s) ⌝ }
+{
+    HostGroup {
+        act: long_at(s, at),
+        rd: long_at(s, at + 4),
+        wr: long_at(s, at + 8),
+    }
+}
+
 pub(crate) fn state_line(c: Controller) {
     let banks = c.banks;
+    let groups = c.groups;
     first(c.edition);
     long(c.cycle);
     long(c.acts);
@@ -76,8 +104,7 @@ pub(crate) fn state_line(c: Controller) {
     long(c.last[1]);
     long(c.last[2]);
     long(c.last[3]);
-    long(c.rd);
-    long(c.wr);
+    all_groups(groups);
     long(c.refresh);
     text(b"\n");
 }
@@ -95,4 +122,18 @@ fn one_bank(bank: HostBank) {
     long(bank.act);
     long(bank.rd);
     long(bank.wr);
+}
+
+fn all_groups(groups: [HostGroup; 8]) {
+    let mut k: usize = 0;
+    while k < 8 {
+        one_group(groups[k]);
+        k += 1;
+    }
+}
+
+fn one_group(group: HostGroup) {
+    long(group.act);
+    long(group.rd);
+    long(group.wr);
 }

@@ -14,13 +14,13 @@ use Rattle.records.specs.declared.command.Kind.the-variants.{Act, Rd, Rda, Wr, 
 use Rattle.rules.specs.declared.state.Stamp.the-variants.{At}
 use Rattle.rules.specs.declared.state.Bank.{Bank}
 use Rattle.rules.specs.Kinds.{isAct, isWr, isRef, isKnown}
-use Rattle.rules.specs.Square.{writeTail}
-use Rattle.rules.specs.State.{past, isOpen, shut, bankOf, charged, atRest, rule11, actTestsOf, dataTestsOf, fresh, note}
+use Rattle.rules.specs.Square.{groupOf, writeTail}
+use Rattle.rules.specs.State.{past, isOpen, shut, bankOf, quiet, groupAt, charged, atRest, rule11, actTestsOf, dataTestsOf, fresh, note}
 use Rattle.rules.proofs.TestLaws.{true-false}
 use Rattle.rules.proofs.Below.{below-same}
 use Rattle.timing.specs.declared.kept.Kept.{Kept}
-use Rattle.timing.specs.Kept.{isClosing, stampOf, toldBank, told, shutKept, keptFresh, keptOpened, keptAfter}
-use Rattle.records.specs.Tests.{pick, allOf, everyBelow}
+use Rattle.timing.specs.Kept.{isClosing, stampOf, toldBank, toldGroup, told, shutKept, quietKept, keptFresh, keptOpened, keptAfter, groupOpened, groupMoved}
+use Rattle.records.specs.Tests.{allOf, everyBelow}
 
 -- a number that is not 0
 pub stamp-some : (s : ℕ) → (s ≡ 0 → ⊥) → stampOf s ≡ At (s - 1)
@@ -41,9 +41,14 @@ pub told-at : (s : Kept) (b : ℕ) → bankOf (told s) b ≡ toldBank (getD (s .
 unfolding told
 told-at s b = List·getD-map toldBank (s .banks) b shutKept
 
--- the state after an ACT, stored to place by place; `next` is the cycle after it
-abbrev pub actKept : Kept → ℕ → ℕ → Kept
-actKept s next b =
+-- and the group
+pub told-group : (s : Kept) (g : ℕ) → groupAt (told s) g ≡ toldGroup (getD (s .groups) g quietKept)
+unfolding told
+told-group s g = List·getD-map toldGroup (s .groups) g quietKept
+
+-- the state after an ACT to bank b of group g, stored to place by place; `next` is the cycle after it
+abbrev pub actKept : Kept → ℕ → ℕ → ℕ → Kept
+actKept s next b g =
     record {
       edition = s .edition;
       cycle = next;
@@ -54,24 +59,23 @@ actKept s next b =
       a2 = s .a1;
       a3 = s .a2;
       a4 = s .a3;
-      rd = s .rd;
-      wr = s .wr;
+      groups = set (s .groups) g (groupOpened (getD (s .groups) g quietKept) next);
       refresh = s .refresh;
     }
 
-pub told-act : (s : Kept) (k : Kind) (c b : ℕ) → isAct k ≡ true → told (actKept s (c + 1) b) ≡ note (told s) c k b
+pub told-act : (τ : Table) (s : Kept) (k : Kind) (c b : ℕ) → isAct k ≡ true → told (actKept s (c + 1) b (groupOf τ b)) ≡ note τ (told s) c k b
 unfolding told
-told-act s Act c b e = rw (map-set toldBank (s .banks) b (keptOpened (c + 1)), add-one c)
-told-act s Rd c b e = true-false false e refl
-told-act s Rda c b e = true-false false e refl
-told-act s Wr c b e = true-false false e refl
-told-act s Wra c b e = true-false false e refl
-told-act s Ref c b e = true-false false e refl
-told-act s (Other n) c b e = true-false false e refl
+told-act τ s Act c b e = rw (map-set toldBank (s .banks) b (keptOpened (c + 1)), map-set toldGroup, List·getD-map toldGroup (s .groups) (groupOf τ b) quietKept, add-one c)
+told-act τ s Rd c b e = true-false false e refl
+told-act τ s Rda c b e = true-false false e refl
+told-act τ s Wr c b e = true-false false e refl
+told-act τ s Wra c b e = true-false false e refl
+told-act τ s Ref c b e = true-false false e refl
+told-act τ s (Other n) c b e = true-false false e refl
 
 -- and after a data command
-abbrev pub dataKept : Kept → Bool → Bool → ℕ → ℕ → Kept
-dataKept s w z next b =
+abbrev pub dataKept : Kept → Bool → Bool → ℕ → ℕ → ℕ → Kept
+dataKept s w z next b g =
     record {
       edition = s .edition;
       cycle = next;
@@ -82,23 +86,22 @@ dataKept s w z next b =
       a2 = s .a2;
       a3 = s .a3;
       a4 = s .a4;
-      rd = pick w (s .rd) next;
-      wr = pick w next (s .wr);
+      groups = set (s .groups) g (groupMoved (getD (s .groups) g quietKept) w next);
       refresh = s .refresh;
     }
 
-pub told-data : (s : Kept) (k : Kind) (c b : ℕ) → isKnown k ≡ true → isAct k ≡ false → isRef k ≡ false
-    → told (dataKept s (isWr k) (isClosing k) (c + 1) b) ≡ note (told s) c k b
+pub told-data : (τ : Table) (s : Kept) (k : Kind) (c b : ℕ) → isKnown k ≡ true → isAct k ≡ false → isRef k ≡ false
+    → told (dataKept s (isWr k) (isClosing k) (c + 1) b (groupOf τ b)) ≡ note τ (told s) c k b
 unfolding told
-told-data s Act c b n a f = true-false true refl a
-told-data s Rd c b n a f = rw (map-set toldBank, List·getD-map toldBank (s .banks) b shutKept, add-one c)
-told-data s Rda c b n a f = rw (map-set toldBank, List·getD-map toldBank (s .banks) b shutKept, add-one c)
-told-data s Wr c b n a f = rw (map-set toldBank, List·getD-map toldBank (s .banks) b shutKept, add-one c)
-told-data s Wra c b n a f = rw (map-set toldBank, List·getD-map toldBank (s .banks) b shutKept, add-one c)
-told-data s Ref c b n a f = true-false true refl f
-told-data s (Other m) c b n a f = true-false false n refl
+told-data τ s Act c b n a f = true-false true refl a
+told-data τ s Rd c b n a f = rw (map-set toldBank, List·getD-map toldBank (s .banks) b shutKept, map-set toldGroup, List·getD-map toldGroup (s .groups) (groupOf τ b) quietKept, add-one c)
+told-data τ s Rda c b n a f = rw (map-set toldBank, List·getD-map toldBank (s .banks) b shutKept, map-set toldGroup, List·getD-map toldGroup (s .groups) (groupOf τ b) quietKept, add-one c)
+told-data τ s Wr c b n a f = rw (map-set toldBank, List·getD-map toldBank (s .banks) b shutKept, map-set toldGroup, List·getD-map toldGroup (s .groups) (groupOf τ b) quietKept, add-one c)
+told-data τ s Wra c b n a f = rw (map-set toldBank, List·getD-map toldBank (s .banks) b shutKept, map-set toldGroup, List·getD-map toldGroup (s .groups) (groupOf τ b) quietKept, add-one c)
+told-data τ s Ref c b n a f = true-false true refl f
+told-data τ s (Other m) c b n a f = true-false false n refl
 
--- and after a REF, which leaves every bank as it is
+-- and after a REF, which leaves every bank and group as it is
 abbrev pub refKept : Kept → ℕ → Kept
 refKept s next =
     record {
@@ -111,20 +114,19 @@ refKept s next =
       a2 = s .a2;
       a3 = s .a3;
       a4 = s .a4;
-      rd = s .rd;
-      wr = s .wr;
+      groups = s .groups;
       refresh = next;
     }
 
-pub told-ref : (s : Kept) (k : Kind) (c b : ℕ) → isRef k ≡ true → told (refKept s (c + 1)) ≡ note (told s) c k b
+pub told-ref : (τ : Table) (s : Kept) (k : Kind) (c b : ℕ) → isRef k ≡ true → told (refKept s (c + 1)) ≡ note τ (told s) c k b
 unfolding told
-told-ref s Act c b e = true-false false e refl
-told-ref s Rd c b e = true-false false e refl
-told-ref s Rda c b e = true-false false e refl
-told-ref s Wr c b e = true-false false e refl
-told-ref s Wra c b e = true-false false e refl
-told-ref s Ref c b e = rw (set-getD (map toldBank (s .banks)) b shut, add-one c)
-told-ref s (Other n) c b e = true-false false e refl
+told-ref τ s Act c b e = true-false false e refl
+told-ref τ s Rd c b e = true-false false e refl
+told-ref τ s Rda c b e = true-false false e refl
+told-ref τ s Wr c b e = true-false false e refl
+told-ref τ s Wra c b e = true-false false e refl
+told-ref τ s Ref c b e = rw (set-getD (map toldBank (s .banks)) b shut, set-getD (map toldGroup (s .groups)) (groupOf τ b) quiet, add-one c)
+told-ref τ s (Other n) c b e = true-false false e refl
 
 -- rule 11, bank by bank
 module _ (τ : Table) (s : Kept) (t : ℕ) where

@@ -9,8 +9,10 @@ use Rattle.records.specs.declared.command.Kind.the-variants.{Act, Rd, Rda, Wr, 
 use Rattle.rules.specs.declared.state.Stamp.{Stamp}
 use Rattle.rules.specs.declared.state.Stamp.the-variants.{Never, At}
 use Rattle.rules.specs.declared.state.Bank.{Bank}
+use Rattle.rules.specs.declared.state.Group.{Group}
 use Rattle.rules.specs.declared.state.State.{State}
 use Rattle.timing.specs.declared.kept.KeptBank.{KeptBank}
+use Rattle.timing.specs.declared.kept.KeptGroup.{KeptGroup}
 use Rattle.timing.specs.declared.kept.Kept.{Kept}
 
 -- with auto precharge
@@ -31,6 +33,9 @@ stampOf (suc c) = At c
 abbrev pub toldBank : KeptBank → Bank
 toldBank k = record { opened = k .opened; act = stampOf (k .act); rd = stampOf (k .rd); wr = stampOf (k .wr) }
 
+abbrev pub toldGroup : KeptGroup → Group
+toldGroup g = record { act = stampOf (g .act); rd = stampOf (g .rd); wr = stampOf (g .wr) }
+
 unfoldable pub told : Kept → State
 told s =
     record {
@@ -43,13 +48,15 @@ told s =
       a2 = stampOf (s .a2);
       a3 = stampOf (s .a3);
       a4 = stampOf (s .a4);
-      rd = stampOf (s .rd);
-      wr = stampOf (s .wr);
+      groups = map toldGroup (s .groups);
       refresh = stampOf (s .refresh);
     }
 
 abbrev pub shutKept : KeptBank
 shutKept = record { opened = 0; act = 0; rd = 0; wr = 0 }
+
+abbrev pub quietKept : KeptGroup
+quietKept = record { act = 0; rd = 0; wr = 0 }
 
 abbrev pub keptFresh : ℕ → Kept
 keptFresh e =
@@ -63,8 +70,7 @@ keptFresh e =
       a2 = 0;
       a3 = 0;
       a4 = 0;
-      rd = 0;
-      wr = 0;
+      groups = replicate 8 quietKept;
       refresh = 0;
     }
 
@@ -74,3 +80,10 @@ keptOpened next = record { opened = 1; act = next; rd = 0; wr = 0 }
 
 abbrev pub keptAfter : KeptBank → Bool → Bool → ℕ → KeptBank
 keptAfter k w z next = record { opened = pick z 0 1; act = k .act; rd = pick w (k .rd) next; wr = pick w next (k .wr) }
+
+-- and the group of that bank
+abbrev pub groupOpened : KeptGroup → ℕ → KeptGroup
+groupOpened g next = record { act = next; rd = g .rd; wr = g .wr }
+
+abbrev pub groupMoved : KeptGroup → Bool → ℕ → KeptGroup
+groupMoved g w next = record { act = g .act; rd = pick w (g .rd) next; wr = pick w next (g .wr) }

@@ -21,6 +21,13 @@ pub struct KeptBank {
     pub wr: u64,
 }
 
+// A group: its latest ACT, RD and WR.
+pub struct KeptGroup {
+    pub act: u64,
+    pub rd: u64,
+    pub wr: u64,
+}
+
 pub struct Kept {
     pub edition: u32,
     pub cycle: u64,
@@ -31,8 +38,7 @@ pub struct Kept {
     pub a2: u64,
     pub a3: u64,
     pub a4: u64,
-    pub rd: u64,
-    pub wr: u64,
+    pub groups: [KeptGroup; 8],
     pub refresh: u64,
 }
 
@@ -41,6 +47,11 @@ pub fn kept_fresh(edition: u16) -> Kept
 {
     let shut = KeptBank {
         opened: 0,
+        act: 0,
+        rd: 0,
+        wr: 0,
+    };
+    let quiet = KeptGroup {
         act: 0,
         rd: 0,
         wr: 0,
@@ -55,8 +66,7 @@ pub fn kept_fresh(edition: u16) -> Kept
         a2: 0,
         a3: 0,
         a4: 0,
-        rd: 0,
-        wr: 0,
+        groups: [quiet; 8],
         refresh: 0,
     }
 }
@@ -121,7 +131,7 @@ pub fn kept_rests(t: Table, s: Kept, c: u64) -> bool
     true
 }
 
-// Rule 9.
+// Rule 9 by the latest RD and WR of one group.
 pub fn kept_far(q: [[u32; 2]; 2], rd: u64, wr: u64, write: bool, c: u64) -> bool
     ensures { λ r. ⌜ r ≡ farBy q (stampOf rd) (stampOf wr) write c ⌝ }
 {
@@ -132,18 +142,19 @@ pub fn kept_far(q: [[u32; 2]; 2], rd: u64, wr: u64, write: bool, c: u64) -> bool
     false
 }
 
-// An ACT to bank k at cycle c breaks none of rules 3 to 12; a1 and a4 are the newest and the fourth ACT before it, and rule 12 is told.
-pub fn kept_act_free(t: Table, k: KeptBank, a1: u64, a4: u64, keeps12: bool, c: u64) -> bool
-    ensures { λ r. ⌜ r ≡ allOf (actTestsOf t (toldBank k) (past (stampOf a1) (t .rrd) c) (past (stampOf a4) (t .faw) c) keeps12 c) ⌝ }
+// An ACT to bank k at cycle c breaks none of rules 3 to 12, where rule 6 is asked of its own group alone: `act` is that group's latest ACT, a4
+// the fourth ACT before it, `refresh` the last REF. The other groups are asked after it (`groups`).
+pub fn kept_act_free(t: Table, k: KeptBank, act: u64, a4: u64, refresh: u64, c: u64) -> bool
+    ensures { λ r. ⌜ r ≡ allOf (actTestsOf t (toldBank k) (past (stampOf act) (t .rrdl) c) (past (stampOf a4) (t .faw) c) (past (stampOf refresh) (t .rfc) c) c) ⌝ }
 {
     if kept_open(k) {
         return false;
     }
     if since(a4, wide(t.faw), c) {
-        if since(a1, wide(t.rrd), c) {
+        if since(act, wide(t.rrdl), c) {
             if kept_charged(t, k, c) {
                 if since(k.act, wide(t.rc), c) {
-                    return keeps12;
+                    return since(refresh, wide(t.rfc), c);
                 }
                 return false;
             }
@@ -154,7 +165,7 @@ pub fn kept_act_free(t: Table, k: KeptBank, a1: u64, a4: u64, keeps12: bool, c: 
     false
 }
 
-// A data command to bank k at cycle c, a write or not, breaks none of rules 3 to 9.
+// A data command to bank k at cycle c, a write or not, breaks none of rules 3 to 9, where rule 9 is asked of one group alone.
 pub fn kept_data_free(
     t: Table,
     q: [[u32; 2]; 2],

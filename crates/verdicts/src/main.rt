@@ -1,8 +1,8 @@
 // Hands hostile schedules and patterns to the judges of the desk, and writes a line on what each answers.
 //
-// Standard input, of which 65,536 bytes are read at most, is a sequence of cases, `[call][expected: u16][table: 32 bytes][length: u32][n: u16][n bytes]`.
-// Call 1 judges the n bytes as a schedule and has no use for the length, call 2 judges them as a pattern of that length. The line is
-// `case` for any other call, and for a case that the input cuts short, which is the last.
+// Standard input, of which 131,072 bytes are read at most, is a sequence of cases, `[call][expected: u16][length: u32][t: u8][n: u16][t bytes][n bytes]`.
+// The t bytes are the table. Call 1 judges the n bytes as a schedule and has no use for the length, call 2 judges them as a pattern of that
+// length. The line is `case` for any other call, and for a case that the input cuts short, which is the last.
 use desk::judge;
 use desk::judge_pattern;
 use desk::numbers::rule_number;
@@ -16,32 +16,29 @@ use records::refusal::Refusal;
 use rules::verdict::PatternVerdict;
 use rules::verdict::Rule;
 use rules::verdict::Verdict;
-ghost use mathlib.Core.Path.{_≡_};
-ghost use Prim.Native.Nat.{_+_, _≤_};
+ghost use Prim.Native.Nat.{_+_, _≤_, _<_};
 ghost use lib.ListN.{length};
 
 fn main() {
-    let mut input = io::large_buffer();
+    let mut input = [0u8; 131072];
     let n = io::read_full(STDIN_FILENO, &mut input);
     all_cases(&input[..n]);
 }
 
 fn all_cases(s: &[u8]) {
     let mut at = 0;
-    while 41 <= s.len() - at {
-        let from = at + 41;
-        let n = size(num_at(s, at + 39));
-        if s.len() - from < n {
+    while 10 <= s.len() - at {
+        let table = at + 10;
+        let from = table + table_size(s[at + 7]);
+        let end = from + size(num_at(s, at + 8));
+        if s.len() < end {
             break;
         }
-        let table = at + 3;
-        let length = at + 35;
-        let end = from + n;
         one_case(
             s[at],
             num_at(s, at + 1),
-            &s[table..length],
-            long_at(s, length),
+            &s[table..from],
+            long_at(s, at + 3),
             &s[from..end],
         );
         at = end;
@@ -52,7 +49,13 @@ fn all_cases(s: &[u8]) {
 }
 
 fn size(n: u16) -> usize
-    ensures { λ r. ⌜ r ≡ n ⌝ }
+    ensures { λ r. ⌜ r < 65536 ⌝ }
+{
+    n as usize
+}
+
+fn table_size(n: u8) -> usize
+    ensures { λ r. ⌜ r < 256 ⌝ }
 {
     n as usize
 }

@@ -11,7 +11,7 @@ mod running;
 mod schedules;
 
 pub use captures::*;
-pub use raw::{Controller, HostBank, Transaction};
+pub use raw::{Controller, HostBank, HostGroup, Transaction};
 pub use records::*;
 pub use running::*;
 pub use schedules::*;

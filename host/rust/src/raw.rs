@@ -41,7 +41,7 @@ pub struct TableAnswer {
     pub refused: u32,
     pub position: u32,
     pub edition: u32,
-    pub numbers: [u16; 16],
+    pub numbers: [u16; 20],
 }
 
 #[repr(C)]
@@ -87,11 +87,26 @@ pub struct Numbers {
 
 #[repr(C)]
 #[derive(Debug, Clone, Copy, PartialEq, Eq)]
+pub struct GroupNumbers {
+    pub numbers: [u16; 20],
+}
+
+#[repr(C)]
+#[derive(Debug, Clone, Copy, PartialEq, Eq)]
 pub struct HostBank {
     /// Open unless 0.
     pub opened: u32,
     pub act: u32,
     /// Since that ACT.
+    pub rd: u32,
+    pub wr: u32,
+}
+
+/// The latest of its banks.
+#[repr(C)]
+#[derive(Debug, Clone, Copy, PartialEq, Eq)]
+pub struct HostGroup {
+    pub act: u32,
     pub rd: u32,
     pub wr: u32,
 }
@@ -108,8 +123,7 @@ pub struct Controller {
     pub banks: [HostBank; 16],
     /// Newest first.
     pub last: [u32; 4],
-    pub rd: u32,
-    pub wr: u32,
+    pub groups: [HostGroup; 8],
     /// The last REF.
     pub refresh: u32,
 }
@@ -139,6 +153,7 @@ pub struct ControllerAnswer {
 extern "C" {
     pub fn skv_read_table(bytes: *const u8, bytes_len: usize) -> TableAnswer;
     pub fn skv_write_table(numbers: Numbers, out: *mut u8, out_len: usize) -> Answer;
+    pub fn skv_write_group_table(numbers: GroupNumbers, out: *mut u8, out_len: usize) -> Answer;
     pub fn skv_read_transaction(bytes: *const u8, bytes_len: usize) -> TransactionAnswer;
     pub fn skv_write_transaction(kind: u8, start: u8, bi: u8, bc: u8, out: *mut u8, out_len: usize) -> Answer;
     pub fn skv_read_command(bytes: *const u8, bytes_len: usize) -> CommandAnswer;

@@ -6,8 +6,11 @@ use crate::{told, Refusal};
 /// Edition, banks, B, CCD, RCD, RP, RAS, RC, RRD, FAW, RL, WL, RTP, WR, WTR, RFC.
 pub type Table = [u16; 16];
 
-/// Refused with 1 and 2.
-pub fn read_table(bytes: &[u8]) -> Result<Table, Refusal> {
+/// The sixteen, then the group count, long CCD, long RRD and long WTR.
+pub type GroupTable = [u16; 20];
+
+/// Refused with 1 and 2. Of a table of 32 bytes the group count is 1, and each long number the short one.
+pub fn read_table(bytes: &[u8]) -> Result<GroupTable, Refusal> {
     let a = unsafe { skv_read_table(bytes.as_ptr(), bytes.len()) };
     told(a.refused, a.position, a.edition, a.numbers)
 }
@@ -15,6 +18,13 @@ pub fn read_table(bytes: &[u8]) -> Result<Table, Refusal> {
 /// Refused with 1 and 2. Answers the table's edition.
 pub fn write_table(numbers: Table, out: &mut [u8]) -> Result<u32, Refusal> {
     let a = unsafe { skv_write_table(Numbers { numbers }, out.as_mut_ptr(), out.len()) };
+    a.told(a.edition)
+}
+
+/// Refused with 1 and 2. Answers the table's edition.
+pub fn write_group_table(numbers: GroupTable, out: &mut [u8]) -> Result<u32, Refusal> {
+    let numbers = GroupNumbers { numbers };
+    let a = unsafe { skv_write_group_table(numbers, out.as_mut_ptr(), out.len()) };
     a.told(a.edition)
 }
 

@@ -8,7 +8,7 @@ use super::refusals::told;
 use crate::desk::*;
 use crate::house::*;
 use crate::listing::{commands, schedule_lines};
-use crate::records::{B, BANKS, CCD, EDITION, RFC};
+use crate::records::{whole, B, BANKS, CCD, EDITION, RFC};
 use crate::rules::{ACT, RDA, REF, WRA};
 
 const READ: [u8; 4] = [0, 0, 1, 1];
@@ -22,7 +22,7 @@ fn refresh() -> Transaction {
 /// Cycle, kind, bank and transaction of each command, and the finishing cycles.
 type Gone = (Vec<(u32, u8, u8, u16)>, Vec<u32>);
 
-fn scheduled(table: &Table, list: &[[u8; 4]]) -> Gone {
+fn scheduled(table: &[u16], list: &[[u8; 4]]) -> Gone {
     let (room, finishes) = built(table, list);
     let fields = |c: &Command| (c.cycle, c.kind, c.bank, c.transaction);
     let gone = commands(&room, u32::MAX).iter().map(fields).collect();
@@ -45,7 +45,7 @@ fn tables() {
             let mut room = [9; 32];
             let (read, written) = (read_table(&bytes_of(&t)), write_table(t, &mut room));
             if fine {
-                assert_eq!((read, written), (Ok(t), Ok(7)));
+                assert_eq!((read, written), (Ok(whole(&t)), Ok(7)));
                 assert_eq!(room[..], bytes_of(&t));
             } else {
                 assert_eq!((told(read), told(written)), ((2, 0, 0), (2, 0, 0)));

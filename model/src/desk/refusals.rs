@@ -3,7 +3,7 @@
 use super::laws::transaction;
 use crate::desk::*;
 use crate::house::*;
-use crate::records::{BANKS, CCD, RFC};
+use crate::records::{whole, BANKS, CCD, RFC};
 
 /// Number, position, edition.
 pub type Told = (u8, u32, u16);
@@ -128,8 +128,8 @@ fn starts() {
         fresh.edition = edition;
         assert_eq!(c, fresh);
         assert_eq!(
-            (c.cycle, c.acts, c.datas, c.last, c.rd, c.wr),
-            (0, 0, 0, [NEVER; 4], NEVER, NEVER)
+            (c.cycle, c.acts, c.datas, c.last, c.refresh),
+            (0, 0, 0, [NEVER; 4], NEVER)
         );
     }
 }
@@ -205,7 +205,7 @@ fn records() {
     assert_eq!(told(write_command(0, 0, 0, 0, &mut room[..7])), (5, 0, 0));
     assert_eq!(room, ROOM);
     assert_eq!(write_table(TABLE_A, &mut room[..32]), Ok(7));
-    assert_eq!(read_table(&room[..32]), Ok(TABLE_A));
+    assert_eq!(read_table(&room[..32]), Ok(whole(&TABLE_A)));
     assert_eq!(write_transaction(1, 15, 16, 16, &mut room[..4]), Ok(0));
     assert_eq!(read_transaction(&room[..4]), Ok(transaction(1, 15, 16, 16)));
     assert_eq!(write_command(NEVER, 255, 16, 300, &mut room[..40]), Ok(0));

@@ -3,6 +3,7 @@
 use crate::desk::*;
 use crate::house::{built, bytes_of, command, TABLE_T};
 use crate::listing::commands;
+use crate::records::whole;
 use crate::rules::{Times, ACT, RD, RDA, WR, WRA};
 
 /// Cycle, kind and bank.
@@ -40,9 +41,11 @@ fn no_two_numbers_alike() {
 
 #[test]
 fn distances() {
-    let t = Times::of(&TABLE_T);
-    let square = [true, false].map(|e| [true, false].map(|l| t.distance(e, l)));
-    assert_eq!(square, [[5, 10], [17, 5]]);
+    let t = Times::of(&whole(&TABLE_T));
+    for near in [true, false] {
+        let square = [true, false].map(|e| [true, false].map(|l| t.distance(near, e, l)));
+        assert_eq!(square, [[5, 10], [17, 5]]);
+    }
 }
 
 #[test]

@@ -1,13 +1,13 @@
 //! The cases themselves: the edges of each number, sizes one off, buffers that are too small or too great, and bytes of no meaning.
 
+use super::tables::{group_tables, tables};
 use super::*;
-use crate::house::*;
-use crate::records::{B, BANKS, CCD, EDITION, RFC};
+use crate::house::{bytes_of, command, Numbers, REFRESH_BYTES, TABLE_A, TABLE_D};
 
-struct Cases(Vec<u8>);
+pub struct Cases(Vec<u8>);
 
 impl Cases {
-    fn put(&mut self, call: u8, bytes: &[u8]) {
+    pub fn put(&mut self, call: u8, bytes: &[u8]) {
         self.0.push(call);
         self.0.push(
             bytes
@@ -19,7 +19,7 @@ impl Cases {
     }
 
     /// A write into a buffer of so many bytes, no two neighbours alike, so that a byte that is left alone is seen.
-    fn put_write(&mut self, call: u8, values: &[u8], room: usize) {
+    pub fn put_write(&mut self, call: u8, values: &[u8], room: usize) {
         let pattern = (0..room).map(|i| 0xa5 ^ (i * 7) as u8);
         self.put(
             call,
@@ -28,13 +28,13 @@ impl Cases {
     }
 
     /// A record read, and written into a buffer of its size.
-    fn put_both(&mut self, read: u8, values: &[u8]) {
+    pub fn put_both(&mut self, read: u8, values: &[u8]) {
         self.put(read, values);
         self.put_write(read + 1, values, values.len());
     }
 
     /// A record written into buffers that are too small, right and too great.
-    fn put_rooms(&mut self, write: u8, values: &[u8]) {
+    pub fn put_rooms(&mut self, write: u8, values: &[u8]) {
         let size = values.len();
         for room in [0, 1, size - 1, size, size + 1, 40, ROOM] {
             self.put_write(write, values, room);
@@ -46,7 +46,7 @@ impl Cases {
         for i in 0..60 {
             let bytes = match i % 3 {
                 0 => {
-                    let n = numbers.below(41);
+                    let n = numbers.below(49);
                     numbers.bytes(n)
                 }
                 1 => numbers.bytes(good.len()),
@@ -66,72 +66,15 @@ pub fn cases() -> Vec<u8> {
     let mut cases = Cases(Vec::new());
     let mut numbers = Numbers(1);
     tables(&mut cases);
+    group_tables(&mut cases);
     transactions(&mut cases);
     commands(&mut cases);
     cases.put_any(READ_TABLE, &bytes_of(&TABLE_A), &mut numbers);
+    cases.put_any(READ_TABLE, &bytes_of(&TABLE_D), &mut numbers);
     cases.put_any(READ_TRANSACTION, &[1, 3, 4, 2], &mut numbers);
     cases.put_any(READ_COMMAND, &[10, 0, 0, 0, 2, 0, 0, 0], &mut numbers);
     not_cases(&mut cases);
     cases.0
-}
-
-fn tables(cases: &mut Cases) {
-    let a = bytes_of(&TABLE_A);
-    for size in [0, 1, 2, 31, 32, 33, 64, 255] {
-        let bytes: Vec<u8> = a.iter().copied().cycle().take(size).collect();
-        cases.put(READ_TABLE, &bytes);
-    }
-    let mut tables = vec![
-        TABLE_A,
-        with(&[(FAW, 155)]),
-        with(&[(RTP, 2)]),
-        [0; 16],
-        [65535; 16],
-    ];
-    for i in EDITION..=RFC {
-        // With table A's CCD, B is at most 4.
-        let greatest = match i {
-            EDITION => 65535,
-            BANKS => 16,
-            B => 4,
-            _ => 1023,
-        };
-        let over = if i == EDITION { 256 } else { greatest + 1 };
-        tables.extend([0, 1, 255, 256, greatest, over, 65535].map(|n| with(&[(i, n)])));
-    }
-    tables.extend([1, 2, 3, 4, 5].map(|ccd| with(&[(CCD, ccd)])));
-    for (b, ccd) in [
-        (1, 1),
-        (1, 2),
-        (2, 2),
-        (3, 2),
-        (5, 4),
-        (255, 254),
-        (256, 256),
-        (1023, 1022),
-        (1023, 1023),
-        (1023, 1024),
-        (1024, 1024),
-    ] {
-        tables.push(with(&[(B, b), (CCD, ccd)]));
-    }
-    // RFC that is accepted doesn't hide another fault, nor the other way round.
-    for rfc in [1, 1024] {
-        for fault in [(EDITION, 0), (BANKS, 17), (CCD, 1), (FAW, 1024)] {
-            tables.push(with(&[fault, (RFC, rfc)]));
-        }
-    }
-    for t in &tables {
-        cases.put_both(READ_TABLE, &bytes_of(t));
-    }
-    for t in [
-        TABLE_A,
-        with(&[(BANKS, 0)]),
-        with(&[(RFC, 1)]),
-        with(&[(RFC, 1024)]),
-    ] {
-        cases.put_rooms(WRITE_TABLE, &bytes_of(&t));
-    }
 }
 
 fn transactions(cases: &mut Cases) {
@@ -220,12 +163,13 @@ fn commands(cases: &mut Cases) {
 
 /// Calls that there are not, writes whose values are cut or whose buffer is too long, and at the end a case that is cut short.
 fn not_cases(cases: &mut Cases) {
-    for call in [0, 7, 128, 255] {
+    for call in [0, 8, 128, 255] {
         cases.put(call, &[]);
         cases.put(call, &bytes_of(&TABLE_A));
     }
     for (write, values) in [
         (WRITE_TABLE, &bytes_of(&TABLE_A)[..]),
+        (WRITE_GROUP_TABLE, &bytes_of(&TABLE_D)),
         (WRITE_TRANSACTION, &[0, 0, 1, 1]),
         (WRITE_COMMAND, &[0; 8]),
     ] {

@@ -21,7 +21,7 @@ pub fn put(cases: &mut Cases) {
 
 /// A list of so many transactions that the table accepts, refreshes among them where it has any.
 pub fn any_list(
-    table: &Table,
+    table: &[u16],
     size: usize,
     most: (usize, usize),
     numbers: &mut Numbers,

@@ -60,7 +60,7 @@ fn faults(cases: &mut Cases) {
         with(&[(EDITION, 0)]),
         TABLE_A,
     ];
-    for table in tables.iter().map(bytes_of) {
+    for table in tables.iter().map(|t| bytes_of(t)) {
         for expected in [0, 8] {
             cases.expecting(expected, &table[..31]);
             for list in [

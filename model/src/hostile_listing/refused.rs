@@ -8,6 +8,7 @@ pub fn put(cases: &mut Cases) {
     let mut numbers = Numbers(22);
     short(cases, &mut numbers);
     tables(cases);
+    of_40_bytes(cases);
     flipped(cases);
     sizes(cases, &mut numbers);
     transactions(cases);
@@ -59,6 +60,14 @@ fn tables(cases: &mut Cases) {
         cases.list(&table, &[[2, 0, 1, 1]; 257]);
         cases.list(&table, &[[0, 0, 8, 16]; 256]);
     }
+}
+
+/// "The listing program keeps the 32-byte table": what follows its 32 bytes are transactions, two of them here that are accepted in one table.
+fn of_40_bytes(cases: &mut Cases) {
+    cases.group("tables of 40 bytes");
+    cases.list(&TABLE_D, &EXAMPLE_3);
+    cases.list(&TWO_WRITES, &EXAMPLE_3);
+    cases.list(&TWO_WRITES, &[]);
 }
 
 fn flipped(cases: &mut Cases) {

@@ -5,7 +5,7 @@ use crate::desk;
 use crate::hostile_listing::any_list;
 use crate::house::*;
 use crate::inputs::Cases;
-use crate::records::{Table, BANKS, EDITION};
+use crate::records::{BANKS, EDITION};
 use crate::sent::{capture, of_schedule, record, tick_record as tick, with_ticks, Sent};
 use crate::verdicts::schedules;
 
@@ -159,7 +159,7 @@ fn greatest(cases: &mut Cases) {
 }
 
 /// The schedule by the running controller, which takes less time for a long list.
-fn run(table: &Table, list: &[[u8; 4]]) -> Vec<u8> {
+fn run(table: &[u16], list: &[[u8; 4]]) -> Vec<u8> {
     let (edition, table, mut room) = (table[EDITION], bytes_of(table), vec![0; room_for(list)]);
     let (_, mut c) = desk::start(edition, &table);
     desk::run_bytes(&mut c, edition, &table, &list.concat(), u32::MAX, &mut room)

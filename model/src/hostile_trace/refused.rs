@@ -53,6 +53,11 @@ fn tables(cases: &mut Cases) {
             }
         }
     }
+    // What follows 32 bytes is the capture.
+    for table in [TABLE_D, TWO_WRITES] {
+        cases.bytes(&table, &[]);
+        cases.bytes(&table, &READ.concat());
+    }
     for (edition, expected) in OTHER_EDITIONS {
         let table = bytes_of(&with(&[(EDITION, edition)]));
         cases.expecting(expected, &[table, READ.concat()].concat());

@@ -2,6 +2,7 @@
 //! not expected.
 
 use super::editions::editions;
+use super::groups::groups;
 use super::refreshes::refreshes;
 use super::states::*;
 use super::*;
@@ -12,10 +13,10 @@ pub struct Cases(Vec<u8>);
 
 impl Cases {
     /// The expected edition is the table's own.
-    fn head(&mut self, call: u8, table: &Table) {
+    fn head(&mut self, call: u8, table: &[u16]) {
         self.0.push(call);
         self.0.extend(table[EDITION].to_le_bytes());
-        self.0.extend(bytes_of(table));
+        self.0.push(2 * table.len() as u8);
     }
 
     /// What is put is one case, and this its expected edition.
@@ -25,36 +26,49 @@ impl Cases {
         self.0[place..place + 2].copy_from_slice(&expected.to_le_bytes());
     }
 
-    fn list(&mut self, list: &[u8]) {
-        let n: u16 = list.len().try_into().expect("a list has a 16-bit size");
-        self.0.extend(n.to_le_bytes());
-        self.0.extend_from_slice(list);
+    /// What is put is one case with a table of 32 bytes and nothing behind it, and these are the table's bytes instead.
+    pub fn by(&mut self, table: &[u8], put: impl FnOnce(&mut Cases)) {
+        let place = self.0.len() + 3;
+        put(self);
+        self.0[place] = table.len() as u8;
+        self.0.truncate(self.0.len() - 32);
+        self.0.extend_from_slice(table);
     }
 
-    pub fn build(&mut self, table: &Table, room: usize, slots: usize, list: &[u8]) {
+    pub fn build(&mut self, table: &[u16], room: usize, slots: usize, list: &[u8]) {
         self.head(BUILD, table);
         self.0.extend((room as u16).to_le_bytes());
         self.0.extend((slots as u16).to_le_bytes());
-        self.list(list);
+        self.0.extend(size_of(list));
+        self.0.extend(bytes_of(table));
+        self.0.extend_from_slice(list);
     }
 
     /// With the room and the slots that are just enough.
-    pub fn build_all(&mut self, table: &Table, list: &[[u8; 4]]) {
+    pub fn build_all(&mut self, table: &[u16], list: &[[u8; 4]]) {
         self.build(table, room_for(list), list.len(), &list.concat());
     }
 
-    pub fn run(&mut self, table: &Table, count: u32, room: usize, state: &Controller, list: &[u8]) {
+    pub fn run(&mut self, table: &[u16], count: u32, room: usize, state: &Controller, list: &[u8]) {
         self.head(RUN, table);
         self.0.extend(count.to_le_bytes());
         self.0.extend((room as u16).to_le_bytes());
+        self.0.extend(size_of(list));
         self.0.extend(bytes_of_state(state));
-        self.list(list);
+        self.0.extend(bytes_of(table));
+        self.0.extend_from_slice(list);
     }
 
-    pub fn bound(&mut self, table: &Table, bi: u8, bc: u8) {
+    pub fn bound(&mut self, table: &[u16], bi: u8, bc: u8) {
         self.head(BOUND, table);
         self.0.extend([bi, bc]);
+        self.0.extend(bytes_of(table));
     }
+}
+
+fn size_of(list: &[u8]) -> [u8; 2] {
+    let n: u16 = list.len().try_into().expect("a list has a 16-bit size");
+    n.to_le_bytes()
 }
 
 pub fn cases() -> Vec<u8> {
@@ -73,6 +87,7 @@ pub fn cases() -> Vec<u8> {
     bounds(&mut cases);
     refused_tables(&mut cases);
     editions(&mut cases);
+    groups(&mut cases);
     // At the end a case that is cut short.
     cases.run(&TABLE_A, 1, 8, &Controller::fresh(&TABLE_A), &[0, 0, 1, 1]);
     cases.0.pop();
@@ -101,7 +116,7 @@ fn worked(cases: &mut Cases) {
 }
 
 /// A list of so many transactions, of few banks and bursts each, with refreshes where the table has them.
-pub fn any_list(table: &Table, size: usize, numbers: &mut Numbers) -> Vec<[u8; 4]> {
+pub fn any_list(table: &[u16], size: usize, numbers: &mut Numbers) -> Vec<[u8; 4]> {
     let banks = usize::from(table[BANKS]);
     let mut one = || {
         if table[RFC] != 0 && numbers.below(4) == 0 {
@@ -234,7 +249,7 @@ fn cuts(cases: &mut Cases) {
 }
 
 /// A fresh run to each count, and on from there to the end.
-fn cut(cases: &mut Cases, table: &Table, list: &[[u8; 4]], counts: impl IntoIterator<Item = u32>) {
+fn cut(cases: &mut Cases, table: &[u16], list: &[[u8; 4]], counts: impl IntoIterator<Item = u32>) {
     let (room, bytes) = (room_for(list), list.concat());
     let fresh = Controller::fresh(table);
     for count in counts {

@@ -96,7 +96,8 @@ fn states(cases: &mut Cases) {
     put(&[REFRESH], 60, &|s| s.banks[2].wr = 99);
     // A REF is no ACT and no data command, and what lies past the table's banks is not read.
     put(&[REFRESH], 1, &|s| {
-        (s.last, s.rd, s.wr) = ([99; 4], 99, 99);
+        s.last = [99; 4];
+        (s.groups[0].act, s.groups[0].rd, s.groups[0].wr) = (99, 99, 99);
         (s.banks[8].opened, s.banks[15].act) = (1, NEVER - 1);
     });
     // RFC holds no data command.

@@ -15,8 +15,11 @@ pub fn bytes_of_state(s: &Controller) -> Vec<u8> {
         bytes.push(u8::try_from(bank.opened).expect("a case has 8 bits of it"));
         bytes.extend([bank.act, bank.rd, bank.wr].into_iter().flat_map(four));
     }
-    let of_all = [s.rd, s.wr, s.refresh];
-    bytes.extend(s.last.into_iter().chain(of_all).flat_map(four));
+    bytes.extend(s.last.into_iter().flat_map(four));
+    for group in &s.groups {
+        bytes.extend([group.act, group.rd, group.wr].into_iter().flat_map(four));
+    }
+    bytes.extend(four(s.refresh));
     bytes
 }
 
@@ -33,7 +36,7 @@ fn midway() -> Controller {
 /// From a state and with a list that are not refused: what is told, the commands, and the state that is left.
 pub fn ran(
     from: &Controller,
-    table: &Table,
+    table: &[u16],
     list: &[[u8; 4]],
     count: u32,
 ) -> (Ran, Vec<Command>, Controller) {
@@ -66,8 +69,10 @@ pub fn hand_made(cases: &mut Cases) {
     put(60, &|s| s.last = [0, 1, 2, 14]);
     put(60, &|s| s.last = [14, NEVER, NEVER, NEVER]);
     put(60, &|s| s.last = [NEVER, 14, 14, 14]);
-    put(60, &|s| s.wr = 14);
-    put(60, &|s| (s.rd, s.wr) = (NEVER, NEVER));
+    put(60, &|s| s.groups[0].act = 14);
+    put(60, &|s| s.groups[0].act = NEVER);
+    put(60, &|s| s.groups[0].wr = 14);
+    put(60, &|s| (s.groups[0].rd, s.groups[0].wr) = (NEVER, NEVER));
     put(60, &|s| s.banks[0].wr = 13);
     put(60, &|s| {
         (s.banks[0].act, s.banks[0].rd, s.banks[0].wr) = (NEVER, 12, NEVER)
@@ -103,12 +108,13 @@ pub fn hand_made(cases: &mut Cases) {
         put(5, &|s| s.banks[0].act = stored);
         put(5, &|s| s.banks[7].rd = stored);
     }
-    put(5, &|s| s.rd = own - 1);
-    put(5, &|s| s.rd = own);
+    put(5, &|s| s.groups[0].rd = own - 1);
+    put(5, &|s| s.groups[0].rd = own);
+    put(5, &|s| s.groups[0].act = own);
     put(5, &|s| s.banks[3].wr = own);
     put(5, &|s| s.last[0] = own);
     put(5, &|s| s.last[3] = own);
-    put(5, &|s| s.wr = own);
+    put(5, &|s| s.groups[0].wr = own);
     past_the_banks(cases);
     run_rooms(cases);
 }
@@ -169,7 +175,7 @@ fn run_rooms(cases: &mut Cases) {
 /// States as runs leave them, but for the stored cycles, which may be any that are not refused.
 pub fn any_states(cases: &mut Cases, numbers: &mut Numbers) {
     for round in 0..16 {
-        let table: &Table = &ODD[(round + 1) % ODD.len()];
+        let table: &[u16] = &ODD[(round + 1) % ODD.len()];
         let list = any_list(table, 2 + round % 3, numbers);
         let mut state = Controller::fresh(table);
         state.cycle = numbers.of(&[70, 300, 99_999_700]);
@@ -188,7 +194,8 @@ pub fn any_states(cases: &mut Cases, numbers: &mut Numbers) {
             (bank.rd, bank.wr) = (stored(), stored());
         }
         state.last = [(); 4].map(|()| stored());
-        (state.rd, state.wr) = (stored(), stored());
+        let one = &mut state.groups[0];
+        (one.act, one.rd, one.wr) = (stored(), stored(), stored());
         state.refresh = stored();
         for bank in &mut state.banks {
             bank.opened *= numbers.of(&[1, 7]);

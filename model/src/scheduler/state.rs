@@ -1,7 +1,7 @@
 //! "Running a few cycles": the cycle rule by what a state tells.
 
 use super::{check_list, refused, Queues, Waiting, MOST_TRANSACTIONS};
-use crate::records::{Command, Refusal, Table, Transaction, BANKS, EDITION};
+use crate::records::{Command, GroupTable, Refusal, Transaction, BANKS, EDITION, GROUPS};
 use crate::rules::{Times, ACT, RD, RDA, REF, WR};
 
 /// A stored cycle of this value stands for "never".
@@ -20,6 +20,14 @@ pub struct Bank {
     pub wr: u32,
 }
 
+/// "The latest read and write of each group .. and the group's latest ACT."
+#[derive(Debug, Clone, Copy, PartialEq, Eq)]
+pub struct Group {
+    pub act: u32,
+    pub rd: u32,
+    pub wr: u32,
+}
+
 #[derive(Debug, Clone, PartialEq, Eq)]
 pub struct State {
     pub edition: u32,
@@ -31,8 +39,8 @@ pub struct State {
     pub banks: [Bank; 16],
     /// Newest first.
     pub last: [u32; 4],
-    pub rd: u32,
-    pub wr: u32,
+    /// "Nothing kept past the table's groups is read or changed."
+    pub groups: [Group; 8],
     /// The last REF's cycle.
     pub refresh: u32,
 }
@@ -43,9 +51,15 @@ fn far(stored: u32, distance: u64, cycle: u32) -> bool {
 }
 
 impl State {
-    pub fn fresh(table: &Table) -> State {
+    /// Of a table's numbers, of which the edition is the first.
+    pub fn fresh(table: &[u16]) -> State {
         let closed = Bank {
             opened: 0,
+            act: NEVER,
+            rd: NEVER,
+            wr: NEVER,
+        };
+        let never = Group {
             act: NEVER,
             rd: NEVER,
             wr: NEVER,
@@ -57,17 +71,26 @@ impl State {
             datas: 0,
             banks: [closed; 16],
             last: [NEVER; 4],
-            rd: NEVER,
-            wr: NEVER,
+            groups: [never; 8],
             refresh: NEVER,
         }
     }
 
+    /// Whether it holds of each of the table's groups, told with whether it is the bank's own.
+    fn every_group(&self, t: &Times, bank: u8, holds: impl Fn(bool, &Group) -> bool) -> bool {
+        let own = t.group(bank);
+        let mut groups = self.groups[..t.groups as usize].iter().enumerate();
+        groups.all(|(place, group)| holds(place == own, group))
+    }
+
+    /// "Rule 6 the groups' latest ACTs, no longer the first of the four."
     fn act_goes(&self, t: &Times, w: &Waiting) -> bool {
         let bank = &self.banks[usize::from(w.bank)];
         self.precharged(t, bank)
             && far(bank.act, t.rc, self.cycle)
-            && far(self.last[0], t.rrd, self.cycle)
+            && self.every_group(t, w.bank, |near, group| {
+                far(group.act, t.act_distance(near), self.cycle)
+            })
             && far(self.last[3], t.faw, self.cycle)
             && far(self.refresh, t.rfc, self.cycle)
     }
@@ -85,22 +108,26 @@ impl State {
         banks.all(|bank| self.precharged(t, bank)) && far(self.refresh, t.rfc, self.cycle)
     }
 
+    /// "In a run rule 9 reads the groups' reads and writes."
     fn data_goes(&self, t: &Times, w: &Waiting) -> bool {
         let bank = &self.banks[usize::from(w.bank)];
         let reads = w.kind == RD || w.kind == RDA;
         bank.opened != 0
             && far(bank.act, t.rcd, self.cycle)
-            && far(self.rd, t.distance(true, reads), self.cycle)
-            && far(self.wr, t.distance(false, reads), self.cycle)
+            && self.every_group(t, w.bank, |near, group| {
+                far(group.rd, t.distance(near, true, reads), self.cycle)
+                    && far(group.wr, t.distance(near, false, reads), self.cycle)
+            })
     }
 
-    fn note(&mut self, w: &Waiting) {
+    fn note(&mut self, t: &Times, w: &Waiting) {
         if w.kind == REF {
             self.refresh = self.cycle;
             self.acts += 1;
             return;
         }
         let bank = &mut self.banks[usize::from(w.bank)];
+        let group = &mut self.groups[t.group(w.bank)];
         bank.opened = (w.kind == ACT || w.kind == RD || w.kind == WR).into();
         if w.kind == ACT {
             bank.act = self.cycle;
@@ -108,15 +135,16 @@ impl State {
             bank.wr = NEVER;
             self.last.rotate_right(1);
             self.last[0] = self.cycle;
+            group.act = self.cycle;
             self.acts += 1;
         } else {
-            let (of_bank, of_all) = if w.kind == RD || w.kind == RDA {
-                (&mut bank.rd, &mut self.rd)
+            let (of_bank, of_group) = if w.kind == RD || w.kind == RDA {
+                (&mut bank.rd, &mut group.rd)
             } else {
-                (&mut bank.wr, &mut self.wr)
+                (&mut bank.wr, &mut group.wr)
             };
             *of_bank = self.cycle;
-            *of_all = self.cycle;
+            *of_group = self.cycle;
             self.datas += 1;
         }
     }
@@ -133,7 +161,7 @@ impl State {
         let next = data.or_else(|| act.filter(act_goes));
         let gone = next.map(|w| w.at(self.cycle));
         if let Some(w) = next {
-            self.note(w);
+            self.note(t, w);
         }
         self.cycle += 1;
         gone
@@ -144,11 +172,13 @@ impl State {
     }
 
     /// Number 9.
-    fn refused(&self, table: &Table, queues: &Queues) -> bool {
+    fn refused(&self, table: &GroupTable, queues: &Queues) -> bool {
         let banks = &self.banks[..usize::from(table[BANKS])];
         let of_banks = banks.iter().flat_map(|bank| [bank.act, bank.rd, bank.wr]);
-        let of_all = [self.rd, self.wr, self.refresh];
-        let mut stored = of_banks.chain(self.last).chain(of_all);
+        let groups = &self.groups[..usize::from(table[GROUPS])];
+        let of_groups = groups.iter().flat_map(|g| [g.act, g.rd, g.wr]);
+        let of_all = self.last.into_iter().chain([self.refresh]);
+        let mut stored = of_banks.chain(of_groups).chain(of_all);
         let (acts, datas) = (self.acts as usize, self.datas as usize);
         self.cycle >= LAST_CYCLE
             || self.edition != u32::from(table[EDITION])
@@ -170,7 +200,7 @@ pub struct Run {
 /// Numbers 3, 4, 5 and 9, and then the run. Room in bytes.
 pub fn run(
     state: &State,
-    table: &Table,
+    table: &GroupTable,
     list: &[Transaction],
     count: u32,
     room: usize,

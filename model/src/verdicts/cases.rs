@@ -3,11 +3,12 @@
 
 use super::broken::*;
 use super::editions::editions;
+use super::groups::groups;
 use super::refreshes::refreshes;
 use super::search::*;
 use super::*;
 use crate::house::*;
-use crate::records::{Table, BANKS, CCD, EDITION, RFC};
+use crate::records::{whole, BANKS, CCD, EDITION, RFC};
 use crate::rules::*;
 
 const TOP: u64 = u32::MAX as u64;
@@ -16,14 +17,22 @@ pub struct Cases(Vec<u8>);
 
 impl Cases {
     /// The expected edition is the table's own.
-    pub fn put(&mut self, call: u8, table: &Table, length: u32, bytes: &[u8]) {
+    pub fn put(&mut self, call: u8, table: &[u16], length: u32, bytes: &[u8]) {
         self.0.push(call);
         self.0.extend(table[EDITION].to_le_bytes());
-        self.0.extend(bytes_of(table));
         self.0.extend(length.to_le_bytes());
+        self.0.push(2 * table.len() as u8);
         let n: u16 = bytes.len().try_into().expect("a case has a 16-bit size");
         self.0.extend(n.to_le_bytes());
+        self.0.extend(bytes_of(table));
         self.0.extend_from_slice(bytes);
+    }
+
+    /// A schedule of no record, by a table of these bytes.
+    pub fn by(&mut self, table: &[u8]) {
+        self.0
+            .extend([JUDGE, 7, 0, 0, 0, 0, 0, table.len() as u8, 0, 0]);
+        self.0.extend_from_slice(table);
     }
 
     /// What is put is one case, and this its expected edition.
@@ -33,11 +42,11 @@ impl Cases {
         self.0[place..place + 2].copy_from_slice(&expected.to_le_bytes());
     }
 
-    pub fn schedule(&mut self, table: &Table, records: &[(u32, u8, u8)]) {
+    pub fn schedule(&mut self, table: &[u16], records: &[(u32, u8, u8)]) {
         self.put(JUDGE, table, 0, &bytes_of_some(records));
     }
 
-    pub fn pattern(&mut self, table: &Table, records: &[(u32, u8, u8)], length: u32) {
+    pub fn pattern(&mut self, table: &[u16], records: &[(u32, u8, u8)], length: u32) {
         self.put(JUDGE_PATTERN, table, length, &bytes_of_some(records));
     }
 }
@@ -66,7 +75,7 @@ pub fn cases() -> Vec<u8> {
     for (table, place, records) in too_early(&mut numbers) {
         let bytes = bytes_of_records(&records);
         cases.put(JUDGE, &table, 0, &bytes);
-        let rule = first_broken(&table, &records[..place], &records[place]);
+        let rule = first_broken(&whole(&table), &records[..place], &records[place]);
         if rule == Some(5) || rule == Some(7) {
             cases.put(JUDGE_PATTERN, &table, 4000, &bytes);
         }
@@ -84,6 +93,7 @@ pub fn cases() -> Vec<u8> {
     sizes(&mut cases);
     refused_tables(&mut cases);
     editions(&mut cases);
+    groups(&mut cases);
     not_cases(&mut cases);
     cases.0
 }
@@ -142,7 +152,7 @@ fn wraps(cases: &mut Cases) {
         cases.put(JUDGE, &TABLE_A, 0, &from(start));
     }
     let seven = from(7);
-    let verdict = |length| crate::rules::judge_pattern(&TABLE_A, &seven, length);
+    let verdict = |length| crate::rules::judge_pattern(&whole(&TABLE_A), &seven, length);
     let accepted = |&length: &u32| verdict(length) == Ok(PatternVerdict::Accepted);
     let least = (1..1000).find(accepted).expect("a length that is enough");
     for length in [least - 1, least] {
@@ -151,7 +161,7 @@ fn wraps(cases: &mut Cases) {
 }
 
 /// The records moved so that the last is at the greatest cycle there is, and one before it.
-fn at_the_top(cases: &mut Cases, table: &Table, records: &[Record]) {
+fn at_the_top(cases: &mut Cases, table: &[u16], records: &[Record]) {
     let by = TOP - records[records.len() - 1].cycle;
     // A record before the last may be later than it.
     if records.iter().any(|r| r.cycle + by > TOP) {

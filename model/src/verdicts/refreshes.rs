@@ -2,13 +2,11 @@
 
 use super::cases::{Cases, EXAMPLE_1};
 use crate::house::*;
-use crate::records::{Table, BANKS, RFC};
+use crate::records::{BANKS, RFC, RRD};
 use crate::rules::*;
 
 /// Cycle, kind and bank.
 type One = (u32, u8, u8);
-
-const RRD: usize = 8;
 
 pub fn refreshes(cases: &mut Cases) {
     rule_1(cases);
@@ -21,7 +19,7 @@ pub fn refreshes(cases: &mut Cases) {
 }
 
 /// The last record at this cycle, and one before it.
-fn around(cases: &mut Cases, table: &Table, before: &[One], last: One) {
+fn around(cases: &mut Cases, table: &[u16], before: &[One], last: One) {
     let (cycle, kind, bank) = last;
     for cycle in [cycle - 1, cycle] {
         cases.schedule(table, &[before, &[(cycle, kind, bank)]].concat());

@@ -4,11 +4,12 @@
 use std::collections::BTreeSet;
 
 use crate::house::*;
-use crate::records::{Table, BANKS, RFC};
+use crate::records::{whole, GroupTable, Table, BANKS, RFC};
 use crate::rules::*;
 
 /// The lowest cycle, after the record's before it, at which this one breaks no rule.
-pub fn earliest(table: &Table, before: &[Record], kind: u8, bank: u8) -> u64 {
+pub fn earliest(table: &[u16], before: &[Record], kind: u8, bank: u8) -> u64 {
+    let table = &whole(table);
     let from = before.last().map_or(0, |last| last.cycle + 1);
     let at = |cycle| Record { cycle, kind, bank };
     let fine = |&cycle: &u64| first_broken(table, before, &at(cycle)).is_none();
@@ -16,13 +17,23 @@ pub fn earliest(table: &Table, before: &[Record], kind: u8, bank: u8) -> u64 {
 }
 
 /// So many records that break no rule and close every bank, most as early as can be. A REF stands where no bank is open.
-fn any_legal(table: &Table, count: usize, numbers: &mut Numbers) -> Vec<Record> {
+fn any_legal(table: &[u16], count: usize, numbers: &mut Numbers) -> Vec<Record> {
+    let banks = 1 + numbers.below(usize::from(table[BANKS]).min(7));
+    legal_on(
+        table,
+        &(0..banks as u8).collect::<Vec<u8>>(),
+        count,
+        numbers,
+    )
+}
+
+/// The same with the banks that it may use.
+fn legal_on(table: &[u16], banks: &[u8], count: usize, numbers: &mut Numbers) -> Vec<Record> {
     let mut records: Vec<Record> = Vec::new();
     let mut open: Vec<u8> = Vec::new();
-    let banks = 1 + numbers.below(usize::from(table[BANKS]).min(7));
     while records.len() < count {
         let left = count - records.len();
-        let bank = numbers.below(banks) as u8;
+        let bank = numbers.of(banks);
         let (kind, bank) = if open.is_empty() && (left == 1 || numbers.below(6) == 0) {
             (REF, 0)
         } else if !open.contains(&bank) && open.len() + 2 <= left {
@@ -71,7 +82,7 @@ pub fn too_early(numbers: &mut Numbers) -> Vec<(Table, usize, Vec<Record>)> {
                 let mut records = legal.clone();
                 let r = records[place];
                 records[place].cycle = earliest(table, &legal[..place], r.kind, r.bank) - 1;
-                let rule = first_broken(table, &legal[..place], &records[place]);
+                let rule = first_broken(&whole(table), &legal[..place], &records[place]);
                 if seen.insert((table[0], table[FAW], rule)) {
                     found.push((*table, place, records));
                 }
@@ -96,7 +107,7 @@ pub fn broken_sets(numbers: &mut Numbers) -> Vec<(Table, Vec<Record>)> {
             kind: numbers.of(&[ACT, ACT, ACT, RD, RDA, WR, WRA, REF, REF, 6]),
             bank: numbers.of(&[0, 1, 2, 3, 4, 5, 6, 8]),
         };
-        let broken = |&rule: &u8| breaks(rule, &table, &records, &last);
+        let broken = |&rule: &u8| breaks(rule, &whole(&table), &records, &last);
         let set: Vec<u8> = RULES.into_iter().filter(broken).collect();
         if set.len() > 1 && seen.insert(set) {
             records.push(last);
@@ -116,7 +127,7 @@ pub fn patterns(numbers: &mut Numbers) -> Vec<(Table, Vec<Record>, u32)> {
         let count = [1, 2, 3, 4, 5, 6, 9, 12][round % 8];
         let mut records = any_legal(&table, count.max(2), numbers);
         let verdict = |records: &[Record], length: u32| {
-            judge_pattern(&table, &bytes_of_records(records), length)
+            judge_pattern(&whole(&table), &bytes_of_records(records), length)
                 .expect("a pattern of whole records and some length")
         };
         let accepted = |&length: &u32| verdict(&records, length) == PatternVerdict::Accepted;
@@ -139,6 +150,48 @@ pub fn patterns(numbers: &mut Numbers) -> Vec<(Table, Vec<Record>, u32)> {
                     if copy > 1 && count % 3 == 0 {
                         found.push((table, records.clone(), least));
                     }
+                }
+            }
+        }
+    }
+    found
+}
+
+/// For each of the tables and for rules 6 and 9: a legal schedule whose record stands one cycle too early, and is kept from its place by an
+/// older command of its group alone, which a neighbour in another group hides. That record's place, and the whole.
+pub fn hidden(
+    tables: &[GroupTable],
+    numbers: &mut Numbers,
+) -> Vec<(GroupTable, usize, Vec<Record>)> {
+    let mut found = Vec::new();
+    let mut seen = BTreeSet::new();
+    for table in tables {
+        let t = Times::of(table);
+        for _ in 0..200 {
+            let banks: Vec<u8> = (0..6)
+                .map(|_| numbers.below(t.banks as usize) as u8)
+                .collect();
+            let legal = legal_on(table, &banks, 10, numbers);
+            for place in 1..legal.len() {
+                let (before, mut r) = (&legal[..place], legal[place]);
+                r.cycle = earliest(table, before, r.kind, r.bank) - 1;
+                let rule = first_broken(table, before, &r);
+                // Of the same sort as this one: ACTs, or reads, or writes.
+                let sort = |e: &Record| (e.acts(), e.reads(), e.writes());
+                let newest = |s: &dyn Fn(&Record) -> bool| before.iter().rfind(|e| s(e)).copied();
+                let alone: Vec<Record> = match rule {
+                    Some(6) => newest(&|e| sort(e) == sort(&r)).into_iter().collect(),
+                    Some(9) => [newest(&Record::reads), newest(&Record::writes)]
+                        .into_iter()
+                        .flatten()
+                        .collect(),
+                    _ => continue,
+                };
+                let by_them = rule.map_or(false, |rule| breaks(rule, table, &alone, &r));
+                if !by_them && seen.insert((table[0], rule)) {
+                    let mut records = legal.clone();
+                    records[place] = r;
+                    found.push((*table, place, records));
                 }
             }
         }

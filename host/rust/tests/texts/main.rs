@@ -100,6 +100,7 @@ fn of_c(name: &str) -> String {
         "uint32_t" => "u32".to_string(),
         "size_t" => "usize".to_string(),
         "skv_bank" => "HostBank".to_string(),
+        "skv_group" => "HostGroup".to_string(),
         name => camel(name.strip_prefix("skv_").expect("a type of the header's")),
     }
 }
@@ -172,7 +173,7 @@ fn alike(where_else: &str, other: &Said, raw: &Said) {
 #[test]
 fn three_texts() {
     let raw = said_in(&read(&root().join("host/rust/src/raw.rs")));
-    assert_eq!(raw.len(), 19 + 12);
+    assert_eq!(raw.len(), 20 + 14);
     let header = said_in_header(&read(&root().join("host/skvorzhan.h")));
     alike("skvorzhan.h", &header, &raw);
     let mut code = String::new();

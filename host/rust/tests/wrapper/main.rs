@@ -2,6 +2,7 @@
 
 mod banks;
 mod captures;
+mod groups;
 mod refreshes;
 
 use skvorzhan::*;
@@ -12,7 +13,10 @@ const FAW: usize = 9;
 fn bytes(t: Table) -> [u8; 32] {
     let mut bytes = [0; 32];
     assert_eq!(write_table(t, &mut bytes), Ok(t[0].into()));
-    assert_eq!(read_table(&bytes), Ok(t));
+    let mut twenty = [1; 20];
+    twenty[..16].copy_from_slice(&t);
+    twenty[17..].copy_from_slice(&[t[3], t[8], t[14]]);
+    assert_eq!(read_table(&bytes), Ok(twenty));
     bytes
 }
 
@@ -117,7 +121,7 @@ fn runs() {
     let table = bytes(A);
     let mut c = start(7, &table).expect("the table is accepted");
     assert_eq!(
-        (c.edition, c.cycle, c.last, c.wr),
+        (c.edition, c.cycle, c.last, c.groups[7].wr),
         (7, 0, [NEVER; 4], NEVER)
     );
     let mut room = [0; 32];

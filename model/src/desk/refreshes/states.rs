@@ -44,8 +44,9 @@ fn the_last_refresh() {
     run(&mut c, 70, &bytes_of(&REFRESHED), &list, 99, &mut [0; 24]).expect("nothing is refused");
     let mut same = Controller::fresh(&REFRESHED);
     (same.cycle, same.acts, same.datas, same.refresh) = (39, 2, 1, 38);
-    (same.banks[0].act, same.banks[0].rd, same.rd) = (0, 10, 10);
+    (same.banks[0].act, same.banks[0].rd) = (0, 10);
     same.last[0] = 0;
+    (same.groups[0].act, same.groups[0].rd) = (0, 10);
     assert_eq!(c, same);
 }
 
@@ -73,7 +74,12 @@ fn refreshes_from_strange_states() {
     }
     // It is no ACT and no data command: RC, RRD, FAW and the distances don't hold it.
     assert_eq!(goes_at(&|c| c.last = [99; 4]), Ok(Some(100)));
-    assert_eq!(goes_at(&|c| (c.rd, c.wr) = (99, 99)), Ok(Some(100)));
+    let latest = Group {
+        act: 99,
+        rd: 99,
+        wr: 99,
+    };
+    assert_eq!(goes_at(&|c| c.groups = [latest; 8]), Ok(Some(100)));
     // RFC doesn't hold a data command, and the data command is first when both could go.
     let mut open = fresh.clone();
     (open.banks[3].opened, open.acts, open.refresh) = (1, 1, 99);

@@ -1,12 +1,11 @@
 //! Rules 1, 11 and 12 by the judge, and patterns with refreshes.
 
 use super::*;
+use crate::records::{whole, RRD};
 use crate::rules::{first_broken, Record, Times, RD, WR};
 
-const RRD: usize = 8;
-
 /// The rule and the record that the judge names, if any.
-fn broken(table: &Table, records: &[(u32, u8, u8)]) -> Option<(u8, usize)> {
+fn broken(table: &[u16], records: &[(u32, u8, u8)]) -> Option<(u8, usize)> {
     let bytes: Vec<u8> = records
         .iter()
         .flat_map(|&(cycle, kind, bank)| command(cycle, kind, bank, 0))
@@ -51,7 +50,7 @@ fn without_refresh() {
 }
 
 /// Whether the last record, put at this cycle and at the one before it, breaks this rule at the earlier alone.
-fn just_kept(table: &Table, before: &[(u32, u8, u8)], last: (u32, u8, u8), rule: u8) {
+fn just_kept(table: &[u16], before: &[(u32, u8, u8)], last: (u32, u8, u8), rule: u8) {
     let (cycle, kind, bank) = last;
     let told = |cycle| broken(table, &[before, &[(cycle, kind, bank)]].concat());
     assert_eq!(told(cycle - 1), Some((rule, before.len())));
@@ -201,12 +200,13 @@ fn five_copies_decide() {
 }
 
 /// Reads, writes and refreshes one after the other, each as early as can be, and a length near the least.
-fn any_pattern(table: &Table, numbers: &mut Numbers) -> (Vec<u8>, u32) {
+fn any_pattern(table: &[u16], numbers: &mut Numbers) -> (Vec<u8>, u32) {
+    let whole = whole(table);
     let mut records: Vec<Record> = Vec::new();
     let mut put = |kind, bank| {
         let from = records.last().map_or(0, |last| last.cycle + 1);
         let at = |cycle| Record { cycle, kind, bank };
-        let fine = |&cycle: &u64| first_broken(table, &records, &at(cycle)).is_none();
+        let fine = |&cycle: &u64| first_broken(&whole, &records, &at(cycle)).is_none();
         let cycle = (from..).find(fine).expect("time breaks no rule");
         records.push(at(cycle));
     };
@@ -222,6 +222,6 @@ fn any_pattern(table: &Table, numbers: &mut Numbers) -> (Vec<u8>, u32) {
     }
     let command = |r: &Record| command(r.cycle as u32, r.kind, r.bank, 0);
     let last = records[records.len() - 1].cycle;
-    let length = last + 1 + numbers.below(100) as u64 % (Times::of(table).rfc + 60);
+    let length = last + 1 + numbers.below(100) as u64 % (Times::of(&whole).rfc + 60);
     (records.iter().flat_map(command).collect(), length as u32)
 }

@@ -6,7 +6,7 @@ use Rattle.bounds.proofs.bound.bound_of.Statement.{statement}
 use Rattle.bounds.proofs.bound.bound_of.Tie as tie
 
 words : (c : tie.Start) → Words (c .args .t)
-words c = record { b = omega arith; ccd = omega arith; rp = omega arith; ras = omega arith; rc = omega arith; rrd = omega arith; faw = omega arith; rl = omega arith; wl = omega arith; rtp = omega arith; wr = omega arith; wtr = omega arith }
+words c = record { b = omega arith; ccdl = omega arith; rp = omega arith; ras = omega arith; rc = omega arith; rrdl = omega arith; faw = omega arith; rl = omega arith; wl = omega arith; rtp = omega arith; wr = omega arith; wtrl = omega arith }
 
 mul-spaced : tie.Need-mul-spaced
 mul-spaced c = omega (arith, bytes-times (c .before .args .bi) (c .before .args .bc) (omega arith) (omega arith))

@@ -1,4 +1,5 @@
 use borrow.Author.Needs.{needs}
+use native.Mathlib.Omega.{arith}
 use Prim.Native.Nat.{_-_}
 use mathlib.Core.Path.{refl, _∙_}
 use mathlib.Core.List.{map}
@@ -11,16 +12,16 @@ use Rattle.controller.proofs.controller.banks_kept.Statement.{statement
 use Rattle.controller.proofs.controller.banks_kept.Tie as tie
 
 abbrev Inv-loop : tie.InvT-loop
-Inv-loop ks held₀ k₀ held k = Filled bankKept (toldBank shutKept) (map toldBank ks) held k
+Inv-loop ks held₀ k₀ held k = Filled 16 bankKept (toldBank shutKept) (map toldBank ks) held k
 
 abbrev μ-loop : tie.MeasureT-loop
 μ-loop ks held₀ k₀ held k = 16 - k
 
 loop-again : tie.Need-loop-again Inv-loop μ-loop
-loop-again c = held-turn (c .before .before .before .before .args .t1) _ _ _ (c .before .before .before .loop .inv) (c .before .before .loop-test .taken) (c .bank-kept .ensures)
+loop-again c = held-turn 16 toldBank bankKept shutKept (c .before .before .before .before .args .t1) _ _ _ (c .before .before .before .loop .inv) (omega (arith, c .before .before .loop-test .taken)) (c .bank-kept .ensures)
 
 returns : tie.Need-returns Inv-loop μ-loop
-returns c = fill-end _ _ _ _ _ (c .before .loop .inv) (c .loop-test .left) (length-map (c .before .before .args .t1) toldBank ∙ c .before .before .good .0 .1 .0 .1)
+returns c = fill-end 16 _ _ _ _ _ (c .before .loop .inv) (c .loop-test .left) (length-map (c .before .before .args .t1) toldBank ∙ c .before .before .good .0 .1 .0 .1)
 
 pub banks-kept-spec : {M : Type 1} → statement M
-banks-kept-spec = tie.close (tie.spec Inv-loop μ-loop (λ c. fill-start _ _ _ _ refl) (λ c. search needs) (λ c. search needs) (λ c κs. search needs) (λ c. search needs) (λ c. search needs) (λ c. search needs) (λ c. search needs) loop-again returns)
+banks-kept-spec = tie.close (tie.spec Inv-loop μ-loop (λ c. fill-start 16 _ _ _ _ refl) (λ c. search needs) (λ c. search needs) (λ c κs. search needs) (λ c. search needs) (λ c. search needs) (λ c. search needs) (λ c. search needs) loop-again returns)

@@ -6,7 +6,7 @@ use Rattle.controller.proofs.controller.controller_of.Tie as tie
 
 returns : tie.Need-returns
 unfolding kept told
-returns c = rw (c .cut .ensures, c .before .number-of7 .ensures, c .before .before .number-of6 .ensures, c .before .before .before .number-of5 .ensures, c .before .before .before .before .number-of4 .ensures, c .before .before .before .before .before .number-of3 .ensures, c .before .before .before .before .before .before .number-of2 .ensures, c .before .before .before .before .before .before .before .number-of .ensures, c .before .before .before .before .before .before .before .before .banks-kept .ensures)
+returns c = rw (c .cut .ensures, c .before .number-of5 .ensures, c .before .before .number-of4 .ensures, c .before .before .before .number-of3 .ensures, c .before .before .before .before .number-of2 .ensures, c .before .before .before .before .before .number-of .ensures, c .before .before .before .before .before .before .groups-kept .ensures, c .before .before .before .before .before .before .before .before .banks-kept .ensures)
 
 pub controller-of-spec : {M : Type 1} → statement M
-controller-of-spec = tie.close (tie.spec (λ c κs. search needs) (λ c κs. search needs) (λ c κs. search needs) (λ c κs. search needs) (λ c κs. search needs) (λ c κs. search needs) (λ c κs. search needs) (λ c κs. search needs) (λ c κs. search needs) returns)
+controller-of-spec = tie.close (tie.spec (λ c κs. search needs) (λ c κs. search needs) (λ c κs. search needs) (λ c κs. search needs) (λ c κs. search needs) (λ c κs. search needs) (λ c κs. search needs) (λ c κs. search needs) returns)

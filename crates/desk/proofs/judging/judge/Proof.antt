@@ -1,11 +1,11 @@
 use borrow.Author.Needs.{needs}
-use Rattle.desk.proofs.Laws.{told-banks}
+use Rattle.desk.proofs.Laws.{told-held}
 use Rattle.desk.proofs.Told.{judge-read, judge-refused}
 use Rattle.desk.proofs.judging.judge.Statement.{statement}
 use Rattle.desk.proofs.judging.judge.Tie as tie
 
 judge-schedule-requires : tie.Need-judge-schedule-requires
-judge-schedule-requires c κs = told-banks _ _ _ _ (c .before .before .before .admit .ensures) (c .before .t .given .1)
+judge-schedule-requires c κs = told-held _ _ _ _ (c .before .before .before .admit .ensures) (c .before .t .given .1)
 
 returns : tie.Need-returns
 returns c = judge-read _ _ _ (c .before .before .before .before .admit .ensures) _ (c .before .before .t .given .1) _ _ (c .judge-schedule .ensures)

@@ -1,11 +1,11 @@
 use borrow.Author.Needs.{needs}
-use Rattle.desk.proofs.Laws.{told-banks}
+use Rattle.desk.proofs.Laws.{told-held}
 use Rattle.desk.proofs.Told.{pattern-read, pattern-refused}
 use Rattle.desk.proofs.judging.judge_pattern.Statement.{statement}
 use Rattle.desk.proofs.judging.judge_pattern.Tie as tie
 
 judge-pattern-requires : tie.Need-judge-pattern-requires
-judge-pattern-requires c κs = told-banks _ _ _ _ (c .before .before .before .admit .ensures) (c .before .t .given .1)
+judge-pattern-requires c κs = told-held _ _ _ _ (c .before .before .before .admit .ensures) (c .before .t .given .1)
 
 returns : tie.Need-returns
 returns c = pattern-read _ _ _ (c .before .before .before .before .admit .ensures) _ (c .before .before .t .given .1) _ _ _ (c .judge-pattern .ensures)

@@ -1,11 +1,11 @@
 use borrow.Author.Needs.{needs}
-use Rattle.desk.proofs.Laws.{told-banks}
+use Rattle.desk.proofs.Laws.{told-held}
 use Rattle.desk.proofs.Told.{capture-read, capture-refused}
 use Rattle.desk.proofs.tracing.judge_capture.Statement.{statement}
 use Rattle.desk.proofs.tracing.judge_capture.Tie as tie
 
 judge-capture-requires : tie.Need-judge-capture-requires
-judge-capture-requires c κs = told-banks _ _ _ _ (c .before .before .before .before .admit .ensures) (c .before .before .t .given .1)
+judge-capture-requires c κs = told-held _ _ _ _ (c .before .before .before .before .admit .ensures) (c .before .before .t .given .1)
 
 returns : tie.Need-returns
 returns c = capture-read _ _ _ (c .before .before .before .before .before .before .before .admit .ensures) _ (c .before .before .before .before .before .t .given .1) _ _ _ _ (c .before .before .judge-capture .ensures)

@@ -3,10 +3,10 @@ use Rattle.engine.proofs.choose.act_goes.Statement.{statement}
 use Rattle.engine.proofs.choose.act_goes.Tie as tie
 
 returns : tie.Need-returns
-returns c = rw (c .before .before .before .if1 .taken, ← c .before .before .wide .ensures, ← c .before .since .ensures) (c .kept-act-free .ensures)
+returns c = rw (c .before .if1 .taken) (c .kept-act-free .ensures)
 
 returns-2 : tie.Need-returns-2
 returns-2 c = rw (c .if1 .left)
 
 pub act-goes-spec : {M : Type 1} → statement M
-act-goes-spec = tie.close (tie.spec (λ c κs. search needs) (λ c κs. search needs) (λ c κs. search needs) returns returns-2)
+act-goes-spec = tie.close (tie.spec (λ c κs. search needs) returns returns-2)

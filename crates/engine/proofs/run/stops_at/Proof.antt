@@ -1,6 +1,15 @@
-use borrow.Author.Needs.{needs}
+use borrow.Author.Tests.{le-leb, lt-leb}
 use Rattle.engine.proofs.run.stops_at.Statement.{statement}
 use Rattle.engine.proofs.run.stops_at.Tie as tie
 
+returns : tie.Need-returns
+returns c = rw (le-leb _ _ (c .before .if1 .taken), le-leb _ _ (c .if2 .taken))
+
+returns-2 : tie.Need-returns-2
+returns-2 c = rw (le-leb _ _ (c .before .if1 .taken), lt-leb _ _ (c .if2 .left))
+
+returns-3 : tie.Need-returns-3
+returns-3 c = rw (lt-leb _ _ (c .if1 .left))
+
 pub stops-at-spec : {M : Type 1} → statement M
-stops-at-spec = tie.close (tie.spec (λ c κs. search needs) (λ c κs. search needs) (λ c. rw (c .either-of .ensures, c .before .both-of .ensures)))
+stops-at-spec = tie.close (tie.spec returns returns-2 returns-3)

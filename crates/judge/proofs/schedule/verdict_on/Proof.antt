@@ -13,12 +13,14 @@ use Rattle.judge.proofs.schedule.verdict_on.Statement.{statement}
 use Rattle.judge.proofs.schedule.verdict_on.Tie as tie
 
 judge-copy-requires : tie.Need-judge-copy-requires
-judge-copy-requires c κs = (c .before .before .before .pre .0, c .before .distances .ensures, c .before .before .before .pre .1, omega arith, rw (c .kept-fresh .ensures, told-fresh (c .before .before .before .args .t)) (judging-fresh (c .before .before .before .args .t)))
+judge-copy-requires c κs =
+    let k = c .before .before .before .before in
+    (k .pre .0, c .before .before .distances .ensures, c .before .distances2 .ensures, k .pre .1, omega arith, rw (c .kept-fresh .ensures, told-fresh (k .args .t)) (judging-fresh (k .args .t)))
 
 returns : tie.Need-returns
 returns c =
-    let a = c .before .before .before .before .args in
+    let a = c .before .before .before .before .before .args in
     c .judge-copy .ensures .0 ∙ ap (λ (rs : List Command). judgeFrom (a .t) rs 0 []) (moved-none (commandsIn (now (a .s))))
 
 pub verdict-on-spec : {M : Type 1} → statement M
-verdict-on-spec = tie.close (tie.spec (λ c κs. search needs) (λ c κs. search needs) judge-copy-requires returns)
+verdict-on-spec = tie.close (tie.spec (λ c κs. search needs) (λ c κs. search needs) (λ c κs. search needs) judge-copy-requires returns)

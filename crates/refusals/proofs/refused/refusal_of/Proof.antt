@@ -1,12 +1,12 @@
 use borrow.Author.Needs.{needs}
-use Rattle.rules.proofs.Ranges.{ranges}
+use Rattle.rules.proofs.Ranges.{held, ranges}
 use Rattle.timing.specs.Kept.{told}
 use Rattle.refusals.specs.Refused.{runRefusal, sound}
 use Rattle.refusals.proofs.refused.refusal_of.Statement.{statement}
 use Rattle.refusals.proofs.refused.refusal_of.Tie as tie
 
 is-sound-requires : tie.Need-is-sound-requires
-is-sound-requires c κs = ranges (c .before .before .before .args .t) (c .before .before .before .pre .0 .table) .banks .most
+is-sound-requires c κs = let h = held (c .before .before .before .args .t) (ranges (c .before .before .before .args .t) (c .before .before .before .pre .0 .table)) in (h .banks, h .groups)
 
 returns : tie.Need-returns
 unfolding runRefusal sound told

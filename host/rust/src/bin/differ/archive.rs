@@ -6,7 +6,7 @@ pub use long::ENTRIES;
 use skvorzhan::raw::*;
 use std::mem::size_of;
 
-use crate::case::{fresh, Call, Case, State, BANKS, LAST, NUMBERS, REFRESH};
+use crate::case::{fresh, Call, Case, State, BANKS, GROUPS, LAST, NUMBERS, REFRESH};
 use crate::expected::Outcome;
 use crate::numbers::Noise;
 
@@ -52,6 +52,18 @@ fn controller(s: &State) -> Controller {
             wr: n[3],
         };
     }
+    let mut groups = [HostGroup {
+        act: 0,
+        rd: 0,
+        wr: 0,
+    }; 8];
+    for (group, n) in groups.iter_mut().zip(s[GROUPS..REFRESH].chunks_exact(3)) {
+        *group = HostGroup {
+            act: n[0],
+            rd: n[1],
+            wr: n[2],
+        };
+    }
     Controller {
         edition: s[0],
         cycle: s[1],
@@ -59,8 +71,7 @@ fn controller(s: &State) -> Controller {
         datas: s[3],
         banks,
         last: [s[68], s[69], s[70], s[71]],
-        rd: s[72],
-        wr: s[73],
+        groups,
         refresh: s[REFRESH],
     }
 }
@@ -72,8 +83,9 @@ fn state(c: &Controller) -> State {
         n.copy_from_slice(&[bank.opened, bank.act, bank.rd, bank.wr]);
     }
     s[LAST..LAST + 4].copy_from_slice(&c.last);
-    s[LAST + 4] = c.rd;
-    s[LAST + 5] = c.wr;
+    for (n, group) in s[GROUPS..REFRESH].chunks_exact_mut(3).zip(&c.groups) {
+        n.copy_from_slice(&[group.act, group.rd, group.wr]);
+    }
     s[REFRESH] = c.refresh;
     s
 }
@@ -142,9 +154,15 @@ impl Archive {
                 }
                 Call::WriteTable => {
                     let numbers_ = Numbers {
-                        numbers: case.numbers(),
+                        numbers: case.sixteen(),
                     };
                     numbers(skv_write_table(numbers_, room, rn))
+                }
+                Call::WriteGroupTable => {
+                    let numbers_ = GroupNumbers {
+                        numbers: case.numbers(),
+                    };
+                    numbers(skv_write_group_table(numbers_, room, rn))
                 }
                 Call::ReadTransaction => {
                     let a = skv_read_transaction(list, bn);

@@ -9,6 +9,7 @@ use model::sent::TICK;
 pub enum Call {
     ReadTable,
     WriteTable,
+    WriteGroupTable,
     ReadTransaction,
     WriteTransaction,
     ReadCommand,
@@ -30,12 +31,13 @@ pub enum Call {
 
 use Call::*;
 
-pub const COUNT: usize = 19;
+pub const COUNT: usize = 20;
 
 /// In the order of the header.
 pub const CALLS: [(Call, &str); COUNT] = [
     (ReadTable, "skv_read_table"),
     (WriteTable, "skv_write_table"),
+    (WriteGroupTable, "skv_write_group_table"),
     (ReadTransaction, "skv_read_transaction"),
     (WriteTransaction, "skv_write_transaction"),
     (ReadCommand, "skv_read_command"),
@@ -64,7 +66,7 @@ impl Call {
         matches!(self, Run | Step | RunBytes)
     }
 
-    /// Whether a table is lent, and with it an edition expected: all but the first eight, which read and write one record.
+    /// Whether a table is lent, and with it an edition expected: all but the first nine, which read and write one record.
     pub fn expects(self) -> bool {
         self as usize >= ReadTransactions as usize
     }
@@ -72,7 +74,7 @@ impl Call {
     /// The numbers that it can be refused by, in the order of the checks.
     pub fn refusals(self) -> &'static [usize] {
         match self {
-            ReadTable | WriteTable => &[1, 2],
+            ReadTable | WriteTable | WriteGroupTable => &[1, 2],
             ReadTransaction | WriteTransaction => &[3, 4],
             ReadCommand | ReadCaptureRecord => &[7],
             WriteCommand | WriteCaptureRecord => &[5],
@@ -106,16 +108,18 @@ impl Call {
     }
 }
 
-/// A controller's numbers: edition, cycle, acts, datas; opened, act, rd, wr of each bank; the last four ACTs; rd, wr; the last REF.
+/// A controller's numbers: edition, cycle, acts, datas; opened, act, rd, wr of each bank; the last four ACTs; act, rd, wr of each group; the last
+/// REF.
 pub type State = [u32; NUMBERS];
-pub const NUMBERS: usize = 75;
+pub const NUMBERS: usize = 97;
 pub const EDITION: usize = 0;
 pub const CYCLE: usize = 1;
 pub const ACTS: usize = 2;
 pub const DATAS: usize = 3;
 pub const BANKS: usize = 4;
 pub const LAST: usize = 68;
-pub const REFRESH: usize = 74;
+pub const GROUPS: usize = 72;
+pub const REFRESH: usize = 96;
 
 /// Closed, and "never" throughout.
 pub fn fresh(edition: u32) -> State {
@@ -149,7 +153,7 @@ pub struct Case {
     pub call: Call,
     /// The expected edition, for a call that is lent a table.
     pub expected: u16,
-    /// The table's bytes; for `skv_write_table` the sixteen numbers.
+    /// The table's bytes; for the calls that write one its sixteen or twenty numbers.
     pub table: Vec<u8>,
     /// The list, the schedule, the pattern, the capture, or the one record to be read.
     pub bytes: Vec<u8>,
@@ -238,13 +242,19 @@ impl Case {
         self.bytes.chunks(self.call.record()).map(record).collect()
     }
 
-    /// The sixteen numbers of the table, 0 for each that its bytes don't reach.
-    pub fn numbers(&self) -> [u16; 16] {
-        let mut numbers = [0; 16];
+    /// The numbers of the table, 0 for each that its bytes don't reach.
+    pub fn numbers(&self) -> [u16; 20] {
+        let mut numbers = [0; 20];
         for (number, pair) in numbers.iter_mut().zip(self.table.chunks_exact(2)) {
             *number = u16::from_le_bytes([pair[0], pair[1]]);
         }
         numbers
+    }
+
+    /// The sixteen numbers that are written as a table of 32 bytes.
+    pub fn sixteen(&self) -> [u16; 16] {
+        let numbers = self.numbers();
+        std::array::from_fn(|i| numbers[i])
     }
 
     /// The table's edition.

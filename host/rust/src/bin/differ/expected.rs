@@ -1,6 +1,6 @@
 //! What the model says of a case: every number of the answer, and what each buffer must then hold.
 
-use model::desk::{self, Bank, Controller, PatternVerdict, Refusal, Transaction, Verdict};
+use model::desk::{self, Bank, Controller, Group, PatternVerdict, Refusal, Transaction, Verdict};
 use model::house::{room_for, B, RFC, RL};
 
 use crate::case::*;
@@ -31,7 +31,7 @@ pub fn transactions(list: &[[u8; 4]]) -> Vec<Transaction> {
 }
 
 pub fn controller(s: &State) -> Controller {
-    let mut c = Controller::fresh(&[0; 16]);
+    let mut c = Controller::fresh(&[0]);
     c.edition = s[EDITION];
     c.cycle = s[CYCLE];
     c.acts = s[ACTS];
@@ -45,8 +45,13 @@ pub fn controller(s: &State) -> Controller {
         };
     }
     c.last.copy_from_slice(&s[LAST..LAST + 4]);
-    c.rd = s[LAST + 4];
-    c.wr = s[LAST + 5];
+    for (group, n) in c.groups.iter_mut().zip(s[GROUPS..REFRESH].chunks_exact(3)) {
+        *group = Group {
+            act: n[0],
+            rd: n[1],
+            wr: n[2],
+        };
+    }
     c.refresh = s[REFRESH];
     c
 }
@@ -58,8 +63,9 @@ pub fn state(c: &Controller) -> State {
         n.copy_from_slice(&[bank.opened, bank.act, bank.rd, bank.wr]);
     }
     s[LAST..LAST + 4].copy_from_slice(&c.last);
-    s[LAST + 4] = c.rd;
-    s[LAST + 5] = c.wr;
+    for (n, group) in s[GROUPS..REFRESH].chunks_exact_mut(3).zip(&c.groups) {
+        n.copy_from_slice(&[group.act, group.rd, group.wr]);
+    }
     s[REFRESH] = c.refresh;
     s
 }
@@ -93,7 +99,10 @@ pub fn expected(case: &Case, noise: &Noise) -> Outcome {
     let ran = |r: desk::Ran| (r.edition, [r.commands, r.cycles]);
     let answer = match case.call {
         Call::ReadTable => answer(desk::read_table(table).map(|t| (t[0], t.map(u32::from)))),
-        Call::WriteTable => answer(desk::write_table(case.numbers(), &mut room).map(whole)),
+        Call::WriteTable => answer(desk::write_table(case.sixteen(), &mut room).map(whole)),
+        Call::WriteGroupTable => {
+            answer(desk::write_group_table(case.numbers(), &mut room).map(whole))
+        }
         Call::ReadTransaction => answer(
             desk::read_transaction(bytes)
                 .map(|x| (0, [x.kind.into(), x.start.into(), x.bi.into(), x.bc.into()])),
@@ -112,9 +121,9 @@ pub fn expected(case: &Case, noise: &Noise) -> Outcome {
             desk::read_capture_record(bytes)
                 .map(|r| (0, [r.stamp.into(), r.kind.into(), r.bank.into()])),
         ),
-        Call::WriteCaptureRecord => answer(
-            desk::write_capture_record(a as u16, b as u8, c as u8, &mut room).map(whole),
-        ),
+        Call::WriteCaptureRecord => {
+            answer(desk::write_capture_record(a as u16, b as u8, c as u8, &mut room).map(whole))
+        }
         Call::ReadTransactions => {
             let told = desk::read_transactions(e, table, bytes, &mut places);
             answer(told.map(|d| (d.edition, [d.transactions, 0])))

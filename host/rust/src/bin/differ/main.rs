@@ -8,6 +8,7 @@
 mod archive;
 mod case;
 mod expected;
+mod groups;
 mod lent;
 mod make;
 mod numbers;

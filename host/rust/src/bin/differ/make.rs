@@ -1,6 +1,7 @@
 //! Cases: random and hostile, for every call.
 
 mod captures;
+mod groups;
 mod lists;
 mod refreshes;
 mod refusals;
@@ -9,14 +10,16 @@ mod states;
 mod tables;
 mod walk;
 
-use model::house::{room_for, GREATEST, TABLE_A};
+use model::house::{bytes_of, room_for, whole, GREATEST, TABLE_A};
 
 use crate::case::*;
 use crate::numbers::Random;
 pub use states::too_long;
 
 /// How often each call is made, in the order of the header.
-const SHARES: [usize; COUNT] = [3, 3, 2, 2, 1, 2, 1, 2, 6, 12, 8, 14, 10, 12, 3, 1, 14, 6, 8];
+const SHARES: [usize; COUNT] = [
+    4, 3, 3, 2, 2, 1, 2, 1, 2, 6, 12, 8, 14, 10, 12, 3, 1, 14, 6, 8,
+];
 
 /// Case `index` of a seed.
 pub fn case(seed: u64, index: u64) -> Case {
@@ -33,12 +36,16 @@ pub fn case(seed: u64, index: u64) -> Case {
     match case.call {
         Call::ReadTable => case.table = tables::hostile(r),
         Call::WriteTable => {
-            case.table = tables::numbers(r);
+            case.table = bytes_of(&tables::numbers(r)[..16]);
             case.room = size(r, 32);
+        }
+        Call::WriteGroupTable => {
+            case.table = bytes_of(&tables::numbers(r));
+            case.room = size(r, 40);
         }
         Call::ReadTransaction => case.bytes = record(r, 4),
         Call::WriteTransaction => {
-            let x = lists::one(r, &GREATEST);
+            let x = lists::one(r, &whole(&GREATEST));
             case.values = x.map(u32::from);
             case.room = size(r, 4);
         }
@@ -101,7 +108,7 @@ pub fn case(seed: u64, index: u64) -> Case {
 fn record(r: &mut Random, right: usize) -> Vec<u8> {
     let size = if r.one_in(4) { r.below(12) } else { right };
     if right == 4 && size == 4 {
-        return lists::one(r, &GREATEST).to_vec();
+        return lists::one(r, &whole(&GREATEST)).to_vec();
     }
     (0..size).map(|_| r.u8()).collect()
 }
@@ -141,9 +148,9 @@ fn slots(r: &mut Random, due: usize) -> usize {
 }
 
 /// Cases that random ones seldom meet or may miss: the greatest sizes, a run that idles from the first cycle to the last, lists from every
-/// start, many refreshes, captures up to the last cycle, and every refusal of every call.
+/// start, many refreshes, captures up to the last cycle, every count of groups, and every refusal of every call.
 pub fn last() -> Vec<Case> {
-    let table = |t: &model::desk::Table| model::house::bytes_of(t);
+    let table = |t: &model::desk::Table| bytes_of(t);
     let mut cases = Vec::new();
     let mut sixteen = TABLE_A;
     sixteen[1] = 16;
@@ -195,6 +202,7 @@ pub fn last() -> Vec<Case> {
     cases.extend(over_the_last_bank());
     cases.extend(refreshes::all());
     cases.extend(captures::last());
+    cases.extend(groups::all());
     cases.extend(refusals::all());
     cases
 }
@@ -213,7 +221,7 @@ fn over_the_last_bank() -> Vec<Case> {
             }
             for call in [Call::ReadTransactions, Call::Schedule, Call::RunBytes] {
                 let mut case = Case::new(call);
-                case.table = model::house::bytes_of(&table);
+                case.table = bytes_of(&table);
                 case.bytes = list.concat();
                 case.values[0] = u32::MAX;
                 case.room = room_for(&list);

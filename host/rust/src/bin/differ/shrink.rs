@@ -2,7 +2,7 @@
 
 use std::time::{Duration, Instant};
 
-use model::house::{bytes_of, due, RFC, TABLE_A};
+use model::house::{bytes_of, due, RFC, TABLE_A, TABLE_D};
 
 use crate::case::*;
 use crate::make::too_long;
@@ -54,7 +54,9 @@ fn cut(
             let with_less_room = {
                 let gone = &least.bytes[at..at + size];
                 let mut next = next.clone();
-                next.room = next.room.saturating_sub(8 * next.call.room_in_commands(gone));
+                next.room = next
+                    .room
+                    .saturating_sub(8 * next.call.room_in_commands(gone));
                 next.slots = next.slots.saturating_sub(size / 4);
                 next
             };
@@ -94,6 +96,16 @@ fn changes(case: &Case) -> Vec<Change> {
             c.state[EDITION] = 7;
         }));
         all.push(Box::new(move |c| c.table = bytes_of(&t)));
+    }
+    // The first sixteen numbers alone; table D; fewer groups, and long numbers nearer to their short ones.
+    all.push(Box::new(|c| c.table.truncate(32)));
+    all.push(Box::new(|c| c.table = bytes_of(&TABLE_D)));
+    for place in model::house::GROUPS..20 {
+        all.push(Box::new(move |c| {
+            if let Some(low) = c.table.get_mut(2 * place) {
+                *low = low.saturating_sub(1);
+            }
+        }));
     }
     all.push(Box::new(|c| {
         if let Some(low) = c.table.get_mut(2 * RFC) {

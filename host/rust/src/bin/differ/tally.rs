@@ -4,6 +4,7 @@ use std::ops::RangeInclusive;
 
 use crate::case::{Call, Case, CALLS, COUNT};
 use crate::expected::{refused, Outcome};
+use crate::groups::broken_by;
 
 #[derive(Default)]
 pub struct Tally {
@@ -17,6 +18,11 @@ pub struct Tally {
     over: [[u64; 2]; COUNT],
     /// Not refused, with a refresh.
     refreshes: [u64; COUNT],
+    /// Not refused, with a table of 40 bytes; of these, with several groups.
+    groups: [[u64; 2]; COUNT],
+    /// Schedules under a table of several groups that break rule 6, and rule 9: by a command of the own group alone, by one of another group
+    /// alone, by both, and by one that a command of another group hides.
+    by_groups: [[u64; 4]; 2],
     /// By the broken rule; 0 is an accepted schedule, pattern or capture.
     rules: [[u64; 13]; 3],
     /// Broken patterns, by the copy from 1; the last place has all later ones.
@@ -48,12 +54,25 @@ impl Tally {
             self.over[call as usize][0] += u64::from(!wraps.is_empty());
             self.over[call as usize][1] += u64::from(wraps.contains(&true));
             self.refreshes[call as usize] += u64::from(case.refreshes());
+            let long = call.expects() && case.table.len() == 40;
+            self.groups[call as usize][0] += u64::from(long);
+            self.groups[call as usize][1] += u64::from(long && case.numbers()[16] > 1);
         }
         if number > 0 {
             return;
         }
         match call {
-            Call::Judge => self.rules[0][told.answer[3] as usize] += 1,
+            Call::Judge => {
+                let [rule, record] = [told.answer[3], told.answer[5]].map(|n| n as usize);
+                self.rules[0][rule] += 1;
+                if let (6 | 9, Some(by)) = (rule, broken_by(case, record)) {
+                    let counts = &mut self.by_groups[usize::from(rule == 9)];
+                    counts[0] += u64::from(by.within && !by.across);
+                    counts[1] += u64::from(by.across && !by.within);
+                    counts[2] += u64::from(by.within && by.across);
+                    counts[3] += u64::from(by.hidden);
+                }
+            }
             Call::JudgePattern => {
                 self.rules[1][told.answer[3] as usize] += 1;
                 let copy = told.answer[4] as usize;
@@ -76,9 +95,14 @@ impl Tally {
         }
     }
 
-    /// The refusals that were not met, in words.
+    /// The refusals that were not met, and verdicts by groups, in words.
     pub fn not_met(&self) -> Vec<String> {
         let mut all = Vec::new();
+        for (rule, counts) in [6, 9].iter().zip(&self.by_groups) {
+            if counts.contains(&0) {
+                all.push(format!("rule {rule} in each way by groups: {counts:?}"));
+            }
+        }
         for (at, (call, name)) in CALLS.iter().enumerate() {
             for &number in call.refusals() {
                 if self.refused[at][number] == 0 {
@@ -124,7 +148,17 @@ impl Tally {
             .map(|at| format!("{}: {}", CALLS[at].1, self.refreshes[at]))
             .collect();
         println!("not refused, with a refresh: {}", by.join(", "));
-        for (name, rules) in ["schedules", "patterns", "captures"].iter().zip(&self.rules) {
+        println!("not refused, by a table of 40 bytes; of these, with several groups");
+        for (at, (_, name)) in CALLS.iter().enumerate() {
+            let [some, several] = self.groups[at];
+            if some > 0 {
+                println!("{name:25}{some:>9}{several:>9}");
+            }
+        }
+        for (name, rules) in ["schedules", "patterns", "captures"]
+            .iter()
+            .zip(&self.rules)
+        {
             let by: Vec<String> = (1..=12)
                 .map(|rule| format!("{rule}: {}", rules[rule]))
                 .collect();
@@ -138,6 +172,9 @@ impl Tally {
         println!(
             "patterns broken, by copy: 1: {first}, 2: {second}, 3: {third}, 4: {fourth}, 5: {fifth}, later: {later}"
         );
+        for (rule, [within, across, both, hidden]) in [6, 9].iter().zip(&self.by_groups) {
+            println!("schedules of several groups that break rule {rule}: within a group {within}, across {across}, both {both}; by a hidden command {hidden}");
+        }
         let [ticks, wraps, late] = self.captures;
         println!("captures not refused, with ticks: {ticks}, with stamps that go round: {wraps}, past cycle 4,000,000,000: {late}");
     }

@@ -1,5 +1,9 @@
 //! The archives that are measured: the one at hand, and where SKVORZHAN_BEFORE names one from before a change, that too, in the same program:
 //! `build.rs` gives its calls names of their own.
+//!
+//! One from before the controller told the groups has a controller of 300 bytes, which ends in the last RD, WR and REF of all. Where a controller
+//! is fresh those are "never", as is all that the present one has from there on: so the older call is lent the present one's memory, and finds
+//! in its first 300 bytes what it would have started from.
 
 // `build.rs` says `before`; an older compiler doesn't know the lint.
 #![allow(unknown_lints, unexpected_cfgs)]
@@ -54,6 +58,11 @@ mod before {
         step: before_skv_step,
         judge: before_skv_judge,
     };
+}
+
+/// The one at hand alone.
+pub fn present() -> Vec<Archive> {
+    vec![NOW]
 }
 
 /// The one at hand first.

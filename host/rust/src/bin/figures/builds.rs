@@ -1,9 +1,11 @@
-//! The build of 256 mixed transactions, from the lent list and from its bytes, beside ordinary schedulers of two kinds.
+//! The build of 256 mixed transactions, from the lent list and from its bytes, beside ordinary schedulers of two kinds: of table A, and of table D,
+//! which has groups. An archive from before a change is measured by the first alone.
 
-use model::house::{bytes_of, Numbers, TABLE_A};
+use model::house::{bytes_of, Numbers, TABLE_A, TABLE_D};
 use skvorzhan::{read_command, Transaction};
 
-use crate::{archives, beside, due, for_model, ordinary, Side, EDITION};
+use crate::archives::{self, Archive};
+use crate::{beside, due, for_model, ordinary, Side, EDITION};
 
 pub fn mixed(size: usize) -> Vec<Transaction> {
     let mut numbers = Numbers(11);
@@ -31,7 +33,11 @@ struct Lent {
 type Build<'a> = Box<dyn Fn(&mut Lent) -> bool + 'a>;
 
 pub fn measure() {
-    let table = &bytes_of(&TABLE_A)[..];
+    measure_by("table A", &bytes_of(&TABLE_A), archives::all());
+    measure_by("table D", &bytes_of(&TABLE_D), archives::present());
+}
+
+fn measure_by(name: &str, table: &[u8], archives: Vec<Archive>) {
     let list = &mixed(256)[..];
     let plain = &for_model(list)[..];
     let bytes: Vec<u8> = (list.iter())
@@ -39,7 +45,7 @@ pub fn measure() {
         .collect();
     let bytes = &bytes[..];
     let mut ways: Vec<(String, Build)> = Vec::new();
-    for archive in archives::all() {
+    for archive in archives {
         let name = archive.name;
         ways.push((
             format!("{name}, lent list"),
@@ -79,7 +85,7 @@ pub fn measure() {
         call: Box::new(move || assert!(build(lent), "it's accepted")),
     });
     beside(
-        &format!("build of 256 mixed transactions of table A, {commands} commands"),
+        &format!("build of 256 mixed transactions of {name}, {commands} commands"),
         60,
         1,
         sides.collect(),

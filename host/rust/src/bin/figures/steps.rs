@@ -69,6 +69,14 @@ pub fn measure(emulated: bool) {
             rounds * steps,
             sides.collect(),
         );
-        assert!(served.iter().all(|s| *s == served[0]), "they differ");
+        // What an older archive tells after the four ACTs is not what the present one does.
+        let of_all = |s: &Served| {
+            let c = &s.controller;
+            let counts = [c.edition, c.cycle, c.acts, c.datas];
+            (counts, c.banks, c.last, s.room.clone())
+        };
+        let first = of_all(&served[0]);
+        assert!(served.iter().all(|s| of_all(s) == first), "they differ");
+        assert!(served.last() == served.first(), "they differ");
     }
 }

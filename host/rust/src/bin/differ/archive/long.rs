@@ -105,9 +105,7 @@ impl Archive {
                 )),
                 Call::Judge => verdict(skv_judge(e, t, tn, list, bytes)),
                 Call::JudgePattern => verdict(skv_judge_pattern(e, t, tn, list, bytes, 9)),
-                Call::JudgeCapture => {
-                    captured(skv_judge_capture(e, t, tn, list, bytes, room, 64))
-                }
+                Call::JudgeCapture => captured(skv_judge_capture(e, t, tn, list, bytes, room, 64)),
                 Call::Run => numbers(skv_run(c, e, t, tn, xs, n, 9, room, 64)),
                 Call::Step => numbers(skv_step(c, e, t, tn, xs, n, room, 64)),
                 _ => numbers(skv_run_bytes(by_value, e, t, tn, list, bytes, 9, room, 64).answer),

@@ -1,6 +1,6 @@
 //! Captures: schedules as an analyser sends them, with ticks and wraps, and hostile ones.
 
-use model::desk::{self, Table};
+use model::desk::{self, GroupTable};
 use model::house::{built, bytes_of, room_for, TABLE_A};
 use model::sent::{
     capture, of_schedule, record, tick, tick_record, with_ticks, Sent, MOST_GAP, TICK,
@@ -15,7 +15,7 @@ use crate::numbers::Random;
 const LAST_CYCLE: u64 = u32::MAX as u64;
 
 /// A schedule's commands, legal or not.
-fn commands(r: &mut Random, table: &Table) -> Vec<Sent> {
+fn commands(r: &mut Random, table: &GroupTable) -> Vec<Sent> {
     let most = match r.below(200) {
         0 => 800,
         1..=10 => 150,
@@ -108,7 +108,7 @@ fn about_the_wrap(r: &mut Random) -> Vec<[u8; 4]> {
 }
 
 /// The bytes of a capture.
-pub fn some(r: &mut Random, table: &Table) -> Vec<u8> {
+pub fn some(r: &mut Random, table: &GroupTable) -> Vec<u8> {
     let mut records = match r.below(16) {
         0 => (0..r.below(9)).map(|_| r.u32().to_le_bytes()).collect(),
         1 | 2 => about_the_wrap(r),

@@ -1,16 +1,16 @@
 //! Lists of transactions.
 
-use model::desk::Table;
+use model::desk::GroupTable;
 use model::house::{REFRESH_BYTES, RFC};
 
 use crate::numbers::Random;
 
-fn banks(t: &Table) -> u8 {
+fn banks(t: &GroupTable) -> u8 {
     t[1] as u8
 }
 
 /// A refresh, seldom where the table has none; or from any start, often over the last bank, now and then every bank.
-fn legal(r: &mut Random, t: &Table, most_bi: u32, most_bc: u32) -> [u8; 4] {
+fn legal(r: &mut Random, t: &GroupTable, most_bi: u32, most_bc: u32) -> [u8; 4] {
     if r.one_in(if t[RFC] == 0 { 300 } else { 6 }) {
         return REFRESH_BYTES;
     }
@@ -37,7 +37,7 @@ pub fn every_start(banks: u8) -> Vec<[u8; 4]> {
 }
 
 /// A transaction, often with a number at an edge or beyond it.
-pub fn one(r: &mut Random, t: &Table) -> [u8; 4] {
+pub fn one(r: &mut Random, t: &GroupTable) -> [u8; 4] {
     let mut x = legal(r, t, 16, 16);
     if r.one_in(2) {
         spoil(r, &mut x, banks(t));
@@ -66,7 +66,7 @@ fn spoil(r: &mut Random, x: &mut [u8; 4], banks: u8) {
 }
 
 /// The longest lists only where the table's numbers are small, since the time that they take is of use elsewhere.
-fn accepted(r: &mut Random, t: &Table) -> Vec<[u8; 4]> {
+fn accepted(r: &mut Random, t: &GroupTable) -> Vec<[u8; 4]> {
     let (size, most_bi, most_bc) = match r.below(200) {
         0 => (r.of_these(&[255, 256, 257, 300]), 1, 1),
         1 => (r.range(1, 256) as usize, 16, 16),
@@ -89,12 +89,12 @@ fn accepted(r: &mut Random, t: &Table) -> Vec<[u8; 4]> {
 const LONGEST: usize = 2_000_000;
 
 /// The greatest number of the table's times.
-pub fn widest(t: &Table) -> u32 {
+pub fn widest(t: &GroupTable) -> u32 {
     t[2..].iter().fold(1, |most, &n| most.max(n.into()))
 }
 
 /// The bytes of a list, mostly accepted.
-pub fn some(r: &mut Random, t: &Table) -> Vec<u8> {
+pub fn some(r: &mut Random, t: &GroupTable) -> Vec<u8> {
     let banks = banks(t);
     let mut list = accepted(r, t);
     match r.below(16) {

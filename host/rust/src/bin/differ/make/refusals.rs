@@ -1,15 +1,15 @@
 //! Every call refused by each number that it can be, with nothing else wrong.
 
-use model::house::{bytes_of, REFRESH_BYTES, RFC, TABLE_A};
+use model::house::{bytes_of, GROUPS, REFRESH_BYTES, RFC, TABLE_A, TABLE_D};
 
-use crate::case::*;
+use crate::case::{GROUPS as STATE_GROUPS, *};
 
 /// Wherever its buffers lie, in several ways.
 pub fn all() -> Vec<Case> {
     let mut cases = Vec::new();
     for (call, _) in CALLS {
         for &number in call.refusals() {
-            for way in 0..4 {
+            for way in 0..8 {
                 let mut case = accepted(call);
                 case.lies = way % 3;
                 refuse(&mut case, number, way);
@@ -22,7 +22,10 @@ pub fn all() -> Vec<Case> {
 
 fn accepted(call: Call) -> Case {
     let mut case = Case::new(call);
-    case.table = bytes_of(&TABLE_A);
+    case.table = match call {
+        Call::WriteGroupTable => bytes_of(&TABLE_D),
+        _ => bytes_of(&TABLE_A),
+    };
     case.bytes = match call {
         Call::ReadTransaction => vec![0, 0, 1, 1],
         Call::ReadCommand => vec![0; 8],
@@ -42,6 +45,7 @@ fn accepted(call: Call) -> Case {
         Call::WriteCommand | Call::Step => 8,
         Call::WriteCaptureRecord => 4,
         Call::JudgeCapture => 16,
+        Call::WriteGroupTable => 40,
         _ => 32,
     };
     case.slots = 2;
@@ -56,14 +60,30 @@ const WITH_BC: [u8; 4] = [2, 0, 0, 1];
 
 fn refuse(case: &mut Case, number: usize, way: u8) {
     match (number, case.call) {
-        (1, Call::WriteTable) => case.room -= 1,
-        (1, _) => case.table.truncate(31),
-        // RFC 1,024, the number before it 1,024 or more, CCD below 2.
-        (2, _) => match way {
-            2 => case.table[2 * RFC + 1] = 4,
-            3 => case.table[2 * RFC - 1] = 4,
-            _ => case.table[6] = 1,
-        },
+        (1, Call::WriteTable | Call::WriteGroupTable) => {
+            case.room = [31, 33, 39, 41, 0, 36, 48, 80][usize::from(way)]
+        }
+        (1, _) => {
+            let size = [31, 33, 39, 41, 0, 36, 48, 80][usize::from(way)];
+            case.table = bytes_of(&[TABLE_D; 2].concat());
+            case.table.truncate(size);
+        }
+        // RFC 1,024, the number before it 1,024 or more, CCD below 2; no group and nine, and each long number below its short one.
+        (2, call) => {
+            if way > 2 && call != Call::WriteTable {
+                case.table = bytes_of(&TABLE_D);
+            }
+            let (place, low) = match way {
+                0 => return case.table[6] = 1,
+                1 => return case.table[2 * RFC + 1] = 4,
+                2 => return case.table[2 * RFC - 1] = 4,
+                _ if call == Call::WriteTable => return case.table[2] = 17,
+                3 => (GROUPS, 0),
+                4 => (GROUPS, 9),
+                way => (GROUPS + usize::from(way) - 4, 3),
+            };
+            case.table[2 * place] = low;
+        }
         (3, Call::WriteTransaction) => case.room += 1,
         (3, Call::Schedule | Call::Run | Call::Step) => case.bytes = [0, 0, 1, 1].repeat(257),
         (3 | 7, _) => case.bytes.push(0),
@@ -93,7 +113,9 @@ fn refuse(case: &mut Case, number: usize, way: u8) {
             0 => case.state[CYCLE] = 100_000_000,
             1 => case.state[EDITION] += 1 << 16,
             2 => case.state[LAST] = case.state[CYCLE],
-            _ => case.state[REFRESH] = case.state[CYCLE],
+            3 => case.state[REFRESH] = case.state[CYCLE],
+            // The ACT, the RD and the WR of the table's one group.
+            way => case.state[STATE_GROUPS + usize::from(way - 4) % 3] = case.state[CYCLE],
         },
         _ => case.expected = 8,
     }

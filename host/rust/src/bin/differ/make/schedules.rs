@@ -1,7 +1,7 @@
 //! Schedules and patterns: built ones, any others, and both with a record changed.
 
-use model::desk::{self, PatternVerdict, Table};
-use model::house::{bytes_of, due, RFC};
+use model::desk::{self, GroupTable, PatternVerdict};
+use model::house::{bytes_of, due, LONGS, RFC};
 
 use super::{lists, walk};
 use crate::case::{records as records_of, Case};
@@ -9,13 +9,19 @@ use crate::expected::transactions;
 use crate::numbers::Random;
 
 /// What the cycle rule gives for some accepted list, by a table in which one number may be a little other.
-fn built(r: &mut Random, table: &Table, most: usize) -> Vec<[u8; 8]> {
+fn built(r: &mut Random, table: &GroupTable, most: usize) -> Vec<[u8; 8]> {
     let mut by = *table;
     if r.one_in(2) {
-        let i = 4 + r.below(if by[RFC] == 0 { 11 } else { 12 });
+        let mut i = 4 + r.below(if by[RFC] == 0 { 11 } else { 12 });
+        if r.one_in(3) {
+            i = r.of_these(&LONGS).0;
+        }
         by[i] = (by[i] + 1)
             .saturating_sub(2 * r.below(2) as u16)
             .clamp(1, 1023);
+        for (long, short) in LONGS {
+            by[long] = by[long].max(by[short]);
+        }
     }
     let (edition, by) = (by[0], bytes_of(&by));
     let list: Vec<[u8; 4]> = (0..20)
@@ -92,7 +98,7 @@ fn shift(r: &mut Random, records: &mut [[u8; 8]]) {
 }
 
 /// Built ones, any others, and both with a record changed.
-pub fn records(r: &mut Random, table: &Table, most: usize) -> Vec<[u8; 8]> {
+pub fn records(r: &mut Random, table: &GroupTable, most: usize) -> Vec<[u8; 8]> {
     let mut records = match r.below(16) {
         0 => Vec::new(),
         1 => (0..r.below(6)).map(|_| r.any().to_le_bytes()).collect(),
@@ -109,7 +115,7 @@ pub fn records(r: &mut Random, table: &Table, most: usize) -> Vec<[u8; 8]> {
 }
 
 /// The same, now and then as late as can be.
-fn early_or_late(r: &mut Random, table: &Table, most: usize) -> Vec<[u8; 8]> {
+fn early_or_late(r: &mut Random, table: &GroupTable, most: usize) -> Vec<[u8; 8]> {
     let mut records = records(r, table, most);
     if r.one_in(12) {
         shift(r, &mut records);
@@ -126,7 +132,7 @@ fn whole_or_cut(r: &mut Random, records: &[[u8; 8]]) -> Vec<u8> {
 }
 
 /// The bytes of a schedule.
-pub fn some(r: &mut Random, table: &Table) -> Vec<u8> {
+pub fn some(r: &mut Random, table: &GroupTable) -> Vec<u8> {
     let most = match r.below(400) {
         0 => 1500,
         1..=12 => 200,
@@ -138,7 +144,7 @@ pub fn some(r: &mut Random, table: &Table) -> Vec<u8> {
 }
 
 /// The bytes of a pattern and a length: often the least that is accepted, or one below.
-pub fn pattern(r: &mut Random, table: &Table, case: &mut Case) {
+pub fn pattern(r: &mut Random, table: &GroupTable, case: &mut Case) {
     let most = if r.one_in(10) { 30 } else { 1 + r.below(9) };
     let records = early_or_late(r, table, most);
     let (first, last) = (
@@ -163,7 +169,7 @@ pub fn pattern(r: &mut Random, table: &Table, case: &mut Case) {
 }
 
 /// A greater length only moves the copies apart, so halving finds the least.
-fn least_length(table: &Table, bytes: &[u8], most: u32) -> Option<u32> {
+fn least_length(table: &GroupTable, bytes: &[u8], most: u32) -> Option<u32> {
     let (edition, table) = (table[0], bytes_of(table));
     let accepted = |length| {
         let told = desk::judge_pattern(edition, &table, bytes, length);

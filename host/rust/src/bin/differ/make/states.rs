@@ -1,7 +1,7 @@
 //! Controllers: reachable ones, reachable ones with a number changed, and arbitrary ones.
 
-use model::desk::{self, Table};
-use model::house::{bytes_of, due, queued, room_for};
+use model::desk::{self, GroupTable};
+use model::house::{self, bytes_of, due, queued, room_for};
 
 use super::lists;
 use crate::case::*;
@@ -21,7 +21,7 @@ fn stamps() -> impl Iterator<Item = usize> {
 }
 
 /// After so many cycles from a fresh start.
-fn reached(table: &Table, case: &Case, cycles: u32) -> State {
+fn reached(table: &GroupTable, case: &Case, cycles: u32) -> State {
     let (edition, table) = (table[0], bytes_of(table));
     let list = transactions(&case.records());
     let mut room = vec![0; room_for(&case.records())];
@@ -51,10 +51,11 @@ fn make_late(r: &mut Random, s: &mut State) {
     );
 }
 
-fn change_one(r: &mut Random, s: &mut State) {
-    let i = match r.below(4) {
+fn change_one(r: &mut Random, table: &GroupTable, s: &mut State) {
+    let i = match r.below(5) {
         0 => r.below(4),
         1 => LAST + r.below(NUMBERS - LAST),
+        2 => GROUPS + r.below(3 * groups(table)),
         _ => BANKS + r.below(64),
     };
     let near = [s[CYCLE].wrapping_sub(1), s[CYCLE], s[CYCLE].wrapping_add(1)];
@@ -71,7 +72,7 @@ fn change_one(r: &mut Random, s: &mut State) {
 }
 
 /// Any numbers that number 9 has nothing against, but for the counts perhaps.
-fn plausible(r: &mut Random, table: &Table, case: &Case) -> State {
+fn plausible(r: &mut Random, table: &GroupTable, case: &Case) -> State {
     let mut s = fresh(table[0].into());
     let (cycle, back) = r.of_these(&[(400, 80), (400, 80), (9_000, 3_000)]);
     s[CYCLE] = 1 + r.below(cycle) as u32;
@@ -92,6 +93,10 @@ fn plausible(r: &mut Random, table: &Table, case: &Case) -> State {
         s[DATAS] = r.below(datas + 1) as u32;
     }
     s
+}
+
+fn groups(table: &GroupTable) -> usize {
+    table[house::GROUPS].into()
 }
 
 /// How many each queue holds at first.
@@ -118,7 +123,7 @@ fn arbitrary(r: &mut Random) -> State {
     s
 }
 
-fn some(r: &mut Random, table: &Table, case: &Case) -> State {
+fn some(r: &mut Random, table: &GroupTable, case: &Case) -> State {
     let cycles = match r.below(3) {
         0 => r.below(20) as u32,
         1 => r.below(150) as u32,
@@ -131,13 +136,17 @@ fn some(r: &mut Random, table: &Table, case: &Case) -> State {
         _ => arbitrary(r),
     };
     if r.one_in(3) {
-        change_one(r, &mut s);
+        change_one(r, table, &mut s);
     }
-    // What is kept past the table's banks is nobody's.
-    if r.one_in(2) {
-        let past = BANKS + 4 * usize::from(table[1]);
-        for n in &mut s[past..LAST] {
-            *n = r.u32() >> r.below(32);
+    // What is kept past the table's banks is nobody's, nor what is kept past its groups.
+    for (past, end) in [
+        (BANKS + 4 * usize::from(table[1]), LAST),
+        (GROUPS + 3 * groups(table), REFRESH),
+    ] {
+        if r.one_in(2) {
+            for n in &mut s[past..end] {
+                *n = r.u32() >> r.below(32);
+            }
         }
     }
     if r.one_in(8) {
@@ -154,7 +163,7 @@ fn left(case: &Case) -> usize {
 }
 
 /// The state, the count and the room of a run.
-pub fn run(r: &mut Random, table: &Table, case: &mut Case) {
+pub fn run(r: &mut Random, table: &GroupTable, case: &mut Case) {
     case.state = some(r, table, case);
     // The controller agrees with what is expected, and only the table doesn't.
     if case.expected != case.edition() && r.one_in(2) {

@@ -1,13 +1,46 @@
 //! Tables: legal ones of every shape, and damaged ones.
 
-use model::desk::Table;
+use model::desk::{read_table, GroupTable, Table};
 use model::house::*;
 
 use crate::case::Case;
 use crate::numbers::Random;
 
 /// A table that is accepted.
-pub fn legal(r: &mut Random) -> Table {
+pub fn legal(r: &mut Random) -> GroupTable {
+    if r.one_in(12) {
+        return TABLE_D;
+    }
+    if r.one_in(12) {
+        return r.of_these(&group_tables());
+    }
+    let t = sixteen(r);
+    if r.one_in(3) {
+        return whole(&t);
+    }
+    in_groups(r, &t)
+}
+
+/// In any number of groups, whether or not it divides the banks, with long numbers at the short ones and above them.
+fn in_groups(r: &mut Random, t: &Table) -> GroupTable {
+    let groups = 1 + r.below(usize::from(t[1]).min(8)) as u16;
+    let more = r.of_these(&[1, 4, 20, 100, 1023]);
+    let longs = LONGS.map(|(_, short)| match r.below(4) {
+        0 => t[short],
+        _ => (t[short] + 1 + r.below(more) as u16).min(1023),
+    });
+    grouped(t, groups, longs)
+}
+
+/// The table's record: of 32 bytes now and then, where it has no more to tell.
+fn record(r: &mut Random, t: &GroupTable) -> Vec<u8> {
+    if *t == whole(&t[..16]) && !r.one_in(4) {
+        return bytes_of(&t[..16]);
+    }
+    bytes_of(t)
+}
+
+fn sixteen(r: &mut Random) -> Table {
     let mut t = match r.below(10) {
         0 => r.of_these(&[TABLE_A, TABLE_B, TABLE_C, TABLE_T, REFRESHED]),
         1 => r.of_these(&[LEAST, GREATEST]),
@@ -61,15 +94,15 @@ fn drawn(r: &mut Random, most: u32) -> Table {
     t
 }
 
-/// Sixteen numbers, one or two of them at an edge or beyond it.
-fn beyond(r: &mut Random) -> Table {
+/// One or two numbers at an edge or beyond it.
+fn beyond(r: &mut Random) -> GroupTable {
     let mut t = legal(r);
     for _ in 0..=r.below(2) {
-        let i = r.below(16);
+        let i = r.below(20);
         t[i] = match r.below(9) {
             0 => 0,
             1 => 1,
-            2 => r.of_these(&[16, 17, 18]),
+            2 => r.of_these(&[8, 9, 16, 17, 18]),
             3 => r.of_these(&[255, 256]),
             4 => 1023,
             5 => 1024,
@@ -81,29 +114,52 @@ fn beyond(r: &mut Random) -> Table {
     if r.one_in(4) {
         t[3] = t[2].saturating_sub(r.below(2) as u16);
     }
+    // A long number at its short one, or one below; as many groups as banks, or one more.
+    if r.one_in(3) {
+        let (long, short) = r.of_these(&LONGS);
+        t[long] = t[short].saturating_sub(r.below(2) as u16);
+    }
+    if r.one_in(5) {
+        t[GROUPS] = t[1].wrapping_add(r.below(2) as u16);
+    }
     t
 }
 
-/// The sixteen numbers to be written, as bytes.
-pub fn numbers(r: &mut Random) -> Vec<u8> {
-    let t = if r.one_in(2) { legal(r) } else { beyond(r) };
-    bytes_of(&t)
+/// The twenty numbers to be written; of a table of 32 bytes the first sixteen.
+pub fn numbers(r: &mut Random) -> GroupTable {
+    if r.one_in(2) {
+        legal(r)
+    } else {
+        beyond(r)
+    }
 }
 
 /// Bytes that may not be a table.
 pub fn hostile(r: &mut Random) -> Vec<u8> {
-    let mut bytes = numbers(r);
+    let t = numbers(r);
+    let mut bytes = record(r, &t);
     match r.below(8) {
         0 => {
-            let size = r.of_these(&[0, 1, 2, 30, 31, 33, 34, 64, 200]);
+            let sizes = [0, 1, 2, 30, 31, 33, 34, 36, 38, 39, 41, 42, 48, 64, 80, 200];
+            let size = r.of_these(&sizes);
             bytes = bytes.iter().copied().cycle().take(size).collect();
         }
-        1 => bytes.truncate(r.below(32)),
+        1 => bytes.truncate(r.below(bytes.len())),
         2 => {
-            let at = r.below(32);
+            let at = r.below(bytes.len());
             bytes[at] ^= 1 << r.below(8);
         }
         3 if r.one_in(2) => bytes.iter_mut().for_each(|b| *b = r.u8()),
+        // The record of the other size: the first sixteen numbers, or with four that are any.
+        4 => {
+            let more: Vec<u8> = (0..8)
+                .map(|_| r.below(20) as u8 * (r.below(2) as u8))
+                .collect();
+            bytes.truncate(32);
+            if r.one_in(2) {
+                bytes.extend(more);
+            }
+        }
         _ => (),
     }
     bytes
@@ -123,9 +179,9 @@ fn other(r: &mut Random, edition: u16) -> u16 {
 
 /// Gives the case a table, mostly an accepted one, and an expected edition, mostly its own. Answers the table that the rest of the case is
 /// made for.
-pub fn some(r: &mut Random, case: &mut Case) -> Table {
+pub fn some(r: &mut Random, case: &mut Case) -> GroupTable {
     let t = legal(r);
-    case.table = bytes_of(&t);
+    case.table = record(r, &t);
     let mut one_in = 8;
     if r.one_in(16) {
         case.table = hostile(r);
@@ -139,11 +195,11 @@ pub fn some(r: &mut Random, case: &mut Case) -> Table {
 }
 
 /// The same with RC or FAW, which seldom decide, far out now and then.
-pub fn for_judges(r: &mut Random, case: &mut Case) -> Table {
+pub fn for_judges(r: &mut Random, case: &mut Case) -> GroupTable {
     let mut t = some(r, case);
-    if r.one_in(4) && case.table == bytes_of(&t) {
+    if r.one_in(4) && read_table(&case.table) == Ok(t) {
         t[r.of_these(&[RC, FAW])] = r.range(60, 1023) as u16;
-        case.table = bytes_of(&t);
+        case.table = bytes_of(&t[..case.table.len() / 2]);
     }
     t
 }

@@ -2,7 +2,8 @@
 //!
 //! Where this is wrong about the timing, the schedule is only less legal than it might be.
 
-use model::desk::Table;
+use model::desk::GroupTable;
+use model::house::GROUPS;
 
 use crate::numbers::Random;
 
@@ -15,13 +16,13 @@ struct Bank {
 }
 
 struct Walk {
-    t: [i64; 16],
+    t: [i64; 20],
     cycle: i64,
     banks: [Bank; 16],
     /// Newest first.
     acts: [i64; 4],
-    rd: i64,
-    wr: i64,
+    /// The latest ACT, RD and WR of each group.
+    groups: [[i64; 3]; 8],
     refresh: i64,
 }
 
@@ -29,34 +30,44 @@ const LONG_AGO: i64 = -100_000;
 
 impl Walk {
     fn earliest(&self, kind: u8, bank: usize) -> i64 {
-        let [_, banks, b, ccd, rcd, _, _, rc, rrd, faw, rl, wl, _, _, wtr, rfc] = self.t;
+        let [_, banks, b, ccd, rcd, _, _, rc, rrd, faw, rl, wl, _, _, wtr, rfc, ..] = self.t;
+        let [.., groups, long_ccd, long_rrd, long_wtr] = self.t;
         let own = &self.banks[bank];
+        let after_groups = |by: &dyn Fn([i64; 3], i64, i64, i64) -> i64| {
+            let of = |(place, &group): (usize, &[i64; 3])| match place == bank % groups as usize {
+                true => by(group, long_ccd, long_rrd, long_wtr),
+                false => by(group, ccd, rrd, wtr),
+            };
+            let all = self.groups[..groups as usize].iter().enumerate();
+            all.map(of).fold(LONG_AGO, i64::max)
+        };
         let least = match kind {
             0 => (own.act + rc)
                 .max(own.precharged)
-                .max(self.acts[0] + rrd)
+                .max(after_groups(&|[act, _, _], _, rrd, _| act + rrd))
                 .max(self.acts[3] + faw)
                 .max(self.refresh + rfc),
-            1 | 2 => (own.act + rcd)
-                .max(self.rd + ccd)
-                .max(self.wr + ccd.max(wl + b + wtr)),
+            1 | 2 => (own.act + rcd).max(after_groups(&|[_, rd, wr], ccd, _, wtr| {
+                (rd + ccd).max(wr + ccd.max(wl + b + wtr))
+            })),
             5 => self.banks[..banks as usize]
                 .iter()
                 .fold(self.refresh + rfc, |least, b| least.max(b.precharged)),
-            _ => (own.act + rcd)
-                .max(self.wr + ccd)
-                .max(self.rd + ccd.max(rl + ccd + 2 - wl)),
+            _ => (own.act + rcd).max(after_groups(&|[_, rd, wr], ccd, _, _| {
+                (wr + ccd).max(rd + ccd.max(rl + ccd + 2 - wl))
+            })),
         };
         least.max(self.cycle + 1)
     }
 
     fn note(&mut self, cycle: i64, kind: u8, bank: usize) {
-        let [_, _, b, _, _, rp, ras, _, _, _, _, wl, rtp, wr, _, _] = self.t;
+        let [_, _, b, _, _, rp, ras, _, _, _, _, wl, rtp, wr, ..] = self.t;
         self.cycle = cycle;
         if kind == 5 {
             self.refresh = cycle;
             return;
         }
+        let group = &mut self.groups[bank % self.t[GROUPS] as usize];
         let own = &mut self.banks[bank];
         own.open = kind == 0 || kind % 2 == 1;
         let until = match kind {
@@ -65,14 +76,15 @@ impl Walk {
                 own.precharged = LONG_AGO;
                 self.acts.rotate_right(1);
                 self.acts[0] = cycle;
+                group[0] = cycle;
                 cycle + ras + rp
             }
             1 | 2 => {
-                self.rd = cycle;
+                group[1] = cycle;
                 cycle + rtp + rp
             }
             _ => {
-                self.wr = cycle;
+                group[2] = cycle;
                 cycle + wl + b + wr + rp
             }
         };
@@ -90,7 +102,7 @@ fn slack(r: &mut Random) -> i64 {
 }
 
 /// About so many records, with one of them perhaps early.
-pub fn records(r: &mut Random, table: &Table, size: usize) -> Vec<[u8; 8]> {
+pub fn records(r: &mut Random, table: &GroupTable, size: usize) -> Vec<[u8; 8]> {
     let mut walk = Walk {
         t: table.map(i64::from),
         cycle: -1,
@@ -100,8 +112,7 @@ pub fn records(r: &mut Random, table: &Table, size: usize) -> Vec<[u8; 8]> {
             precharged: LONG_AGO,
         }; 16],
         acts: [LONG_AGO; 4],
-        rd: LONG_AGO,
-        wr: LONG_AGO,
+        groups: [[LONG_AGO; 3]; 8],
         refresh: LONG_AGO,
     };
     let banks = usize::from(table[1]);

@@ -1,4 +1,4 @@
-//! The judge in two kinds, which differ in rule 9: by the latest RD and WR, or by looking back over all earlier records.
+//! The judge in two kinds, which differ in rule 9: by the latest RD and WR of each group, or by looking back over all earlier records.
 
 use super::{State, Times, REF};
 
@@ -13,19 +13,30 @@ pub fn judge(
     if bytes.len() % 8 != 0 || bytes.len() / 8 > 69_632 {
         return None;
     }
-    Some(if looks_back {
-        judged(t, bytes, |_, earlier, new| {
+    Some(match t.groups {
+        1 => judged_by::<false>(t, bytes, looks_back),
+        _ => judged_by::<true>(t, bytes, looks_back),
+    })
+}
+
+fn judged_by<const SEVERAL: bool>(
+    t: &Times,
+    bytes: &[u8],
+    looks_back: bool,
+) -> Option<(u8, usize)> {
+    if looks_back {
+        judged::<SEVERAL>(t, bytes, |_, earlier, new| {
             let near = |old: Record| {
-                old.is_data() && new.cycle < old.cycle + t.distances[old.writes()][new.writes()]
+                let apart = t.apart(t.group_of(old.bank) == t.group_of(new.bank));
+                old.is_data() && new.cycle < old.cycle + apart.distances[old.writes()][new.writes()]
             };
             earlier.chunks_exact(8).map(Record::read).any(near)
         })
     } else {
-        judged(t, bytes, |state, _, new| {
-            new.cycle < state.data[0] + t.distances[0][new.writes()]
-                || new.cycle < state.data[1] + t.distances[1][new.writes()]
+        judged::<SEVERAL>(t, bytes, |state, _, new| {
+            new.cycle < state.data_after_groups(t, new.bank, new.writes())
         })
-    })
+    }
 }
 
 struct Record {
@@ -53,10 +64,10 @@ impl Record {
 }
 
 /// `near` says, from the state and from the bytes of all earlier records, whether a data command breaks rule 9.
-fn judged(
+fn judged<const SEVERAL: bool>(
     t: &Times,
     bytes: &[u8],
-    near: impl Fn(&State, &[u8], &Record) -> bool,
+    near: impl Fn(&State<SEVERAL>, &[u8], &Record) -> bool,
 ) -> Option<(u8, usize)> {
     let mut state = State::fresh();
     let mut last = -1;
@@ -77,7 +88,13 @@ fn judged(
     open.then_some((10, bytes.len() / 8))
 }
 
-fn broken(t: &Times, state: &State, last: i64, new: &Record, near: bool) -> Option<u8> {
+fn broken<const SEVERAL: bool>(
+    t: &Times,
+    state: &State<SEVERAL>,
+    last: i64,
+    new: &Record,
+    near: bool,
+) -> Option<u8> {
     let Record { cycle, kind, bank } = *new;
     let known = match kind {
         REF => bank == 0,
@@ -96,7 +113,7 @@ fn broken(t: &Times, state: &State, last: i64, new: &Record, near: bool) -> Opti
             (3, own.open),
             (4, cycle < own.closed_until),
             (5, cycle < own.act + t.rc),
-            (6, cycle < state.acts[state.newest] + t.rrd),
+            (6, cycle < state.act_after_groups(t, bank)),
             (7, cycle < state.acts[(state.newest + 1) % 4] + t.faw),
             in_refresh,
         ]),

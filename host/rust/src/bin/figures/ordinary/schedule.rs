@@ -30,7 +30,12 @@ impl Head {
     }
 
     /// From when its ACT, or its REF, may go; never, while a bank is open that must not be.
-    fn goes_from(&self, t: &Times, state: &State, x: &Transaction) -> i64 {
+    fn goes_from<const SEVERAL: bool>(
+        &self,
+        t: &Times,
+        state: &State<SEVERAL>,
+        x: &Transaction,
+    ) -> i64 {
         if x.kind == REFRESH {
             return state.rest_from(t).max(state.refresh + t.rfc);
         }
@@ -64,7 +69,21 @@ pub fn schedule(
     {
         return None;
     }
-    let mut state = State::fresh();
+    match t.groups {
+        1 => scheduled::<false>(t, list, room, finishes, by_cycles, due),
+        _ => scheduled::<true>(t, list, room, finishes, by_cycles, due),
+    }
+}
+
+fn scheduled<const SEVERAL: bool>(
+    t: &Times,
+    list: &[Transaction],
+    room: &mut [u8],
+    finishes: &mut [u32],
+    by_cycles: bool,
+    due: usize,
+) -> Option<usize> {
+    let mut state = State::<SEVERAL>::fresh();
     let (mut acts, mut datas) = (Head::default(), Head::default());
     let mut cycle = 0;
     let mut places = room.chunks_exact_mut(8).take(due);

@@ -1,7 +1,7 @@
 //! One cycle of a lent controller: all checks, the heads found from the counts, and at most one command.
 
 use model::desk::Transaction;
-use skvorzhan::{Controller, HostBank, NEVER};
+use skvorzhan::{Controller, HostBank, HostGroup, NEVER};
 
 use super::{in_act_queue, in_data_queue, put, Times, LONG_AGO, REF, REFRESH};
 
@@ -87,8 +87,9 @@ pub fn step(
         .iter()
         .all(|b| early(b.act) && early(b.rd) && early(b.wr))
         && c.last.iter().all(|&act| early(act))
-        && early(c.rd)
-        && early(c.wr)
+        && c.groups[..t.groups]
+            .iter()
+            .all(|g| early(g.act) && early(g.rd) && early(g.wr))
         && early(c.refresh);
     let counts = c.acts <= acts && c.datas <= datas;
     if c.cycle >= 100_000_000 || c.edition != expected.into() || !stamps || !counts {
@@ -105,18 +106,23 @@ pub fn step(
     if let Some(h) = data_head(list, c.datas).filter(|h| h.act < c.acts) {
         let (bank, writes) = (t.bank(h.x, h.bank), usize::from(h.x.kind));
         let own = &mut c.banks[usize::from(bank)];
-        let from = (stored(own.act) + t.rcd)
-            .max(stored(c.rd) + t.distances[0][writes])
-            .max(stored(c.wr) + t.distances[1][writes]);
+        let own_group = t.group_of(bank);
+        let after = |(place, g): (usize, &HostGroup)| {
+            let [after_rd, after_wr] = t.apart(place == own_group).distances;
+            (stored(g.rd) + after_rd[writes]).max(stored(g.wr) + after_wr[writes])
+        };
+        let groups = c.groups[..t.groups].iter().enumerate();
+        let from = groups.map(after).fold(stored(own.act) + t.rcd, i64::max);
         if own.opened != 0 && from <= now {
             let closes = h.burst + 1 == h.x.bc;
             own.opened = (!closes).into();
-            let (of_bank, of_all) = match writes {
-                0 => (&mut own.rd, &mut c.rd),
-                _ => (&mut own.wr, &mut c.wr),
+            let group = &mut c.groups[own_group];
+            let (of_bank, of_group) = match writes {
+                0 => (&mut own.rd, &mut group.rd),
+                _ => (&mut own.wr, &mut group.wr),
             };
             *of_bank = now as u32;
-            *of_all = now as u32;
+            *of_group = now as u32;
             c.datas += 1;
             let kind = 1 + 2 * h.x.kind + closes as u8;
             put(&mut room[..8], now, kind, bank, h.number);
@@ -139,9 +145,12 @@ pub fn step(
     }
     let bank = t.bank(h.x, h.bank);
     let own = &mut c.banks[usize::from(bank)];
+    let own_group = t.group_of(bank);
+    let after = |(place, g): (usize, &HostGroup)| stored(g.act) + t.apart(place == own_group).rrd;
+    let groups = c.groups[..t.groups].iter().enumerate();
     let from = (precharged(t, own))
         .max(stored(own.act) + t.rc)
-        .max(stored(c.last[0]) + t.rrd)
+        .max(groups.map(after).fold(LONG_AGO, i64::max))
         .max(stored(c.last[3]) + t.faw);
     if own.opened != 0 || from > now {
         return Some(0);
@@ -150,6 +159,7 @@ pub fn step(
     own.act = now as u32;
     (own.rd, own.wr) = (NEVER, NEVER);
     c.last = [now as u32, c.last[0], c.last[1], c.last[2]];
+    c.groups[own_group].act = now as u32;
     c.acts += 1;
     put(&mut room[..8], now, 0, bank, h.number);
     Some(1)

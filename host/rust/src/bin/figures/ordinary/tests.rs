@@ -7,7 +7,7 @@ use model::sent::{capture, of_schedule, tick, with_ticks, Sent, MOST_GAP};
 
 /// From any start, over the last bank too; now and then all banks, and now and then one beyond a limit. Refreshes where the table has them, and
 /// seldom where it has none.
-fn list(numbers: &mut Numbers, t: &desk::Table, size: usize) -> Vec<Transaction> {
+fn list(numbers: &mut Numbers, t: &[u16], size: usize) -> Vec<Transaction> {
     let banks = usize::from(t[1]);
     let mut one = || {
         if numbers.below(if t[RFC] > 0 { 5 } else { 100 }) == 0 {
@@ -35,6 +35,14 @@ fn list(numbers: &mut Numbers, t: &desk::Table, size: usize) -> Vec<Transaction>
     (0..size).map(|_| one()).collect()
 }
 
+/// Of either size.
+fn tables() -> Vec<Vec<u16>> {
+    let sixteen = [TABLE_A, TABLE_B, TABLE_C, LEAST, GREATEST, REFRESHED];
+    let sixteen = sixteen.iter().chain(&ODD).map(|t| t.to_vec());
+    let twenty = group_tables().into_iter().chain([TABLE_D]);
+    sixteen.chain(twenty.map(|t| t.to_vec())).collect()
+}
+
 /// A controller as the host keeps it.
 fn plain(c: &desk::Controller) -> skvorzhan::Controller {
     skvorzhan::Controller {
@@ -49,8 +57,11 @@ fn plain(c: &desk::Controller) -> skvorzhan::Controller {
             wr: b.wr,
         }),
         last: c.last,
-        rd: c.rd,
-        wr: c.wr,
+        groups: c.groups.map(|g| skvorzhan::HostGroup {
+            act: g.act,
+            rd: g.rd,
+            wr: g.wr,
+        }),
         refresh: c.refresh,
     }
 }
@@ -59,13 +70,12 @@ fn plain(c: &desk::Controller) -> skvorzhan::Controller {
 #[test]
 fn steps_as_the_model_says() {
     let mut numbers = Numbers(5);
-    let mut tables = vec![TABLE_A, TABLE_B, TABLE_C, LEAST, GREATEST, REFRESHED];
-    tables.extend(ODD);
+    let tables = tables();
     let (mut told, mut refs) = ([0; 3], 0);
     for round in 0..300 {
-        let t = tables[round % tables.len()];
-        let (edition, table) = (t[0], bytes_of(&t));
-        let list = list(&mut numbers, &t, round % 6);
+        let t = &tables[round % tables.len()][..];
+        let (edition, table) = (t[0], bytes_of(t));
+        let list = list(&mut numbers, t, round % 6);
         let (_, mut right) = desk::start(edition, &table);
         for _ in 0..numbers.below(300) {
             let bank = numbers.below(16);
@@ -78,6 +88,9 @@ fn steps_as_the_model_says() {
                 5 => right.edition ^= 1 << 16,
                 6 => right.refresh = right.cycle.saturating_sub(1),
                 7 => right.refresh = right.cycle,
+                8 => right.groups[bank % 8].act = right.cycle.saturating_sub(1),
+                9 => right.groups[bank % 8].rd = right.cycle.saturating_sub(1),
+                10 => right.groups[bank % 8].wr = right.cycle,
                 _ => (),
             }
             let mut own = plain(&right);
@@ -107,10 +120,10 @@ fn captures_as_the_model_says() {
     let mut numbers = Numbers(9);
     let (mut accepted, mut broken, mut refused) = (0, 0, [0; 12]);
     for round in 0..3000 {
-        let t = [TABLE_A, LEAST, REFRESHED, ODD[1]][round % 4];
-        let (edition, table) = (t[0], bytes_of(&t));
+        let t = [&TABLE_A[..], &LEAST, &REFRESHED, &TABLE_D, &ODD[1]][round % 5];
+        let (edition, table) = (t[0], bytes_of(t));
         let list = [[0, 0, 3, 2], [1, 1, 2, 1], [0, 3, 4, 1]];
-        let (bytes, _) = built(&t, &list[..round % 4]);
+        let (bytes, _) = built(t, &list[..round % 4]);
         let mut commands = of_schedule(&bytes);
         for at in 0..commands.len() {
             let by = numbers.of(&[0, 0, 1, 9, 60_000, 65_530, 131_072]);
@@ -167,14 +180,13 @@ fn captures_as_the_model_says() {
 #[test]
 fn as_the_model_says() {
     let mut numbers = Numbers(3);
-    let mut tables = vec![TABLE_A, TABLE_B, TABLE_C, LEAST, GREATEST, REFRESHED];
-    tables.extend(ODD);
+    let tables = tables();
     let mut verdicts = [0; 13];
     let (mut over, mut refused) = (0, 0);
     for round in 0..600 {
-        let t = tables[round % tables.len()];
-        let (edition, table) = (t[0], bytes_of(&t));
-        let list = list(&mut numbers, &t, round % 7);
+        let t = &tables[round % tables.len()][..];
+        let (edition, table) = (t[0], bytes_of(t));
+        let list = list(&mut numbers, t, round % 7);
         let due = |x: &Transaction| in_act_queue(x) + in_data_queue(x);
         let due = list.iter().map(due).sum::<u32>() as usize;
         let mut right = (vec![9; 8 * due + 3], vec![9; list.len() + 1]);
