@@ -13,6 +13,8 @@ mod groups;
 #[cfg(test)]
 mod laws;
 #[cfg(test)]
+mod pins;
+#[cfg(test)]
 mod refreshes;
 #[cfg(test)]
 mod refusals;

@@ -1,9 +1,9 @@
 //! What document 01 and the customer's requests say, once more in plain Rust and from the papers alone, to hold the proved programs
 //! against.
 //!
-//! The public calls are in `desk`, the house tables in `house`, and captures are written by `sent`. What the calls rest on is in
-//! `records`, `rules`, `scheduler` and `capture`; the other modules make the stored cases of the programs, the example files, and what must
-//! be printed for each.
+//! The public calls are in `desk`, the house tables in `house`, captures are written by `sent`, and `pins` tells who holds the data pins.
+//! What the calls rest on is in `records`, `rules`, `scheduler` and `capture`; the other modules make the stored cases of the programs, the
+//! example files, and what must be printed for each.
 
 mod calls;
 mod capture;
@@ -16,6 +16,7 @@ pub mod house;
 mod inputs;
 pub mod listing;
 mod listings;
+pub mod pins;
 mod records;
 mod rules;
 mod runs;

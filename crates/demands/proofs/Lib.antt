@@ -15,3 +15,4 @@ pub mod GroupCalls
 pub mod Calls
 pub mod Traces
 pub mod OneGroup
+pub mod Pins

@@ -35,7 +35,7 @@ module _ (expected : ℕ) (table : List ℕ) (τ : Table) (read : admitted expec
     unfolding running runsChecked
     same c n b = ap (λ (d : Checked). runsChecked d c τ l n b) (sym fine) ∙ ap (λ (a : TableRead). running check a c l n b) (sym read)
 
-    by-check : RunsOn expected table τ check l
+    pub by-check : RunsOn expected table τ check l
     by-check =
         record {
           left = λ c n b. runController c τ l n b;

@@ -6,3 +6,4 @@ pub mod Handed
 pub mod GroupCalls
 pub mod Calls
 pub mod OneGroup
+pub mod Pins

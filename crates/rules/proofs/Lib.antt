@@ -47,3 +47,6 @@ pub mod Promises
 pub mod Demands
 pub mod Ends
 pub mod OneGroup
+pub mod Bursts
+pub mod Pins
+pub mod PinShare

@@ -14,3 +14,5 @@ pub mod WorkedGroups
 pub mod Promise
 pub mod Demands
 pub mod Before
+pub mod Pins
+pub mod PinShare

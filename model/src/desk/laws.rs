@@ -9,7 +9,7 @@ use crate::scheduler::longest_wait;
 
 /// Lists of every shape, each under every table, with refreshes where the table has them; one of them takes all its banks, twice, and
 /// runs over the last one.
-fn lists_and_tables() -> Vec<(Vec<u16>, Vec<[u8; 4]>)> {
+pub fn lists_and_tables() -> Vec<(Vec<u16>, Vec<[u8; 4]>)> {
     let mut numbers = Numbers(3);
     let mut all = Vec::new();
     let tables = [TABLE_A, TABLE_B, TABLE_C, LEAST, GREATEST, REFRESHED];

@@ -12,6 +12,7 @@ mod groups;
 mod lent;
 mod make;
 mod numbers;
+mod pins;
 mod shrink;
 mod tally;
 mod trap;
@@ -153,6 +154,7 @@ fn run(asked: &Asked) -> ExitCode {
     println!("{count} calls, seed {seed}");
     let mut archive = Archive::new();
     let mut tally = Tally::default();
+    let mut wrong_pins = Vec::new();
     let began = Instant::now();
     // Those that random ones seldom meet come last, and not where the run starts within.
     let whole = from.is_none();
@@ -177,9 +179,14 @@ fn run(asked: &Asked) -> ExitCode {
             );
             return ExitCode::FAILURE;
         }
+        if refused(&right.answer) == 0 {
+            let (looked_at, clash) = pins::looked_at(&case, &right);
+            tally.pins += u64::from(looked_at);
+            wrong_pins.extend(clash.map(|clash| format!("{clash:?} on the pins: {case}")));
+        }
     }
     tally.print();
-    let mut wrong = Vec::new();
+    let mut wrong = wrong_pins;
     if whole {
         let not_met = tally.not_met().into_iter();
         wrong.extend(not_met.map(|refusal| format!("not met: {refusal}")));

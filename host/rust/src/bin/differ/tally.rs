@@ -29,6 +29,8 @@ pub struct Tally {
     copies: [u64; 6],
     /// Captures not refused: with a tick, whose stamp goes round, and with a true cycle past 4,000,000,000.
     captures: [u64; 3],
+    /// Schedules, patterns and captures whose bursts were looked at on the pins.
+    pub pins: u64,
 }
 
 fn by_number(counts: &[u64; 12], numbers: RangeInclusive<usize>) -> String {
@@ -98,6 +100,9 @@ impl Tally {
     /// The refusals that were not met, and verdicts by groups, in words.
     pub fn not_met(&self) -> Vec<String> {
         let mut all = Vec::new();
+        if self.pins == 0 {
+            all.push("a schedule on the data pins".to_owned());
+        }
         for (rule, counts) in [6, 9].iter().zip(&self.by_groups) {
             if counts.contains(&0) {
                 all.push(format!("rule {rule} in each way by groups: {counts:?}"));
@@ -177,5 +182,9 @@ impl Tally {
         }
         let [ticks, wraps, late] = self.captures;
         println!("captures not refused, with ticks: {ticks}, with stamps that go round: {wraps}, past cycle 4,000,000,000: {late}");
+        println!(
+            "accepted or built, and looked at on the data pins, patterns in three copies: {}",
+            self.pins
+        );
     }
 }
