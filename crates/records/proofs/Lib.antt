@@ -6,3 +6,4 @@ pub mod HouseTables
 pub mod Inverse
 pub mod Round
 pub mod Written
+pub mod Arrivals
