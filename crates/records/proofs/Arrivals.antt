@@ -22,7 +22,7 @@ abbrev pub Ascending : List Transaction → Type 0
 Ascending l = (k : ℕ) (x y : Transaction) → getElem? l k ≡ some x → getElem? l (suc k) ≡ some y → x .arrival ≤ y .arrival
 
 module _ (τ : Table) where
-  first-fits : (a : ℕ) (x : Transaction) (l : List Transaction) → fitsFrom a τ (x ∷ l) ≡ true → (a ≤ x .arrival) × (fits τ x ≡ true) × (fitsFrom (x .arrival) τ l ≡ true)
+  pub first-fits : (a : ℕ) (x : Transaction) (l : List Transaction) → fitsFrom a τ (x ∷ l) ≡ true → (a ≤ x .arrival) × (fits τ x ≡ true) × (fitsFrom (x .arrival) τ l ≡ true)
   first-fits a x l e =
       let f = and-left (fitsAfter a τ x) (fitsFrom (x .arrival) τ l) e in
       (leb-true a (x .arrival) (and-left (leb a (x .arrival)) (fits τ x) f), and-right (leb a (x .arrival)) (fits τ x) f, and-right (fitsAfter a τ x) (fitsFrom (x .arrival) τ l) e)

@@ -15,7 +15,8 @@ use Rattle.records.specs.declared.command.Command.{Command}
 use Rattle.rules.specs.declared.state.State.{State}
 use Rattle.records.specs.Tests.{every}
 use Rattle.records.specs.Table.{Accepted}
-use Rattle.records.specs.Transaction.{fits, listFits}
+use Rattle.records.specs.Transaction.{listFits}
+use Rattle.records.proofs.Arrivals.{few-listed, each-listed}
 use Rattle.rules.specs.History.{openIn}
 use Rattle.rules.specs.Verdict.{allShut, Legal}
 use Rattle.rules.specs.Pattern.{onto}
@@ -60,10 +61,10 @@ module _ (τ : Table) (acc : Accepted τ) (l : List Transaction) (fit : listFits
   rng = ranges τ acc
 
   pub each-fits : AllFit τ l
-  each-fits = all-fit τ (rng .banks .least) l (and-snd (leb (length l) 256) (every (fits τ) l) fit)
+  each-fits = all-fit τ (rng .banks .least) l (each-listed τ l fit)
 
   pub short : total τ l (length l) < 100000000
-  short = never-long τ rng l each-fits (leb-true (length l) 256 (and-fst (leb (length l) 256) (every (fits τ) l) fit))
+  short = never-long τ rng l each-fits (each-listed τ l fit) (few-listed τ l fit)
 
   -- the state and the history after n steps from a fresh state
   abbrev pub stateAt : ℕ → State

@@ -50,3 +50,4 @@ pub mod OneGroup
 pub mod Bursts
 pub mod Pins
 pub mod PinShare
+pub mod Pieces

@@ -12,6 +12,7 @@ pub mod Finish
 pub mod Worked
 pub mod WorkedGroups
 pub mod Promise
+pub mod Pieces
 pub mod Demands
 pub mod Before
 pub mod Pins
