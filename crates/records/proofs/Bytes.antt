@@ -47,9 +47,6 @@ put-32 s at x h = as-sets ∙ put-sets (bytes32 x) s at h
 pub over-32 : (new s : List ℕ) (x : ℕ) → length new + 4 ≤ length s → put32 (over new s) (length new) x ≡ over (new ++ bytes32 x) s
 over-32 new s x h = put-32 (over new s) (length new) x (omega (arith, length-over new s (omega arith))) ∙ over-more new (bytes32 x) s
 
-pub length-32 : (s : List ℕ) (at x : ℕ) → length (put32 s at x) ≡ length s
-length-32 s at x = simp length-set
-
 pub length-16 : (l : List ℕ) → length (bytes16 l) ≡ 2 * length l
 length-16 [] = refl
 length-16 (x ∷ l) = omega (arith, length-16 l)

@@ -6,9 +6,9 @@ use mathlib.Core.Path.{_≡_, refl, sym, ap, _∙_, subst}
 use mathlib.Core.Logic.{⊎-elim}
 use mathlib.Core.Bool.{true, false}
 use mathlib.Core.List.{List, [], _∷_, _++_, append-nil}
-use lib.Dec.{leb, ltb}
+use lib.Dec.{ltb}
 use lib.ListN.{length}
-use borrow.Author.Tests.{leb-true, lt-ltb}
+use borrow.Author.Tests.{lt-ltb}
 use Rattle.records.specs.declared.table.Table.{Table}
 use Rattle.records.specs.declared.transaction.Transaction.{Transaction}
 use Rattle.records.specs.declared.command.Command.{Command}
@@ -25,7 +25,7 @@ use Rattle.rules.specs.Queues.{actQueue, dataQueue}
 use Rattle.rules.specs.CycleRule.{actsIn, datasIn, gone, Built}
 use Rattle.rules.specs.Run.{served, steps, Ran, run}
 use Rattle.rules.specs.Promise.{nextCycle}
-use Rattle.rules.proofs.TestLaws.{true-false, and-both, and-fst, and-snd}
+use Rattle.rules.proofs.TestLaws.{true-false, and-both}
 use Rattle.rules.proofs.Ranges.{Ranges, ranges}
 use Rattle.rules.proofs.Newest.{AllBelow, allBelow-up}
 use Rattle.rules.proofs.BankRules.{open-same}

@@ -28,6 +28,16 @@ data-first : (legal : Command → Bool) (τ : Table) (l : List Transaction) (t a
     → legalAt legal t (hadAct a (seen t (headAfter (dataQueue τ l) d))) ≡ some c → goesBy legal τ l t a d ≡ some c
 data-first legal τ l t a d c e = ap (λ (o : Option Command). otherwise o (legalAt legal t (seen t (headAfter (actQueue τ l) a)))) e
 
+-- what goes, by two tests that agree
+legal-agree : (f g : Command → Bool) → ((c : Command) → f c ≡ g c) → (t : ℕ) (o : Option Due) → legalAt f t o ≡ legalAt g t o
+legal-agree f g e t none = refl
+legal-agree f g e t (some d) = ap (λ (b : Bool). pick b (some (dueAt t d)) none) (e (dueAt t d))
+
+pub goes-agree : (f g : Command → Bool) → ((c : Command) → f c ≡ g c) → (τ : Table) (l : List Transaction) (t a d : ℕ) → goesBy f τ l t a d ≡ goesBy g τ l t a d
+goes-agree f g e τ l t a d =
+    ap (λ (o : Option Command). otherwise o (legalAt f t (seen t (headAfter (actQueue τ l) a)))) (legal-agree f g e t (hadAct a (seen t (headAfter (dataQueue τ l) d))))
+    ∙ ap (otherwise (legalAt g t (hadAct a (seen t (headAfter (dataQueue τ l) d))))) (legal-agree f g e t (seen t (headAfter (actQueue τ l) a)))
+
 -- what holds of the command that goes: it is the head of its queue and it is legal
 pub goes-all : (legal : Command → Bool) (τ : Table) (l : List Transaction) (t a d : ℕ) (P : Command → Type 0)
     → ((x : Due) → headAfter (dataQueue τ l) d ≡ some x → ltb (x .act) a ≡ true → legal (dueAt t x) ≡ true → P (dueAt t x))

@@ -5,37 +5,35 @@ use native.Mathlib.Omega.{arith}
 use native.Mathlib.Numerals.{add-one}
 use mathlib.Core.Path.{_≡_, refl, sym, ap, _∙_, subst}
 use mathlib.Core.Logic.{_⊎_, inl, inr, ⊎-elim}
-use mathlib.Core.Bool.{Bool, true, false, _&&_, _||_}
+use mathlib.Core.Bool.{Bool, true, false, _||_}
 use mathlib.Core.Option.{Option, none, some}
 use mathlib.Core.List.{List, [], _∷_, _++_, append-assoc, append-nil}
 use lib.Dec.{ltb, leb}
-use lib.ListN.{length, length-append}
-use lib.Seq.{drop-append-seam, drop-length}
-use borrow.Author.Tests.{leb-true, le-leb, lt-leb, ltb-false, le-ltb}
+use lib.ListN.{length}
+use lib.Seq.{drop-append-seam}
+use borrow.Author.Tests.{leb-true, le-leb, lt-leb, ltb-false}
 use Rattle.records.specs.declared.table.Table.{Table}
 use Rattle.records.specs.declared.transaction.Transaction.{Transaction}
-use Rattle.records.specs.declared.command.Kind.{Kind}
-use Rattle.records.specs.declared.command.Kind.the-variants.{Act, Rd, Rda, Wr, Wra, Ref, Other}
 use Rattle.records.specs.declared.command.Command.{Command}
 use Rattle.rules.specs.declared.state.State.{State}
-use Rattle.records.specs.Tests.{pick, allOf}
+use Rattle.records.specs.Tests.{pick}
 use Rattle.records.specs.Table.{Accepted}
 use Rattle.records.specs.Transaction.{fitsFrom, listFits}
 use Rattle.records.proofs.Arrivals.{first-fits}
-use Rattle.rules.specs.State.{testsBy, breaksNone, fresh, after}
+use Rattle.rules.specs.State.{fresh, after}
 use Rattle.rules.specs.Queues.{actCount, actQueue, dataQueue}
 use Rattle.rules.specs.Pattern.{onto}
 use Rattle.rules.specs.CycleRule.{goes, push}
 use Rattle.rules.specs.Run.{served, stops, Ran, oneMore, run}
-use Rattle.rules.specs.Pieces.{lend, lendRan, firstBelow, isLate, overLent, lentRun, Piece, whole, thenRan, inPieces, InTime, PiecesKept, LentKept}
+use Rattle.rules.specs.Pieces.{lend, firstBelow, isLate, lentRun, Piece, whole, thenRan, inPieces, InTime, PiecesKept}
 use Rattle.rules.proofs.TestLaws.{true-false, and-both, and-fst, and-snd}
 use Rattle.rules.proofs.Numbers.{from?}
-use Rattle.rules.proofs.Queue.{Place, placeOf, dataCount, find, actSum, dataSum, act-length, data-length, sum-append}
+use Rattle.rules.proofs.Queue.{placeOf, dataCount, find, act-length, data-length, sum-append}
 use Rattle.rules.proofs.Heads.{seenPlace, goes-try}
 use Rattle.rules.proofs.Served.{goes-now, one-cycle, steps-cycle}
 use Rattle.rules.proofs.RunTo.{stopped, going, run-steps, n-then-m}
-use Rattle.rules.proofs.Built.{run-built, run-reports}
-use Rattle.rules.proofs.OneGroup.{goes-agree}
+use Rattle.rules.proofs.Built.{run-built, run-reports, run-ends}
+use Rattle.rules.proofs.Lent.{lendRan, run-lent, lent-is}
 
 -- all arrive at a or later
 abbrev pub From : ℕ → List Transaction → Type 0
@@ -127,44 +125,6 @@ piece-run (suc n) τ l m a f s h k = on (stops τ l s) refl (piece-run n τ l m 
         ∙ (ap (λ (o : Option Command). oneMore (run (next .cycles) τ (l ++ m) (after τ s o) (push o h))) (goes-same τ l m a f s lt)
         ∙ ap oneMore (ih k'))))
 
--- ---- what was lent before is not read
-
-breaks-lent : (k : ℕ) (τ : Table) (s : State) (c : Command) → breaksNone τ (lend k s) c ≡ breaksNone τ s c
-breaks-lent k τ s c = on (c .kind)
-  where
-    on : (K : Kind) → allOf (testsBy τ (lend k s) K (c .cycle) (c .bank)) ≡ allOf (testsBy τ s K (c .cycle) (c .bank))
-    on Act = refl
-    on Rd = refl
-    on Rda = refl
-    on Wr = refl
-    on Wra = refl
-    on Ref = refl
-    on (Other n) = refl
-
-goes-lent : (k : ℕ) (τ : Table) (l : List Transaction) (s : State) → goes τ l (lend k s) ≡ goes τ l s
-goes-lent k τ l s = goes-agree (breaksNone τ (lend k s)) (breaksNone τ s) (breaks-lent k τ s) τ l (s .cycle) (s .acts) (s .datas)
-
-after-lent : (k : ℕ) (τ : Table) (s : State) (o : Option Command) → after τ (lend k s) o ≡ lend k (after τ s o)
-after-lent k τ s none = refl
-after-lent k τ s (some c) = refl
-
-pub run-lent : (n k : ℕ) (τ : Table) (l : List Transaction) (s : State) (h : List Command) → run n τ l (lend k s) h ≡ lendRan k (run n τ l s h)
-run-lent zero k τ l s h = refl
-run-lent (suc n) k τ l s h = on (stops τ l s) refl (run-lent n k τ l (after τ s (goes τ l s)) (push (goes τ l s) h))
-  where
-    on : (b : Bool) → stops τ l s ≡ b
-        → run n τ l (lend k (after τ s (goes τ l s))) (push (goes τ l s) h) ≡ lendRan k (run n τ l (after τ s (goes τ l s)) (push (goes τ l s) h))
-        → run (suc n) τ l (lend k s) h ≡ lendRan k (run (suc n) τ l s h)
-    on true e ih = stopped (suc n) τ l (lend k s) h e ∙ ap (lendRan k) (sym (stopped (suc n) τ l s h e))
-    on false e ih =
-        going n τ l (lend k s) h e
-        ∙ (ap (λ (o : Option Command). oneMore (run n τ l (after τ (lend k s) o) (push o h))) (goes-lent k τ l s)
-        ∙ (ap (λ (u : State). oneMore (run n τ l u (push (goes τ l s) h))) (after-lent k τ s (goes τ l s))
-        ∙ (ap oneMore ih ∙ ap (lendRan k) (sym (going n τ l s h e)))))
-
-lent-is : (n : ℕ) (τ : Table) (l : List Transaction) (s : State) → lentRun n τ l s .state .lent ≡ length l
-lent-is n τ l s = ap (λ (r : Ran). r .state .lent) (run-lent n (length l) τ l s [])
-
 -- ---- the pieces
 
 module _ (τ : Table) where
@@ -235,39 +195,76 @@ module _ (τ : Table) (l : List Transaction) (s : State) where
       (λ k. let z : c + (n - c) ≡ n = omega arith in sym (run-stays c (n - c) e) ∙ ap (λ (y : ℕ). run y τ l s []) z)
       (λ k. ap (λ (y : ℕ). run y τ l s []) (k .1) ∙ run-stays n (k .0) g) (from? c n)
 
+-- a run that stops short of its count has stopped by itself
+full : (n : ℕ) (τ : Table) (l : List Transaction) (s : State) (h : List Command) → (run n τ l s h .cycles ≡ n) ⊎ (stops τ l (run n τ l s h .state) ≡ true)
+full zero τ l s h = inl refl
+full (suc n) τ l s h = on (stops τ l s) refl (full n τ l (after τ s (goes τ l s)) (push (goes τ l s) h))
+  where
+    next : Ran
+    next = run n τ l (after τ s (goes τ l s)) (push (goes τ l s) h)
+
+    on : (b : Bool) → stops τ l s ≡ b → (next .cycles ≡ n) ⊎ (stops τ l (next .state) ≡ true)
+        → (run (suc n) τ l s h .cycles ≡ suc n) ⊎ (stops τ l (run (suc n) τ l s h .state) ≡ true)
+    on true e ih = inr (rw (stopped (suc n) τ l s h e) e)
+    on false e ih =
+        subst (λ (r : Ran). (r .cycles ≡ suc n) ⊎ (stops τ l (r .state) ≡ true)) (sym (going n τ l s h e)) (⊎-elim (λ z. inl (omega (arith, z))) (λ z. inr z) ih)
+
+-- the last run of the pieces
+last-run : (τ : Table) (qs : List Piece) (p : Piece) (l : List Transaction) (s : State)
+    → inPieces τ (qs ++ p ∷ []) l s .state ≡ lentRun (p .count) τ (l ++ whole (qs ++ p ∷ [])) (inPieces τ qs l s .state) .state
+last-run τ [] p l s = ap (λ (y : List Transaction). lentRun (p .count) τ (l ++ y) s .state) (sym (append-nil (p .more)))
+last-run τ (q ∷ qs) p l s =
+    last-run τ qs p (l ++ q .more) (lentRun (q .count) τ (l ++ q .more) s .state)
+    ∙ ap (λ (y : List Transaction). lentRun (p .count) τ y (inPieces τ (q ∷ qs) l s .state) .state) (append-assoc l (q .more) (whole (qs ++ p ∷ [])))
+
 pub pieces-kept : (τ : Table) → Accepted τ → (ps : List Piece) → listFits τ (whole ps) ≡ true → InTime τ ps [] (fresh τ) → PiecesKept τ ps
 pieces-kept τ acc ps fit q =
     record {
-      oneRun = one;
-      toEnd = λ n e g. one ∙ ap (lendRan (length (whole ps))) (run-same τ (whole ps) (fresh τ) C n (ends e) g);
+      oneRun = one ∙ sym (lent C);
+      toEnd = λ n e g. one ∙ (ap (lendRan (length W)) (run-same τ W (fresh τ) C n (served-one e) (rw (lent n) at g)) ∙ sym (lent n));
       commands = λ rs b e. (
-        ap (λ (y : Ran). onto (y .history) []) one ∙ run-built τ acc (whole ps) fit rs b C (ends e),
-        ap (λ (y : Ran). y .cycles) one ∙ run-reports τ acc (whole ps) fit rs b C (ends e),
+        ap (λ (y : Ran). onto (y .history) []) one ∙ run-built τ acc W fit rs b C (served-one e),
+        ap (λ (y : Ran). y .cycles) one ∙ run-reports τ acc W fit rs b C (served-one e),
       );
+      ends = λ qs p e k. on qs p e k;
     }
   where
+    W : List Transaction
+    W = whole ps
+
     C : ℕ
     C = inPieces τ ps [] (fresh τ) .cycles
 
-    one : inPieces τ ps [] (fresh τ) ≡ lendRan (length (whole ps)) (run C τ (whole ps) (fresh τ) [])
-    one = pieces-run τ ps [] (fresh τ) refl q 0 (and-snd (leb (length (whole ps)) 256) (fitsFrom 0 τ (whole ps)) fit)
+    one : inPieces τ ps [] (fresh τ) ≡ lendRan (length W) (run C τ W (fresh τ) [])
+    one = pieces-run τ ps [] (fresh τ) refl q 0 (and-snd (leb (length W) 256) (fitsFrom 0 τ W) fit)
 
-    ends : served τ (whole ps) (inPieces τ ps [] (fresh τ) .state) ≡ true → served τ (whole ps) (run C τ (whole ps) (fresh τ) [] .state) ≡ true
-    ends e = subst (λ (y : Ran). served τ (whole ps) (y .state) ≡ true) one e
+    lent : (n : ℕ) → lentRun n τ W (fresh τ) ≡ lendRan (length W) (run n τ W (fresh τ) [])
+    lent n = run-lent n (length W) τ W (fresh τ) []
 
--- none arrives before cycle 0
-early : (l : List Transaction) → firstBelow l 0 ≡ false
-early [] = refl
-early (x ∷ l) = le-ltb (x .arrival) 0 (omega arith)
+    served-one : served τ W (inPieces τ ps [] (fresh τ) .state) ≡ true → served τ W (run C τ W (fresh τ) [] .state) ≡ true
+    served-one e = subst (λ (y : Ran). served τ W (y .state) ≡ true) one e
 
--- one list: nothing new
-pub lent-kept : (τ : Table) (l : List Transaction) → LentKept τ l
-lent-kept τ l =
-    record {
-      freshInTime = early l;
-      notLate = λ n s. rw (lent-is n τ l s, drop-length l);
-      notOver = λ n s more. rw (lent-is n τ l s) (le-ltb (length (l ++ more)) (length l) (omega (arith, length-append l more)));
-      splits = λ n m s.
-          n-then-m n m τ l (lend (length l) s)
-          ∙ ap (λ (u : State). thenRan (lentRun n τ l s) (run m τ l u [])) (ap (λ (k : ℕ). lend k (lentRun n τ l s .state)) (lent-is n τ l s));
-    }
+    -- past the limit of a run the list is served
+    late : 100000000 ≤ inPieces τ ps [] (fresh τ) .state .cycle → served τ W (inPieces τ ps [] (fresh τ) .state) ≡ true
+    late k =
+        let c : inPieces τ ps [] (fresh τ) .state .cycle ≡ C =
+        ap (λ (y : Ran). y .state .cycle) one ∙ (run-cycle C τ W (fresh τ) [] ∙ (omega arith ∙ ap (λ (y : Ran). y .cycles) (sym one))) in
+        subst (λ (y : Ran). served τ W (y .state) ≡ true) (sym one) (run-ends τ acc W fit C (omega (arith, k, c)))
+
+    on : (qs : List Piece) (p : Piece) → ps ≡ qs ++ p ∷ [] → 100000000 ≤ p .count → served τ W (inPieces τ ps [] (fresh τ) .state) ≡ true
+    on qs p e k =
+        ⊎-elim (λ z. late (rw same (omega (arith, run-cycle (p .count) τ W s [], z))))
+        (λ z. stop (served τ W (inPieces τ ps [] (fresh τ) .state)) refl (subst (λ (y : State). stops τ W y ≡ true) (sym same) z)) (full (p .count) τ W s [])
+      where
+        s : State
+        s = lend (length W) (inPieces τ qs [] (fresh τ) .state)
+
+        same : inPieces τ ps [] (fresh τ) .state ≡ run (p .count) τ W s [] .state
+        same =
+            ap (λ (y : List Piece). inPieces τ y [] (fresh τ) .state) e
+            ∙ (last-run τ qs p [] (fresh τ) ∙ ap (λ (y : List Piece). lentRun (p .count) τ (whole y) (inPieces τ qs [] (fresh τ) .state) .state) (sym e))
+
+        stop : (b : Bool) → served τ W (inPieces τ ps [] (fresh τ) .state) ≡ b → stops τ W (inPieces τ ps [] (fresh τ) .state) ≡ true
+            → served τ W (inPieces τ ps [] (fresh τ) .state) ≡ true
+        stop true z t = z
+        stop false z t = late (leb-true 100000000 (inPieces τ ps [] (fresh τ) .state .cycle) (rw z at t))

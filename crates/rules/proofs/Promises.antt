@@ -9,7 +9,7 @@ use mathlib.Core.Option.{some}
 use mathlib.Core.List.{List, [], _∷_, _++_}
 use lib.Dec.{leb, ltb, eqb}
 use lib.ListN.{length, getElem?, length-append}
-use borrow.Author.Tests.{ltb-true, leb-true, le-leb}
+use borrow.Author.Tests.{ltb-true, le-leb}
 use Rattle.records.specs.declared.table.Table.{Table}
 use Rattle.records.specs.declared.transaction.Transaction.{Transaction}
 use Rattle.records.specs.declared.command.Command.{Command}
@@ -30,7 +30,8 @@ use Rattle.rules.proofs.Finishes.{nth, Finishes}
 use Rattle.rules.proofs.Served.{total}
 use Rattle.rules.proofs.RunTo.{n-then-m}
 use Rattle.rules.proofs.Places.{past-kept, past-unread}
-use Rattle.rules.proofs.Count.{run-room}
+use Rattle.rules.proofs.Count.{every-onto, run-room}
+use Rattle.rules.proofs.Arrived.{built-arrived, run-arrived}
 use Rattle.rules.proofs.OfFirst.{first-onto, last-first}
 use Rattle.rules.proofs.Prefix.{front-unmoved}
 use Rattle.rules.proofs.Built.{each-fits, historyAt, by-state, stop-built, enough, exists, built-only, built-at, built-count, built-passes, built-early, built-bound, run-built, run-reports, run-ends}
@@ -57,11 +58,6 @@ later τ x c d h = on (isRefresh x) (isWrite x)
     on false false = omega arith
 
 -- where all commands go early, the last commands do
-every-onto : (f : Command → Bool) (rs h : List Command) → every f rs ≡ true → every f h ≡ true → every f (onto rs h) ≡ true
-every-onto f [] h e g = g
-every-onto f (r ∷ rs) h e g =
-    every-onto f rs (r ∷ h) (and-snd (f r) (every f rs) e) (and-both (f r) (every f h) (and-fst (f r) (every f rs) e) g)
-
 early-last : (k : ℕ) (h : List Command) → every (λ r. ltb (r .cycle) 100000000) h ≡ true → cycleOf (lastCommandIn k h) < 100000000
 early-last k [] e = omega arith
 early-last k (r ∷ h) e = on (eqb (r .number) k && canEnd (r .kind)) (early-last k h (and-snd (ltb (r .cycle) 100000000) (every (λ r. ltb (r .cycle) 100000000) h) e))
@@ -145,6 +141,7 @@ module _ (τ : Table) (acc : Accepted τ) where
         only = λ rs' b'. built-only τ acc l fit rs' rs b' b;
         count = built-count τ acc l fit rs b;
         passes = built-passes τ acc l fit rs b;
+        notBefore = built-arrived l τ rs b;
         finishes = last-is l fit rs b;
         firstIn = first-in l fit rs b;
         nextIn = next-in l fit rs b;
@@ -169,6 +166,7 @@ module _ (τ : Table) (acc : Accepted τ) where
   runs-kept l fit =
       record {
         splits = λ n m s. n-then-m n m τ l s;
+        notBefore = run-arrived l τ;
         edition = λ n s. past-kept τ (ranges τ acc .groups .least) l (each-fits τ acc l fit) n s [] .edition;
         lent = λ n s. past-kept τ (ranges τ acc .groups .least) l (each-fits τ acc l fit) n s [] .lent;
         size = λ n s. past-kept τ (ranges τ acc .groups .least) l (each-fits τ acc l fit) n s [] .bankCount;

@@ -37,7 +37,8 @@ otherwise none y = y
 otherwise (some c) y = some c
 
 -- "If the head of the data queue has had its ACT and breaks no rule, it goes. Otherwise, if the head of the ACT queue breaks no rule,
--- it goes. Otherwise nothing does." Each head is seen from its arrival on. `legal` says of a command at cycle t that it breaks no rule; a and d have left the queues.
+-- it goes. Otherwise nothing does." Each head is seen from its arrival on. `legal` says of a command at cycle t that it breaks no rule; a and d
+-- have left the queues.
 abbrev pub goesBy : (Command → Bool) → Table → List Transaction → ℕ → ℕ → ℕ → Option Command
 goesBy legal τ l t a d =
     otherwise (legalAt legal t (hadAct a (seen t (headAfter (dataQueue τ l) d)))) (legalAt legal t (seen t (headAfter (actQueue τ l) a)))

@@ -13,6 +13,7 @@ pub mod Worked
 pub mod WorkedGroups
 pub mod Promise
 pub mod Pieces
+pub mod WorkedArrivals
 pub mod Demands
 pub mod Before
 pub mod Pins

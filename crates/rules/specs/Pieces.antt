@@ -1,6 +1,6 @@
 -- "Requests may come in pieces: each run is lent the whole list so far, and the state tells how many of it were lent before" (document 02,
 -- request 9).
-use Prim.Native.Nat.{ℕ, _+_}
+use Prim.Native.Nat.{ℕ, _+_, _≤_}
 use mathlib.Core.Bool.{Bool, true, false}
 use mathlib.Core.Path.{_≡_}
 use mathlib.Core.List.{List, [], _∷_, _++_}
@@ -33,9 +33,6 @@ lend n s =
       refresh = s .refresh;
       lent = n;
     }
-
-abbrev pub lendRan : ℕ → Ran → Ran
-lendRan n r = record { state = lend n (r .state); history = r .history; cycles = r .cycles }
 
 -- "(more than the list has: number 9)"
 abbrev pub overLent : List Transaction → State → Bool
@@ -82,18 +79,21 @@ InTime τ (p ∷ ps) l s = (isLate (l ++ p .more) s ≡ false) × InTime τ ps (
 -- "From a fresh state, any cutting without refusal, run to the end, gives the commands of the whole list."
 pub record PiecesKept (τ : Table) (ps : List Piece) : Type 0 where
   -- to the end or not, the runs give the state, the commands and the cycles of one run of the whole list, of as many cycles
-  pub oneRun : inPieces τ ps [] (fresh τ) ≡ lendRan (length (whole ps)) (run (inPieces τ ps [] (fresh τ) .cycles) τ (whole ps) (fresh τ) [])
+  pub oneRun : inPieces τ ps [] (fresh τ) ≡ lentRun (inPieces τ ps [] (fresh τ) .cycles) τ (whole ps) (fresh τ)
   -- to the end, those of every run to the end
-  pub toEnd : (n : ℕ) → served τ (whole ps) (inPieces τ ps [] (fresh τ) .state) ≡ true → served τ (whole ps) (run n τ (whole ps) (fresh τ) [] .state) ≡ true
-      → inPieces τ ps [] (fresh τ) ≡ lendRan (length (whole ps)) (run n τ (whole ps) (fresh τ) [])
+  pub toEnd : (n : ℕ) → served τ (whole ps) (inPieces τ ps [] (fresh τ) .state) ≡ true → served τ (whole ps) (lentRun n τ (whole ps) (fresh τ) .state) ≡ true
+      → inPieces τ ps [] (fresh τ) ≡ lentRun n τ (whole ps) (fresh τ)
   -- and the commands are the built schedule
   pub commands : (rs : List Command) → Built τ (whole ps) rs → served τ (whole ps) (inPieces τ ps [] (fresh τ) .state) ≡ true
       → (onto (inPieces τ ps [] (fresh τ) .history) [] ≡ rs) × (inPieces τ ps [] (fresh τ) .cycles ≡ nextCycle (onto rs []))
+  -- a last run that may take 100,000,000 cycles is to the end
+  pub ends : (qs : List Piece) (p : Piece) → ps ≡ qs ++ p ∷ [] → 100000000 ≤ p .count → served τ (whole ps) (inPieces τ ps [] (fresh τ) .state) ≡ true
 
 -- n cycles and then m of one list lend nothing new: the second run is not late, and they give what n + m give, from any state; a list that was lent
 -- is never more than a longer one has, and none is late at a fresh state
 pub record LentKept (τ : Table) (l : List Transaction) : Type 0 where
   pub freshInTime : isLate l (fresh τ) ≡ false
+  pub lent : (n : ℕ) (s : State) → lentRun n τ l s .state .lent ≡ length l
   pub notLate : (n : ℕ) (s : State) → isLate l (lentRun n τ l s .state) ≡ false
   pub notOver : (n : ℕ) (s : State) (more : List Transaction) → overLent (l ++ more) (lentRun n τ l s .state) ≡ false
   pub splits : (n m : ℕ) (s : State) → lentRun (n + m) τ l s ≡ thenRan (lentRun n τ l s) (lentRun m τ l (lentRun n τ l s .state))

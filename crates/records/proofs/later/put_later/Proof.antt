@@ -4,10 +4,9 @@ use mathlib.Core.Path.{ap, _∙_}
 use mathlib.Core.List.{List}
 use Prim.Native.Nat.{ℕ}
 use denote.Ref.{now}
-use lib.ListN.{length}
 use Rattle.records.specs.Little.{put32}
 use Rattle.records.specs.Transaction.{bytesOf}
-use Rattle.records.proofs.Bytes.{length-over, length-32, over-32}
+use Rattle.records.proofs.Bytes.{length-over, over-32}
 use Rattle.records.proofs.later.put_later.Statement.{statement}
 use Rattle.records.proofs.later.put_later.Tie as tie
 
