@@ -6,8 +6,7 @@ use mathlib.Core.Path.{_≡_, refl, sym, ap, _∙_}
 use mathlib.Core.Bool.{Bool, true, false}
 use mathlib.Core.Option.{Option, none, some}
 use mathlib.Core.List.{List, [], _∷_, _++_}
-use lib.ListN.{length, length-append}
-use lib.Seq.{drop-length}
+use lib.ListN.{length, getElem?, length-append}
 use borrow.Author.Tests.{le-ltb}
 use Rattle.records.specs.declared.table.Table.{Table}
 use Rattle.records.specs.declared.transaction.Transaction.{Transaction}
@@ -64,17 +63,21 @@ pub lent-is : (n : ℕ) (τ : Table) (l : List Transaction) (s : State) → lent
 lent-is n τ l s = ap (λ (r : Ran). r .state .lent) (run-lent n (length l) τ l s [])
 
 -- none arrives before cycle 0
-early : (l : List Transaction) → firstBelow l 0 ≡ false
-early [] = refl
-early (x ∷ l) = le-ltb (x .arrival) 0 (omega arith)
+early : (o : Option Transaction) → firstBelow o 0 ≡ false
+early none = refl
+early (some x) = le-ltb (x .arrival) 0 (omega arith)
+
+at-end : (l : List Transaction) → getElem? l (length l) ≡ none
+at-end [] = refl
+at-end (x ∷ l) = at-end l
 
 -- one list: nothing new
 pub lent-kept : (τ : Table) (l : List Transaction) → LentKept τ l
 lent-kept τ l =
     record {
-      freshInTime = early l;
+      freshInTime = early (getElem? l 0);
       lent = λ n s. lent-is n τ l s;
-      notLate = λ n s. rw (lent-is n τ l s, drop-length l);
+      notLate = λ n s. rw (lent-is n τ l s, at-end l);
       notOver = λ n s more. rw (lent-is n τ l s) (le-ltb (length (l ++ more)) (length l) (omega (arith, length-append l more)));
       splits = λ n m s.
           n-then-m n m τ l (lend (length l) s)

@@ -10,7 +10,7 @@ use mathlib.Core.List.{List, [], _∷_}
 use lib.Dec.{eqb}
 use lib.ListN.{length, length-set}
 use lib.Seq.{getD-set-same}
-use Rattle.records.specs.Tests.{pick, allOf, every, everyBelow}
+use Rattle.records.specs.Tests.{pick, allOf, everyBelow}
 use Rattle.records.specs.declared.table.Table.{Table}
 use Rattle.records.specs.declared.transaction.Transaction.{Transaction}
 use Rattle.records.specs.declared.command.Kind.{Kind}

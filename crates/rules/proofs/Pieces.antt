@@ -9,8 +9,7 @@ use mathlib.Core.Bool.{Bool, true, false, _||_}
 use mathlib.Core.Option.{Option, none, some}
 use mathlib.Core.List.{List, [], _∷_, _++_, append-assoc, append-nil}
 use lib.Dec.{ltb, leb}
-use lib.ListN.{length}
-use lib.Seq.{drop-append-seam}
+use lib.ListN.{length, getElem?}
 use borrow.Author.Tests.{leb-true, le-leb, lt-leb, ltb-false}
 use Rattle.records.specs.declared.table.Table.{Table}
 use Rattle.records.specs.declared.transaction.Transaction.{Transaction}
@@ -128,6 +127,10 @@ piece-run (suc n) τ l m a f s h k = on (stops τ l s) refl (piece-run n τ l m 
 -- ---- the pieces
 
 module _ (τ : Table) where
+  at-seam : (l : List Transaction) (x : Transaction) (m : List Transaction) → getElem? (l ++ x ∷ m) (length l) ≡ some x
+  at-seam [] x m = refl
+  at-seam (y ∷ l) x m = at-seam l x m
+
   -- whatever comes later arrives no earlier than the state's cycle
   not-late-from : (ps : List Piece) (l : List Transaction) (s : State) → s .lent ≡ length l → InTime τ ps l s → (b : ℕ) → fitsFrom b τ (whole ps) ≡ true
       → From (s .cycle) (whole ps)
@@ -142,7 +145,7 @@ module _ (τ : Table) where
       on : (m : List Transaction) → isLate (l ++ m) s ≡ false → fitsFrom b τ (m ++ whole ps) ≡ true → From (s .cycle) (whole ps) → From (s .cycle) (m ++ whole ps)
       on [] k a ih = ih
       on (x ∷ m) k a ih =
-          let new : firstBelow (x ∷ m) (s .cycle) ≡ false = rw (e, drop-append-seam l (x ∷ m)) at k in
+          let new : firstBelow (some x) (s .cycle) ≡ false = rw (e, at-seam l x m) at k in
           let c : s .cycle ≤ x .arrival = ltb-false (x .arrival) (s .cycle) new in (
             c,
             from-down (x .arrival) (s .cycle) c (m ++ whole ps)

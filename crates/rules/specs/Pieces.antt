@@ -3,9 +3,10 @@
 use Prim.Native.Nat.{ℕ, _+_, _≤_}
 use mathlib.Core.Bool.{Bool, true, false}
 use mathlib.Core.Path.{_≡_}
+use mathlib.Core.Option.{Option, none, some}
 use mathlib.Core.List.{List, [], _∷_, _++_}
 use lib.Dec.{ltb}
-use lib.ListN.{length, drop}
+use lib.ListN.{length, getElem?}
 use Rattle.records.specs.declared.table.Table.{Table}
 use Rattle.records.specs.declared.transaction.Transaction.{Transaction}
 use Rattle.records.specs.declared.command.Command.{Command}
@@ -39,12 +40,12 @@ abbrev pub overLent : List Transaction → State → Bool
 overLent l s = ltb (length l) (s .lent)
 
 -- "If the first new arrival is below the state's cycle, the piece is late: number 12 ..; an equal arrival is in time, an empty piece never late."
-abbrev pub firstBelow : List Transaction → ℕ → Bool
-firstBelow [] c = false
-firstBelow (x ∷ l) c = ltb (x .arrival) c
+abbrev pub firstBelow : Option Transaction → ℕ → Bool
+firstBelow none c = false
+firstBelow (some x) c = ltb (x .arrival) c
 
 abbrev pub isLate : List Transaction → State → Bool
-isLate l s = firstBelow (drop (s .lent) l) (s .cycle)
+isLate l s = firstBelow (getElem? l (s .lent)) (s .cycle)
 
 -- a run of at most n cycles that is lent the list, and leaves "lent before" at its length
 abbrev pub lentRun : ℕ → Table → List Transaction → State → Ran
