@@ -1,20 +1,18 @@
--- The arrivals of a list, "never less than the one before it", and the records that hold them.
+-- The arrivals of a list, "never less than the one before it".
 -- Assumes nothing.
-use Prim.Native.Nat.{ℕ, zero, suc, _+_, _*_, _≤_, _<_}
+use Prim.Native.Nat.{ℕ, zero, suc, _+_, _≤_}
 use native.Mathlib.Omega.{arith}
-use mathlib.Core.Path.{_≡_, refl, ap, _∙_}
+use mathlib.Core.Path.{_≡_, refl, ap}
 use mathlib.Core.Bool.{Bool, true, _&&_}
 use mathlib.Core.Option.{some}
 use mathlib.Core.List.{List, [], _∷_, _++_}
 use lib.Dec.{leb}
-use lib.ListN.{length, getD, getElem?}
-use lib.Seq.{getD-append-add}
+use lib.ListN.{length, getElem?}
 use borrow.Author.Tests.{leb-true, le-leb}
 use Rattle.records.specs.Tests.{every}
 use Rattle.records.specs.declared.table.Table.{Table}
 use Rattle.records.specs.declared.transaction.Transaction.{Transaction}
-use Rattle.records.specs.Transaction.{arriving, transactionAt, transactionsFrom, laterAt, laterBytes, laterFrom, fits, fitsAfter, fitsFrom, listFits}
-use Rattle.records.proofs.Inverse.{le32-of}
+use Rattle.records.specs.Transaction.{transactionAt, transactionsFrom, fits, fitsAfter, fitsFrom, listFits}
 use Rattle.records.proofs.Laws.{and-left, and-right}
 
 -- each arrives no earlier than the one before it
@@ -70,42 +68,3 @@ module _ (τ : Table) where
   unfolding transactionsFrom
   plain-fits s zero at = refl
   plain-fits s (suc n) at = ap (λ (b : Bool). fits τ (transactionAt s at) && b) (plain-fits s n (at + 4))
-
--- records of 8 bytes that hold, one by one, what records of 4 bytes do: each arrives at 0
-pub later-plain : (w s : List ℕ) (n a b : ℕ) → ((k : ℕ) → k < n → laterAt w (a + 8 * k) ≡ transactionAt s (b + 4 * k)) → laterFrom w n a ≡ transactionsFrom s n b
-unfolding laterFrom transactionsFrom
-later-plain w s zero a b h = refl
-later-plain w s (suc n) a b h =
-    let first : laterAt w (a + 8 * 0) ≡ transactionAt s (b + 4 * 0) = h 0 (omega arith) in
-    let i : a + 8 * 0 ≡ a = omega arith in
-    let j : b + 4 * 0 ≡ b = omega arith in
-    ap (λ (x : Transaction). x ∷ laterFrom w n (a + 8)) (rw (i, j) at first)
-    ∙ ap (λ (l : List Transaction). transactionAt s b ∷ l) (later-plain w s n (a + 8) (b + 4) further)
-  where
-    further : (k : ℕ) → k < n → laterAt w (a + 8 + 8 * k) ≡ transactionAt s (b + 4 + 4 * k)
-    further k l =
-        let i : a + 8 * suc k ≡ a + 8 + 8 * k = omega arith in
-        let j : b + 4 * suc k ≡ b + 4 + 4 * k = omega arith in
-        rw (i, j) at (h (suc k) (omega arith))
-
--- the transaction whose eight bytes follow others
-pub later-after : (p : List ℕ) (x : Transaction) (u : List ℕ) → x .arrival < 4294967296 → laterAt (p ++ (laterBytes x ++ u)) (length p) ≡ x
-later-after p x u h = moved ∙ ap (arriving x) (le32-of (x .arrival) h)
-  where
-    at : (i : ℕ) → getD (p ++ (laterBytes x ++ u)) (length p + i) 0 ≡ getD (laterBytes x ++ u) i 0
-    at i = getD-append-add p (laterBytes x ++ u) i 0
-
-    z : length p ≡ length p + 0
-    z = omega arith
-
-    five : length p + 4 + 1 ≡ length p + 5
-    five = omega arith
-
-    six : length p + 4 + 2 ≡ length p + 6
-    six = omega arith
-
-    seven : length p + 4 + 3 ≡ length p + 7
-    seven = omega arith
-
-    moved : laterAt (p ++ (laterBytes x ++ u)) (length p) ≡ laterAt (laterBytes x ++ u) 0
-    moved = rw (five, six, seven, at 1, at 2, at 3, at 4, at 5, at 6, at 7) (ap (λ (k : ℕ). record { kind = k; start = x .start; bi = x .bi; bc = x .bc; arrival = laterAt (laterBytes x ++ u) 0 .arrival }) (ap (λ (i : ℕ). getD (p ++ (laterBytes x ++ u)) i 0) z ∙ at 0))

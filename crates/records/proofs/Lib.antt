@@ -7,3 +7,4 @@ pub mod Inverse
 pub mod Round
 pub mod Written
 pub mod Arrivals
+pub mod Listed

@@ -189,7 +189,7 @@ unfolding readLater writeLater
 later-written-read x s e d =
     ap (λ (w : Wrote). readLater (w .buffer)) (write-is (laterRefusal (length s) x) (laterDone x s) s z)
     ∙ read-is laterRefusal firstLater TransactionIs (λ n. NoTransaction (refusal n 0 0)) (over (laterBytes x) s) x
-    (ap (arriving x) (le32-of (x .arrival) (omega (arith, arrives-by 8 20000000 (length s) x z))))
+    (ap (arriving x) (le32-of (x .arrival)))
     (ap (λ (k : ℕ). laterRefusal k x) (length-over (laterBytes x) s (omega (arith, later-size (length s) x z))) ∙ z)
   where
     z : laterRefusal (length s) x ≡ 0
@@ -246,7 +246,7 @@ command-written-read t k b x s e h d =
     z = write-was (roomRefusal (length s)) (commandDone c s) s e d
 
     same : commandAt (Commands.bytesOf c) 0 ≡ c
-    same = rw (le32-of t h, kind-number k, le16-of x)
+    same = rw (le32-of t, kind-number k, le16-of x)
 
 -- the bytes that were read are written, from the start of any buffer with room
 pub command-read-written : (s b : List ℕ) (c : Command) → Bytes s → 8 ≤ length b → readCommand s ≡ CommandIs c

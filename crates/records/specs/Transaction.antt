@@ -1,6 +1,6 @@
 -- "Transaction, 4 bytes: type (0 read, 1 write), start bank, BI, BC." Document 02, request 5: "A transaction of type 2, with the other three bytes
 -- 0, is a refresh". Request 9: "A transaction record of 8 bytes adds a 32-bit arrival"; "The 4-byte record is arrival 0".
-use Prim.Native.Nat.{ℕ, zero, suc, _+_, _/_}
+use Prim.Native.Nat.{ℕ, zero, suc, _+_, _*_, _/_}
 use mathlib.Core.Bool.{Bool, true, false, not, _&&_, _||_}
 use mathlib.Core.List.{List, [], _∷_, _++_}
 use lib.Dec.{ltb, leb, eqb}
@@ -51,6 +51,19 @@ laterFrom s (suc n) at = laterAt s at ∷ laterFrom s n (at + 8)
 
 abbrev pub laterIn : List ℕ → List Transaction
 laterIn s = laterFrom s (length s / 8) 0
+
+-- Of a run of records, of 8 bytes each where `later`, else of 4: a record's size, how many so many bytes hold, the k-th transaction, and all of them
+abbrev pub recordSize : Bool → ℕ
+recordSize later = pick later 8 4
+
+abbrev pub recordCount : Bool → ℕ → ℕ
+recordCount later size = size / recordSize later
+
+abbrev pub kthOf : Bool → List ℕ → ℕ → Transaction
+kthOf later s k = pick later (laterAt s (8 * k)) (transactionAt s (4 * k))
+
+abbrev pub listOf : Bool → List ℕ → List Transaction
+listOf later s = pick later (laterIn s) (transactionsIn s)
 
 abbrev pub isWrite : Transaction → Bool
 isWrite x = eqb (x .kind) 1
