@@ -154,8 +154,8 @@ pub fn queued(x: &[u8]) -> [usize; 2] {
 
 /// The commands due.
 pub fn due(list: &[impl AsRef<[u8]>]) -> usize {
-    let one = |x: &_| queued(AsRef::as_ref(x)).iter().sum::<usize>();
-    list.iter().map(one).sum()
+    let one = |x: &[u8]| queued(x).iter().sum::<usize>();
+    list.iter().map(|x| one(x.as_ref())).sum()
 }
 
 /// 8 bytes for each command.

@@ -228,11 +228,12 @@ pub fn too_long(case: &Case) -> bool {
     let mut c = controller(&case.state);
     // No rule asks for more cycles than all numbers of the table together: what does not go within them, once all have arrived, never goes.
     let wait: u32 = case.numbers()[2..].iter().map(|&n| u32::from(n)).sum();
+    let wait = wait.max(1_000);
     let mut cycles = 0;
     while cycles <= LONG {
         match desk::run(&mut c, case.edition(), &case.table, &list, wait, &mut room) {
             Ok(told) if told.cycles < wait => return false,
-            Ok(told) if told.commands == 0 && c.cycle > last_arrival.saturating_add(wait) => {
+            Ok(told) if told.commands == 0 && c.cycle >= last_arrival.saturating_add(wait) => {
                 return true
             }
             Ok(_) => cycles += wait,
