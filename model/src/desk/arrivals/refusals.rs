@@ -8,14 +8,14 @@ use crate::records::{CCD, EDITION};
 #[test]
 fn records() {
     for (x, fine) in [(READ, true), (REFRESH, true), ([0, 16, 1, 1], false)] {
-        for arrival in [0, 1, 255, 256, LATEST - 1, LATEST, LATEST + 1, u32::MAX] {
+        for arrival in [0, 1, 255, 256, 19_999_999, 20_000_000, 20_000_001, u32::MAX] {
             let (record, mut room) = (later(x, arrival), [9; 8]);
             assert_eq!(record[..4], x);
             assert_eq!(record[4..], arrival.to_le_bytes());
             let read = read_later(&record);
             let whole = Transaction::of(&x).arriving(arrival);
             let written = write_later(whole, &mut room);
-            if fine && arrival <= LATEST {
+            if fine && arrival <= 20_000_000 {
                 assert_eq!((read, written, room), (Ok(whole), Ok(0), record));
             } else {
                 assert_eq!((told(read), told(written)), ((4, 0, 0), (4, 0, 0)));
@@ -79,13 +79,13 @@ fn lists() {
         ([7, 7, 7], None),
         ([0, 1, 2], None),
         ([0, 255, 256], None),
-        ([0, 0, LATEST], None),
+        ([0, 0, 20_000_000], None),
         ([5, 4, 5], Some((4, 1))),
         ([5, 5, 4], Some((4, 2))),
         ([256, 255, 0], Some((4, 1))),
         ([1, 0, 0], Some((4, 1))),
-        ([LATEST + 1, 0, 0], Some((4, 0))),
-        ([0, LATEST + 1, 0], Some((4, 1))),
+        ([20_000_001, 0, 0], Some((4, 0))),
+        ([0, 20_000_001, 0], Some((4, 1))),
         ([0, 0, u32::MAX], Some((4, 2))),
     ] {
         let list = [READ, [1, 1, 1, 1], [0, 2, 1, 1]];
