@@ -74,7 +74,8 @@ module _ (τ : Table) (rng : Ranges τ) (l : List Transaction) (v : AllFit τ l)
       shut-all ek b hb =
           let t : allOf (refreshTests τ s (s .cycle)) ≡ true = subst (λ (k : Kind). allOf (testsBy τ s k (s .cycle) (x .bank)) ≡ true) ek ok in
           let u = test-at (refreshTests τ s (s .cycle)) 7 t in
-          not-true (isOpen (bankOf s b)) (and-fst (not (isOpen (bankOf s b))) (charged τ (bankOf s b) (s .cycle)) (below-each (τ .banks) (λ b. atRest τ (bankOf s b) (s .cycle)) u b hb))
+          not-true (isOpen (bankOf s b)) (and-fst (not (isOpen (bankOf s b))) (charged τ (bankOf s b) (s .cycle))
+          (below-each (τ .banks) (λ b. atRest τ (bankOf s b) (s .cycle)) u b hb))
 
       act-good : GoodAt τ l (dueAt (s .cycle) x) h
       unfolding dueUnder
@@ -82,13 +83,16 @@ module _ (τ : Table) (rng : Ranges τ) (l : List Transaction) (v : AllFit τ l)
           record {
             due = omega (arith, found-dues (x .kind) (x .bank) (x .number) (actQueue τ l) (s .acts) x e refl refl refl);
             opened = λ d. true-false (isData (x .kind)) d no-data;
-            order = λ w i p. true-false (isData (x .kind)) (ap isData (p .first .kind) ∙ data-kind-at τ l v (p .first .place) (p .first .due) (p .first .there) .0) no-data;
+            order =
+                λ w i p. true-false (isData (x .kind)) (ap isData (p .first .kind)
+                ∙ data-kind-at τ l v (p .first .place) (p .first .due) (p .first .there) .0) no-data;
             refLast = λ z w i. none-greater w i;
             refFirst = λ w i z. none-greater w i;
           }
 
       -- the latest ACT of a bank that a data command waits for
-      act-held : (j : ℕ) (y : Due) → s .datas ≤ j → getElem? (dataQueue τ l) j ≡ some y → y .act < s .acts + 1 → latestAct (y .bank) (dueAt (s .cycle) x ∷ h) ≡ some (y .number)
+      act-held : (j : ℕ) (y : Due) → s .datas ≤ j → getElem? (dataQueue τ l) j ≡ some y → y .act < s .acts + 1
+          → latestAct (y .bank) (dueAt (s .cycle) x ∷ h) ≡ some (y .number)
       act-held j y le ey lt = ⊎-elim mine others (same? (y .act) (s .acts))
         where
           its : ActOf τ l v y
@@ -96,7 +100,8 @@ module _ (τ : Table) (rng : Ranges τ) (l : List Transaction) (v : AllFit τ l)
 
           mine : y .act ≡ s .acts → latestAct (y .bank) (dueAt (s .cycle) x ∷ h) ≡ some (y .number)
           mine z =
-              let same : its .its ≡ x = same-some (getElem? (actQueue τ l) (s .acts)) (its .its) x (subst (λ (n : ℕ). getElem? (actQueue τ l) n ≡ some (its .its)) z (its .there)) e in
+              let same : its .its ≡ x = same-some (getElem? (actQueue τ l) (s .acts)) (its .its) x
+              (subst (λ (n : ℕ). getElem? (actQueue τ l) n ≡ some (its .its)) z (its .there)) e in
               let eb : x .bank ≡ y .bank = ap (λ (u : Due). u .bank) (sym same) ∙ its .bank in
               let ea : isAct (x .kind) ≡ true = ap (λ (u : Due). isAct (u .kind)) (sym same) ∙ ap isAct (its .kind) in
               let en : x .number ≡ y .number = ap (λ (u : Due). u .number) (sym same) ∙ its .number in
@@ -117,7 +122,8 @@ module _ (τ : Table) (rng : Ranges τ) (l : List Transaction) (v : AllFit τ l)
               by false ea u = rw (ea, and-false (eqb (x .bank) (y .bank))) (g .held j y le ey lower)
               by true ea (inr u) = rw (ne-eqb (x .bank) (y .bank) u) (g .held j y le ey lower)
               by true ea (inl u) =
-                  true-false (isOpen (bankOf s (y .bank))) (open-for j y le ey lower) (subst (λ (b : ℕ). isOpen (bankOf s b) ≡ false) u (shut-for (is-act (x .kind) ea)))
+                  true-false (isOpen (bankOf s (y .bank))) (open-for j y le ey lower)
+                  (subst (λ (b : ℕ). isOpen (bankOf s b) ≡ false) u (shut-for (is-act (x .kind) ea)))
 
       -- when a REF goes, no data command of an earlier transaction is due
       act-refs : x .kind ≡ Ref → (j : ℕ) (y : Due) → s .datas ≤ j → getElem? (dataQueue τ l) j ≡ some y → x .number ≤ y .number
@@ -135,7 +141,10 @@ module _ (τ : Table) (rng : Ranges τ) (l : List Transaction) (v : AllFit τ l)
       act-goes =
           record {
             good = (act-good, g .good);
-            counts = λ k b y. more-left (isThe (x .kind) (x .bank) (x .number) k b y) (recordsOf k b y h) (duesOf k b y (take (s .acts) (actQueue τ l))) (duesOf k b y (take (s .datas) (dataQueue τ l))) (duesOf k b y (take (s .acts + 1) (actQueue τ l))) (g .counts k b y) (dues-more k b y (actQueue τ l) (s .acts) x e);
+            counts =
+                λ k b y. more-left (isThe (x .kind) (x .bank) (x .number) k b y) (recordsOf k b y h) (duesOf k b y (take (s .acts) (actQueue τ l)))
+                (duesOf k b y (take (s .datas) (dataQueue τ l))) (duesOf k b y (take (s .acts + 1) (actQueue τ l))) (g .counts k b y)
+                (dues-more k b y (actQueue τ l) (s .acts) x e);
             datas = λ w i d. data-in w i d;
             numbers = λ w i. number-in w i;
             held = act-held;
@@ -150,7 +159,8 @@ module _ (τ : Table) (rng : Ranges τ) (l : List Transaction) (v : AllFit τ l)
           number-in w (inl ew) = record { place = s .acts; due = x; lt = omega arith; there = e; number = ap (λ (c : Command). c .number) (sym ew) }
           number-in w (inr i) = of-later τ l (s .acts) w (g .numbers w i)
 
-          ref-in : (w : Command) → In w (dueAt (s .cycle) x ∷ h) → w .kind ≡ Ref → (j : ℕ) (y : Due) → s .datas ≤ j → getElem? (dataQueue τ l) j ≡ some y → w .number ≤ y .number
+          ref-in : (w : Command) → In w (dueAt (s .cycle) x ∷ h) → w .kind ≡ Ref → (j : ℕ) (y : Due) → s .datas ≤ j → getElem? (dataQueue τ l) j ≡ some y
+              → w .number ≤ y .number
           ref-in w (inl ew) ek j y le ey =
               let k = act-refs (ap (λ (c : Command). c .kind) ew ∙ ek) j y le ey in omega (arith, k, ap (λ (c : Command). c .number) ew)
           ref-in w (inr i) ek j y le ey = g .refs w i ek j y le ey

@@ -3,7 +3,7 @@
 use Prim.Native.Nat.{ℕ, zero, suc, _+_, _-_, _/_, _≤_, _<_}
 use native.Mathlib.Omega.{arith}
 use mathlib.Core.Path.{_≡_, refl, sym, ap, _∙_, subst}
-use mathlib.Core.Logic.{_⊎_, ⊎-elim}
+use mathlib.Core.Logic.{⊎-elim}
 use mathlib.Core.Bool.{false}
 use mathlib.Core.Option.{some, Option·map, map-eq-some-iff}
 use mathlib.Core.List.{List, [], _∷_}
@@ -107,7 +107,9 @@ module _ (τ : Table) (l : List Transaction) (v : AllFit τ l) where
   act-of n d e =
       record {
         its = actDue τ pl;
-        there = ap (getElem? (actQueue τ l)) (a .act) ∙ (act-head τ l (actSum (take (a .y) l) + j) ∙ ap (Option·map (actDue τ)) (find-there actCount l 0 0 (a .y) j (a .x) (a .listed) (omega (arith, a .index, plain-count τ (a .x) (a .fit)))));
+        there =
+            ap (getElem? (actQueue τ l)) (a .act) ∙ (act-head τ l (actSum (take (a .y) l) + j)
+            ∙ ap (Option·map (actDue τ)) (find-there actCount l 0 0 (a .y) j (a .x) (a .listed) (omega (arith, a .index, plain-count τ (a .x) (a .fit)))));
         kind = rw (a .fit .plain);
         bank = rw (a .fit .plain) (sym (a .bank));
         number = omega (arith, a .number);
@@ -128,5 +130,9 @@ module _ (τ : Table) (l : List Transaction) (v : AllFit τ l) where
     where
       on : ((p : Place) × (dataPlace l n ≡ some p) × (dataDue τ p ≡ d)) → (d .act ≡ actOf l n) × (n < dataSum l) × (d .bank ≡ actBank τ l (actOf l n))
       on (p, q, r) =
-          let o : Own τ l 0 n p = subst (OnSome (Own τ l 0 n)) q (data-own τ l v 0 0 n) in
-          (ap (λ (z : Due). z .act) (sym r) ∙ (o .0 ∙ omega arith), omega (arith, in-length (dataQueue τ l) n d e, data-length τ l), ap (λ (z : Due). z .bank) (sym r) ∙ o .1)
+          let o : Own τ l 0 n p = subst (OnSome (Own τ l 0 n)) q (data-own τ l v 0 0 n) in (
+            ap (λ (z : Due). z .act) (sym r) ∙ (o .0 ∙ omega arith),
+            omega (arith, in-length (dataQueue τ l) n d e, data-length τ l),
+            ap (λ (z : Due). z .bank)
+                (sym r) ∙ o .1,
+          )

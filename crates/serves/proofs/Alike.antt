@@ -4,7 +4,7 @@ use Prim.Native.Nat.{ℕ, zero, suc, _+_, _-_, _≤_, _<_}
 use native.Mathlib.Omega.{arith}
 use mathlib.Core.Path.{_≡_, refl, sym, ap, _∙_}
 use mathlib.Core.Bool.{Bool, true, false, _&&_}
-use mathlib.Core.Option.{Option, none, some}
+use mathlib.Core.Option.{some}
 use mathlib.Core.List.{List, [], _∷_}
 use lib.Dec.{eqb}
 use lib.ListN.{getElem?}
@@ -103,7 +103,8 @@ pub found-dues : (k : Kind) (b y : ℕ) (q : List Due) (i : ℕ) (d : Due) → g
 found-dues k b y [] i d e p r s = none-some d e
 found-dues k b y (w ∷ q) zero d e p r s =
     let h : w ≡ d = same-some (some w) w d refl e in
-    rw (of-alike (w .kind) (w .bank) (w .number) k b y (ap (λ (z : Due). z .kind) h ∙ p) (ap (λ (z : Due). z .bank) h ∙ r) (ap (λ (z : Due). z .number) h ∙ s)) (omega arith)
+    rw (of-alike (w .kind) (w .bank) (w .number) k b y (ap (λ (z : Due). z .kind) h ∙ p) (ap (λ (z : Due). z .bank) h ∙ r) (ap (λ (z : Due). z .number) h ∙ s))
+    (omega arith)
 found-dues k b y (w ∷ q) (suc i) d e p r s = up (isThe (w .kind) (w .bank) (w .number) k b y) (found-dues k b y q i d e p r s)
   where
     up : (z : Bool) → 1 ≤ duesOf k b y q → 1 ≤ addIf z (duesOf k b y q)

@@ -51,7 +51,9 @@ module _ (τ : Table) (acc : Accepted τ) (l : List Transaction) (fit : listFits
 
   module _ (rs : List Command) (b : Built τ l rs) where
     all : Going τ l (stateAt τ acc l fit (b .cycles) .acts) (stateAt τ acc l fit (b .cycles) .datas) (onto rs [])
-    all = subst (Going τ l (stateAt τ acc l fit (b .cycles) .acts) (stateAt τ acc l fit (b .cycles) .datas)) (sym (built-history τ acc l fit rs b)) (going τ rng l v (b .cycles))
+    all =
+        subst (Going τ l (stateAt τ acc l fit (b .cycles) .acts) (stateAt τ acc l fit (b .cycles) .datas)) (sym (built-history τ acc l fit rs b))
+        (going τ rng l v (b .cycles))
 
     at : (i : ℕ) (r : Command) → Stands rs i r → GoodAt τ l r (onto (take i rs) [])
     at = good-at rs [] (all .good)
@@ -60,8 +62,10 @@ module _ (τ : Table) (acc : Accepted τ) (l : List Transaction) (fit : listFits
     unfolding dueUnder
     as-due k c x =
         let e = all-gone τ acc l fit rs b in
-        let a : take (stateAt τ acc l fit (b .cycles) .acts) (actQueue τ l) ≡ actQueue τ l = take-all (stateAt τ acc l fit (b .cycles) .acts) (actQueue τ l) (omega (arith, e .1, act-length τ l)) in
-        let d : take (stateAt τ acc l fit (b .cycles) .datas) (dataQueue τ l) ≡ dataQueue τ l = take-all (stateAt τ acc l fit (b .cycles) .datas) (dataQueue τ l) (omega (arith, e .0, data-length τ l)) in
+        let a : take (stateAt τ acc l fit (b .cycles) .acts) (actQueue τ l) ≡ actQueue τ l = take-all (stateAt τ acc l fit (b .cycles) .acts) (actQueue τ l)
+        (omega (arith, e .1, act-length τ l)) in
+        let d : take (stateAt τ acc l fit (b .cycles) .datas) (dataQueue τ l) ≡ dataQueue τ l = take-all (stateAt τ acc l fit (b .cycles) .datas) (dataQueue τ l)
+        (omega (arith, e .0, data-length τ l)) in
         omega (arith, records-turn k c x rs, all .counts k c x, ap (duesOf k c x) a, ap (duesOf k c x) d)
 
     inside : (i : ℕ) (r : Command) → Stands rs i r → r .number < length l

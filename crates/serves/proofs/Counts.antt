@@ -1,6 +1,6 @@
 -- The counts agree with what is due exactly when each command of the transaction occurs as often as it is due.
 -- Assumes nothing.
-use Prim.Native.Nat.{ℕ, _+_, _*_, _≤_, _<_}
+use Prim.Native.Nat.{ℕ, _+_, _≤_, _<_}
 use native.Mathlib.Omega.{arith}
 use mathlib.Core.Path.{_≡_, refl, sym, ap, _∙_}
 use mathlib.Core.Logic.{_≢_, _⊎_, inl, inr, ⊎-elim}
@@ -15,7 +15,7 @@ use Rattle.records.specs.declared.transaction.Transaction.{Transaction}
 use Rattle.records.specs.declared.command.Kind.{Kind}
 use Rattle.records.specs.declared.command.Kind.the-variants.{Act, Rd, Rda, Wr, Wra, Ref, Other}
 use Rattle.records.specs.declared.command.Command.{Command}
-use Rattle.records.specs.Tests.{pick, everyBelow}
+use Rattle.records.specs.Tests.{pick}
 use Rattle.records.specs.Transaction.{isWrite, isRefresh}
 use Rattle.rules.specs.Kinds.{isKnown}
 use Rattle.rules.specs.State.{addIf}
@@ -118,8 +118,11 @@ module _ (τ : Table) (most : τ .banks ≤ 16) (l : List Transaction) (v : AllF
   due-is : (k : Kind) (b : ℕ) → b < τ .banks → dueUnder τ l x k b ≡ dueCount (τ .banks) (at x) (kindCode k) b
   due-is k b hb = due-count τ l x (at x) (fit-at τ l v x (at x) (at-is x lt)) (at-is x lt) k b hb
 
-  pub agrees-once : agrees (τ .banks) (at x) x (slotCount (length l) (onto rs [])) ≡ true → (k : Kind) (b : ℕ) → 1 ≤ dueUnder τ l x k b → recordsOf k b x rs ≡ dueUnder τ l x k b
-  agrees-once e k b d = sym (slot-of k b hc (omega (arith, hb, most))) ∙ (eqb-true (count (slot x (kindCode k) b)) (dueCount (τ .banks) (at x) (kindCode k) b) same ∙ sym (due-is k b hb))
+  pub agrees-once : agrees (τ .banks) (at x) x (slotCount (length l) (onto rs [])) ≡ true → (k : Kind) (b : ℕ) → 1 ≤ dueUnder τ l x k b
+      → recordsOf k b x rs ≡ dueUnder τ l x k b
+  agrees-once e k b d =
+      sym (slot-of k b hc (omega (arith, hb, most)))
+      ∙ (eqb-true (count (slot x (kindCode k) b)) (dueCount (τ .banks) (at x) (kindCode k) b) same ∙ sym (due-is k b hb))
     where
       hb : b < τ .banks
       hb = due-within τ l x (at x) (fit-at τ l v x (at x) (at-is x lt)) (at-is x lt) k b d

@@ -41,7 +41,8 @@ module _ (τ : Table) (x : Transaction) (ok : Fit τ x) (b : ℕ) (hb : b < τ .
   pub index-bank : indexOf (τ .banks) (x .start) b < x .bi → bankAt τ x (indexOf (τ .banks) (x .start) b) ≡ b
   index-bank h = on (leb (x .start) b) refl h
     where
-      on : (z : Bool) → leb (x .start) b ≡ z → pick z (b - x .start) (b + τ .banks - x .start) < x .bi → bankAt τ x (pick z (b - x .start) (b + τ .banks - x .start)) ≡ b
+      on : (z : Bool) → leb (x .start) b ≡ z → pick z (b - x .start) (b + τ .banks - x .start) < x .bi
+          → bankAt τ x (pick z (b - x .start) (b + τ .banks - x .start)) ≡ b
       on true q h = ⊎-elim (λ y. omega (arith, y .1, leb-true (x .start) b q)) (λ y. absurd (omega (arith, y, leb-true (x .start) b q, hb)))
           (round (τ .banks) (x .start + (b - x .start)) (omega (arith, ok .first, leb-true (x .start) b q)))
       on false q h = ⊎-elim (λ y. absurd (omega (arith, y .0, leb-false (x .start) b q, ok .first))) (λ y. omega (arith, y, leb-false (x .start) b q, ok .first))
@@ -90,7 +91,8 @@ module _ (τ : Table) (k : Kind) (b : ℕ) where
     ref-acts : duesOf k b y (actsOf τ x y a) ≡ pick (eqb (kindCode k) 5 && eqb b 0) 1 0
     ref-acts = rw (w .refresh) (on (same? (kindCode k) 5) (same? b 0))
       where
-        on : ((kindCode k ≡ 5) ⊎ (kindCode k ≢ 5)) → ((b ≡ 0) ⊎ (b ≢ 0)) → addIf (eqb 5 (kindCode k) && (eqb 0 b && eqb y y)) 0 ≡ pick (eqb (kindCode k) 5 && eqb b 0) 1 0
+        on : ((kindCode k ≡ 5) ⊎ (kindCode k ≢ 5)) → ((b ≡ 0) ⊎ (b ≢ 0))
+            → addIf (eqb 5 (kindCode k) && (eqb 0 b && eqb y y)) 0 ≡ pick (eqb (kindCode k) 5 && eqb b 0) 1 0
         on (inl e) (inl e') = rw (eq-eqb 5 (kindCode k) (sym e), eq-eqb 0 b (sym e'), eq-eqb y y refl, eq-eqb (kindCode k) 5 e, eq-eqb b 0 e')
         on (inl e) (inr e') = rw (eq-eqb 5 (kindCode k) (sym e), ne-eqb 0 b (λ z. e' (sym z)), eq-eqb (kindCode k) 5 e, ne-eqb b 0 e')
         on (inr e) q = rw (ne-eqb 5 (kindCode k) (λ z. e (sym z)), ne-eqb (kindCode k) 5 e)
@@ -130,7 +132,8 @@ module _ (τ : Table) (k : Kind) (b : ℕ) where
       own-acts : duesOf k b y (actsOf τ x y a) ≡ pick (eqb (kindCode k) 0) 1 0
       own-acts =
           acts-total
-          ∙ (total-one actW (x .bi) 0 idx (λ m p q f. one-bank k b y (act-due x y a m) (λ e. f (bank-index τ x ok b hb m (omega (arith, q)) (sym (plain-bank m) ∙ e)))) (omega arith) (omega (arith, h))
+          ∙ (total-one actW (x .bi) 0 idx (λ m p q f. one-bank k b y (act-due x y a m)
+          (λ e. f (bank-index τ x ok b hb m (omega (arith, q)) (sym (plain-bank m) ∙ e)))) (omega arith) (omega (arith, h))
           ∙ (one-at k b y (act-due x y a idx) (plain-bank idx ∙ index-bank τ x ok b hb h) refl ∙ rw (ok .plain) (turn (same? (kindCode k) 0))))
         where
           turn : ((kindCode k ≡ 0) ⊎ (kindCode k ≢ 0)) → addIf (eqb 0 (kindCode k)) 0 ≡ pick (eqb (kindCode k) 0) 1 0
@@ -153,7 +156,8 @@ module _ (τ : Table) (k : Kind) (b : ℕ) where
       own-datas =
           datas-total
           ∙ (total-one (λ j. duesOf k b y (burstsOf τ x y a j)) (x .bi) 0 idx
-          (λ j p q f. bursts-none x y a y j (λ m. one-bank k b y (data-due x y a j m) (λ e. f (bank-index τ x ok b hb j (omega (arith, q)) e)))) (omega arith) (omega (arith, h))
+          (λ j p q f. bursts-none x y a y j (λ m. one-bank k b y (data-due x y a j m) (λ e. f (bank-index τ x ok b hb j (omega (arith, q)) e)))) (omega arith)
+          (omega (arith, h))
           ∙ own-bursts)
 
 -- ---- the law

@@ -49,7 +49,15 @@ spot f (x ∷ l) i a n =
     on-pick (Spot f (x ∷ l) i a n) (ltb n (f x)) (placeOf x i a n) (find f l (suc i) (a + actCount x) (n - f x))
     (λ e. record { y = 0; ahead = omega arith; number = omega arith; listed = refl; count = omega arith; in' = ltb-true n (f x) e })
     (λ e. on-map {P = Spot f l (suc i) (a + actCount x) (n - f x)} {Q = Spot f (x ∷ l) i a n} (find f l (suc i) (a + actCount x) (n - f x))
-    (λ p s. record { y = suc (s .y); ahead = omega (arith, s .ahead); number = omega (arith, s .number); listed = s .listed; count = omega (arith, s .count, ltb-false n (f x) e); in' = s .in' })
+    (λ p s. record {
+      y = suc (s .y);
+      ahead = omega (arith, s .ahead);
+      number = omega (arith, s .number);
+      listed = s .listed;
+      count = omega
+          (arith, s .count, ltb-false n (f x) e);
+      in' = s .in';
+    })
     (spot f l (suc i) (a + actCount x) (n - f x)))
 
 pub sum-up : (f : Transaction → ℕ) (l : List Transaction) (y z : ℕ) (x : Transaction) → getElem? l y ≡ some x → y < z → sum f (take y l) + f x ≤ sum f (take z l)
@@ -142,7 +150,8 @@ module _ (τ : Table) (l : List Transaction) (v : AllFit τ l) where
   entryKey n d e = keyAt (e .y) (e .o / e .x .bc) (lastOne (e .x .bc) (e .o))
 
   -- of two places the later has the greater key, or the commands there are alike
-  pub entries : (n n' : ℕ) (d d' : Due) (e : Entry n d) (e' : Entry n' d') → n < n' → (entryKey n d e < entryKey n' d' e') ⊎ Alike (d .kind) (d .bank) (d .number) (d' .kind) (d' .bank) (d' .number)
+  pub entries : (n n' : ℕ) (d d' : Due) (e : Entry n d) (e' : Entry n' d') → n < n'
+      → (entryKey n d e < entryKey n' d' e') ⊎ Alike (d .kind) (d .bank) (d .number) (d' .kind) (d' .bank) (d' .number)
   entries n n' d d' e e' h = on (from? (e .y) (e' .y))
     where
       R : Type 0
@@ -169,13 +178,17 @@ module _ (τ : Table) (l : List Transaction) (v : AllFit τ l) where
                   (subst (λ (z : Bool). keyAt (e .y) (e .o / e .x .bc) false < keyAt (e' .y) (e' .o / e' .x .bc) z) (sym ez') (omega (arith, ey, ej, j'))))
               last-or false ez' ej ez =
                   inr (record {
-                    kind = e .kind ∙ (ap (dataKind (isWrite (e .x))) (ez ∙ sym ez') ∙ (ap (λ (x : Transaction). dataKind (isWrite x) (lastOne (e' .x .bc) (e' .o))) ex ∙ sym (e' .kind)));
+                    kind =
+                        e .kind ∙ (ap (dataKind (isWrite (e .x))) (ez ∙ sym ez')
+                        ∙ (ap (λ (x : Transaction). dataKind (isWrite x) (lastOne (e' .x .bc) (e' .o))) ex ∙ sym (e' .kind)));
                     bank = e .bank ∙ (ap (bankAt τ (e .x)) (ej ∙ j') ∙ (ap (λ (x : Transaction). bankAt τ x (e' .o / e' .x .bc)) ex ∙ sym (e' .bank)));
                     number = e .number ∙ (ey ∙ sym (e' .number));
                   })
 
               split-o : (e .o / e .x .bc < e' .o / e .x .bc) ⊎ ((e .o / e .x .bc ≡ e' .o / e .x .bc) × (lastOne (e .x .bc) (e .o) ≡ false)) → R
-              split-o (inl z) = inl (key-same (e .y) (e .o / e .x .bc) (lastOne (e .x .bc) (e .o)) (e' .y) (e' .o / e' .x .bc) (lastOne (e' .x .bc) (e' .o)) ey (omega (arith, z, j')))
+              split-o (inl z) =
+                  inl (key-same (e .y) (e .o / e .x .bc) (lastOne (e .x .bc) (e .o)) (e' .y) (e' .o / e' .x .bc) (lastOne (e' .x .bc) (e' .o)) ey
+                  (omega (arith, z, j')))
               split-o (inr (ej, ez)) = last-or (lastOne (e' .x .bc) (e' .o)) refl ej ez
 
       on : (e .y < e' .y) ⊎ ((d : ℕ) × (e .y ≡ e' .y + d)) → R

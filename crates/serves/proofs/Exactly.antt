@@ -52,7 +52,8 @@ module _ (τ : Table) (l : List Transaction) (rs : List Command) where
         refBefore = λ i j r w p e q h. before i j r w p e q h (from? i j);
       }
     where
-      is-due : (i : ℕ) (r : Command) → Stands rs i r → (dueUnder τ l (r .number) (r .kind) (r .bank) < 1) ⊎ ((d : ℕ) × (dueUnder τ l (r .number) (r .kind) (r .bank) ≡ 1 + d))
+      is-due : (i : ℕ) (r : Command) → Stands rs i r
+          → (dueUnder τ l (r .number) (r .kind) (r .bank) < 1) ⊎ ((d : ℕ) × (dueUnder τ l (r .number) (r .kind) (r .bank) ≡ 1 + d))
           → 1 ≤ dueUnder τ l (r .number) (r .kind) (r .bank)
       is-due i r p (inl z) = absurd (s .2 (r .number) (s .1 i r p) (notItsOwn i r p refl (omega (arith, z))))
       is-due i r p (inr z) = omega (arith, z .1)
@@ -69,7 +70,8 @@ module _ (τ : Table) (l : List Transaction) (rs : List Command) where
       own-act : (i : ℕ) (r : Command) → Stands rs i r → isData (r .kind) ≡ true → actBefore rs i (r .bank) ≡ some (r .number)
       own-act i r p d =
           let o = opened τ r (onto (take i rs) []) (stands-lawful τ rs (s .0) i r p) d in
-          ⊎-elim (λ e. o .1 ∙ ap (λ (y : ℕ). some y) e) (λ f. absurd (s .2 (r .number) (s .1 i r p) (otherNumber i (o .0) r p refl d (o .1) f))) (same? (o .0) (r .number))
+          ⊎-elim (λ e. o .1 ∙ ap (λ (y : ℕ). some y) e) (λ f. absurd (s .2 (r .number) (s .1 i r p) (otherNumber i (o .0) r p refl d (o .1) f)))
+          (same? (o .0) (r .number))
 
       -- two records at one place are one
       one-record : (i j : ℕ) (r w : Command) → Stands rs i r → Stands rs j w → j ≡ i → r .number ≡ w .number

@@ -2,7 +2,7 @@
 -- Assumes nothing.
 use Prim.Native.Nat.{ℕ, zero, suc, _+_, _≤_, _<_}
 use native.Mathlib.Omega.{arith}
-use mathlib.Core.Path.{_≡_, refl, sym, ap, _∙_, subst}
+use mathlib.Core.Path.{_≡_, refl, sym, ap, _∙_}
 use mathlib.Core.Logic.{_≢_, _⊎_, inl, inr, ⊎-elim}
 use mathlib.Core.Bool.{Bool, true, false, not, _&&_, _||_}
 use mathlib.Core.Option.{Option, none, some}
@@ -26,7 +26,7 @@ use Rattle.serves.specs.Serves.{recordsOf, dueUnder, Stands, latestAct, 
 use Rattle.serves.specs.Check.{lastOf, refOf, mostBelow, another, inside, highOf, slotCount, dueOf, keyIn, placed, topOf, faulty, agrees, wrong}
 use Rattle.serves.proofs.Tests.{or-left, or-right, or-of}
 use Rattle.serves.proofs.Alike.{records-found}
-use Rattle.serves.proofs.Records.{Somewhere, Before, stands-of, before-at, earlier-of, earlier-at, stands-below, all-length, before-length}
+use Rattle.serves.proofs.Records.{Somewhere, Before, stands-of, before-at, earlier-of, earlier-at, stands-below, before-length}
 use Rattle.serves.proofs.Least.{most-has, has-most, below-most, Below, most-below, Fails, NumberedAt, RefAt, last-over, last-some, ref-under, ref-some}
 use Rattle.serves.proofs.Order.{due-of, placed-of, of-placed, later-key, key-later}
 use Rattle.serves.proofs.Counts.{Miscounted, agrees-once, agrees-not}
@@ -88,11 +88,13 @@ module _ (τ : Table) (most : τ .banks ≤ 16) (l : List Transaction) (v : AllF
   faulty-at : (x i : ℕ) (r : Command) → Stands rs i r → r .number ≡ x → faulty B N at r (onto (take i rs) []) ≡ true → Hit x
   faulty-at x i r s e f = passed (before-at (Fails (faulty B N at) x) rs [] i r s (e, f))
 
-  data-at : (x i : ℕ) (r : Command) → Stands rs i r → r .number ≡ x → isData (r .kind) ≡ true → (t2 r (onto (take i rs) []) || t3 r (onto (take i rs) [])) ≡ true → Hit x
+  data-at : (x i : ℕ) (r : Command) → Stands rs i r → r .number ≡ x → isData (r .kind) ≡ true → (t2 r (onto (take i rs) []) || t3 r (onto (take i rs) [])) ≡ true
+      → Hit x
   data-at x i r s e d f =
       let h = onto (take i rs) [] in
       faulty-at x i r s e
-      (or-right (t1 r) ((isData (r .kind) && (t2 r h || t3 r h)) || t4 r h) (or-left (isData (r .kind) && (t2 r h || t3 r h)) (t4 r h) (and-both (isData (r .kind)) (t2 r h || t3 r h) d f)))
+      (or-right (t1 r) ((isData (r .kind) && (t2 r h || t3 r h)) || t4 r h)
+      (or-left (isData (r .kind) && (t2 r h || t3 r h)) (t4 r h) (and-both (isData (r .kind)) (t2 r h || t3 r h) d f)))
 
   miscount : (x : ℕ) → x < length l → (k : Kind) (b : ℕ) → 1 ≤ dueUnder τ l x k b → recordsOf k b x rs ≢ dueUnder τ l x k b → Hit x
   miscount x lt k b d f = on (agrees B (at x) x (slotCount N H)) refl
@@ -106,7 +108,8 @@ module _ (τ : Table) (most : τ .banks ≤ 16) (l : List Transaction) (v : AllF
   hit x lt (repeated k b d h) = miscount x lt k b d (λ e. absurd (omega (arith, e, h)))
   hit x lt (notItsOwn i r s e z) =
       let h = onto (take i rs) [] in
-      let d : dueOf B N at r ≡ 0 = sym (due-of τ l v at at-is r (omega (arith, e, lt)) (bank-in i r s)) ∙ (ap (λ (y : ℕ). dueUnder τ l y (r .kind) (r .bank)) e ∙ z) in
+      let d : dueOf B N at r ≡ 0 = sym (due-of τ l v at at-is r (omega (arith, e, lt)) (bank-in i r s))
+      ∙ (ap (λ (y : ℕ). dueUnder τ l y (r .kind) (r .bank)) e ∙ z) in
       faulty-at x i r s e (or-left (t1 r) ((isData (r .kind) && (t2 r h || t3 r h)) || t4 r h) (eq-eqb (dueOf B N at r) 0 d))
   hit x lt (otherNumber i y r s e d a f) =
       let h = onto (take i rs) [] in
@@ -115,14 +118,18 @@ module _ (τ : Table) (most : τ .banks ≤ 16) (l : List Transaction) (v : AllF
       let h = onto (take j rs) [] in
       let pr = placed-of τ l v at at-is r (p .first) in
       let d : isData (r .kind) ≡ true = and-fst (isData (r .kind)) (not (t1 r)) (and-snd (inside N r) (isData (r .kind) && not (t1 r)) pr) in
-      let k = has-most (placed B N at) (keyIn B N at) (keyIn B N at r) h (earlier-at (λ w. (placed B N at w ≡ true) × (keyIn B N at r < keyIn B N at w)) rs j i w le s (placed-of τ l v at at-is w (p .second), later-key τ l v at at-is r w p)) in
+      let k = has-most (placed B N at) (keyIn B N at) (keyIn B N at r) h
+      (earlier-at (λ w. (placed B N at w ≡ true) × (keyIn B N at r < keyIn B N at w)) rs j i w le s
+      (placed-of τ l v at at-is w (p .second), later-key τ l v at at-is r w p)) in
       data-at x j r s' e d (or-right (t2 r h) (t3 r h) (lt-ltb (keyIn B N at r) (topOf B N at h) k))
   hit x lt (misplaced i j r w s s' ek e (inl (le, g, g'))) =
       let h = onto (take i rs) [] in
-      let k = has-most (inside N) (λ w. w .number + 1) (r .number + 1) h (earlier-at (λ w. (inside N w ≡ true) × (r .number + 1 < w .number + 1)) rs i j w le s' (lt-ltb (w .number) N g', omega (arith, g))) in
+      let k = has-most (inside N) (λ w. w .number + 1) (r .number + 1) h
+      (earlier-at (λ w. (inside N w ≡ true) × (r .number + 1 < w .number + 1)) rs i j w le s' (lt-ltb (w .number) N g', omega (arith, g))) in
       faulty-at x i r s e
       (or-right (t1 r) ((isData (r .kind) && (t2 r h || t3 r h)) || t4 r h)
-      (or-right (isData (r .kind) && (t2 r h || t3 r h)) (t4 r h) (and-both (isRef (r .kind)) (ltb (r .number + 1) (highOf N h)) (ap isRef ek) (lt-ltb (r .number + 1) (highOf N h) k))))
+      (or-right (isData (r .kind) && (t2 r h || t3 r h)) (t4 r h)
+      (and-both (isRef (r .kind)) (ltb (r .number + 1) (highOf N h)) (ap isRef ek) (lt-ltb (r .number + 1) (highOf N h) k))))
   hit x lt (misplaced i j r w s s' ek e (inr (le, g))) =
       let a = ref-under x i H (before-at (RefAt x i) rs [] i r s (e, ap isRef ek, before-length rs i r s)) in
       let b = last-over (w .number) j H (before-at (NumberedAt (w .number) j) rs [] j w s' (refl, before-length rs j w s')) in
@@ -132,7 +139,9 @@ module _ (τ : Table) (most : τ .banks ≤ 16) (l : List Transaction) (v : AllF
   -- ---- found, so at fault
 
   early-fault : (x : ℕ) → early x ≡ true → AtFault τ l rs x
-  early-fault x e = misplaced (r .place) (w .place) (r .one) (w .one) (r .stands) (w .stands) (is-ref (r .one .kind) (r .has .1)) (r .has .0) (inr (omega (arith, at-r, at-w, q .over), omega (arith, r .has .0, w .has .0, q .below)))
+  early-fault x e =
+      misplaced (r .place) (w .place) (r .one) (w .one) (r .stands) (w .stands) (is-ref (r .one .kind) (r .has .1)) (r .has .0)
+      (inr (omega (arith, at-r, at-w, q .over), omega (arith, r .has .0, w .has .0, q .below)))
     where
       q : Below (λ y. lastOf y H) x (refOf x H)
       q = most-below (λ y. lastOf y H) x (refOf x H) (ltb-true (refOf x H) (mostBelow (λ y. lastOf y H) x) e)
@@ -191,10 +200,13 @@ module _ (τ : Table) (most : τ .banks ≤ 16) (l : List Transaction) (v : AllF
 
     order : t1 r ≡ false → isData (r .kind) ≡ true → t3 r h ≡ true → AtFault τ l rs x
     order nz d e =
-        let q = earlier-of (λ w. (placed B N at w ≡ true) × (keyIn B N at r < keyIn B N at w)) rs (a .place) (most-has (placed B N at) (keyIn B N at) (keyIn B N at r) h (ltb-true (keyIn B N at r) (topOf B N at h) e)) in
-        let pr : placed B N at r ≡ true = and-both (inside N r) (isData (r .kind) && not (t1 r)) (lt-ltb (r .number) N hn) (and-both (isData (r .kind)) (not (t1 r)) d (ap not nz)) in
+        let q = earlier-of (λ w. (placed B N at w ≡ true) × (keyIn B N at r < keyIn B N at w)) rs (a .place)
+        (most-has (placed B N at) (keyIn B N at) (keyIn B N at r) h (ltb-true (keyIn B N at r) (topOf B N at h) e)) in
+        let pr : placed B N at r ≡ true = and-both (inside N r) (isData (r .kind) && not (t1 r)) (lt-ltb (r .number) N hn)
+        (and-both (isData (r .kind)) (not (t1 r)) d (ap not nz)) in
         outOfOrder (q .place) (a .place) (q .one) r (q .stands) (a .stands) (q .earlier) (a .has .0)
-        (key-later τ l v at at-is r (q .one) (of-placed τ l v at at-is r hb pr) (of-placed τ l v at at-is (q .one) (bank-in (q .place) (q .one) (q .stands)) (q .has .0)) (q .has .1))
+        (key-later τ l v at at-is r (q .one) (of-placed τ l v at at-is r hb pr)
+        (of-placed τ l v at at-is (q .one) (bank-in (q .place) (q .one) (q .stands)) (q .has .0)) (q .has .1))
 
     by-data : (b : Bool) → t1 r ≡ b → isData (r .kind) ≡ true → ((t2 r h ≡ true) ⊎ (t3 r h ≡ true)) → AtFault τ l rs x
     by-data true z d e = stray z
@@ -205,15 +217,22 @@ module _ (τ : Table) (most : τ .banks ≤ 16) (l : List Transaction) (v : AllF
 
     by-ref : isRef (r .kind) ≡ true → r .number + 1 < highOf N h → AtFault τ l rs x
     by-ref ek e =
-        let q = earlier-of (λ w. (inside N w ≡ true) × (r .number + 1 < w .number + 1)) rs (a .place) (most-has (inside N) (λ w. w .number + 1) (r .number + 1) h e) in
-        misplaced (a .place) (q .place) r (q .one) (a .stands) (q .stands) (is-ref (r .kind) ek) (a .has .0) (inl (q .earlier, omega (arith, q .has .1), ltb-true (q .one .number) N (q .has .0)))
+        let q = earlier-of (λ w. (inside N w ≡ true) × (r .number + 1 < w .number + 1)) rs (a .place)
+        (most-has (inside N) (λ w. w .number + 1) (r .number + 1) h e) in
+        misplaced (a .place) (q .place) r (q .one) (a .stands) (q .stands) (is-ref (r .kind) ek) (a .has .0)
+        (inl (q .earlier, omega (arith, q .has .1), ltb-true (q .one .number) N (q .has .0)))
 
     further : ((isData (r .kind) && (t2 r h || t3 r h)) ≡ true) ⊎ (t4 r h ≡ true) → AtFault τ l rs x
-    further (inl e) = by-data (t1 r) refl (and-fst (isData (r .kind)) (t2 r h || t3 r h) e) (or-of (t2 r h) (t3 r h) (and-snd (isData (r .kind)) (t2 r h || t3 r h) e))
-    further (inr e) = by-ref (and-fst (isRef (r .kind)) (ltb (r .number + 1) (highOf N h)) e) (ltb-true (r .number + 1) (highOf N h) (and-snd (isRef (r .kind)) (ltb (r .number + 1) (highOf N h)) e))
+    further (inl e) =
+        by-data (t1 r) refl (and-fst (isData (r .kind)) (t2 r h || t3 r h) e) (or-of (t2 r h) (t3 r h) (and-snd (isData (r .kind)) (t2 r h || t3 r h) e))
+    further (inr e) =
+        by-ref (and-fst (isRef (r .kind)) (ltb (r .number + 1) (highOf N h)) e)
+        (ltb-true (r .number + 1) (highOf N h) (and-snd (isRef (r .kind)) (ltb (r .number + 1) (highOf N h)) e))
 
     failed : AtFault τ l rs x
-    failed = ⊎-elim stray (λ e. further (or-of (isData (r .kind) && (t2 r h || t3 r h)) (t4 r h) e)) (or-of (t1 r) ((isData (r .kind) && (t2 r h || t3 r h)) || t4 r h) (a .has .1))
+    failed =
+        ⊎-elim stray (λ e. further (or-of (isData (r .kind) && (t2 r h || t3 r h)) (t4 r h) e))
+        (or-of (t1 r) ((isData (r .kind) && (t2 r h || t3 r h)) || t4 r h) (a .has .1))
 
   pub fault : (x : ℕ) → x < length l → Hit x → AtFault τ l rs x
   fault x lt (passed w) = failed x lt (stands-of (Fails (faulty B N at) x) rs w)

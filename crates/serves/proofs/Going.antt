@@ -104,7 +104,8 @@ module _ (τ : Table) (l : List Transaction) where
   of-later a w n = record { place = n .place; due = n .due; lt = omega (arith, n .lt); there = n .there; number = n .number }
 
   -- a data command is none of the ACT queue
-  pub data-kind-at : AllFit τ l → (n : ℕ) (x : Due) → getElem? (dataQueue τ l) n ≡ some x → (isData (x .kind) ≡ true) × (isAct (x .kind) ≡ false) × (isRef (x .kind) ≡ false)
+  pub data-kind-at : AllFit τ l → (n : ℕ) (x : Due) → getElem? (dataQueue τ l) n ≡ some x
+      → (isData (x .kind) ≡ true) × (isAct (x .kind) ≡ false) × (isRef (x .kind) ≡ false)
   data-kind-at v n x e =
       let a = entry τ l v n x e in
       let w = isWrite (a .x) in

@@ -4,7 +4,7 @@ use Prim.Native.Nat.{ℕ, zero, suc, _+_, _≤_, _<_}
 use native.Mathlib.Omega.{arith}
 use mathlib.Core.Path.{_≡_, refl, sym, ap, _∙_, subst}
 use mathlib.Core.Logic.{inl, inr}
-use mathlib.Core.Bool.{Bool, true, false, _&&_}
+use mathlib.Core.Bool.{Bool, true, false}
 use mathlib.Core.Option.{Option, none, some}
 use mathlib.Core.List.{List, [], _∷_}
 use lib.Dec.{eqb}
@@ -39,9 +39,6 @@ use Rattle.serves.proofs.ActGoes.{act-goes}
 module _ (τ : Table) (rng : Ranges τ) (l : List Transaction) (v : AllFit τ l) where
   module _ (s : State) (h : List Command) (g : Going τ l (s .acts) (s .datas) h) (x : Due) where
     module _ (e : getElem? (dataQueue τ l) (s .datas) ≡ some x) (had : x .act < s .acts) where
-      isD : isData (x .kind) ≡ true
-      isD = data-kind-at τ l v (s .datas) x e .0
-
       data-good : GoodAt τ l (dueAt (s .cycle) x) h
       unfolding dueUnder
       data-good =
@@ -68,7 +65,8 @@ module _ (τ : Table) (rng : Ranges τ) (l : List Transaction) (v : AllFit τ l)
               by : (z : Bool) → isThe (w .kind) (w .bank) (w .number) (x .kind) (x .bank) (x .number) ≡ z → ⊥
               by true z =
                   let k = alike-of (w .kind) (w .bank) (w .number) (x .kind) (x .bank) (x .number) z in
-                  true-false (isThe (x .kind) (x .bank) (x .number) (w .kind) (w .bank) (w .number)) (of-alike (x .kind) (x .bank) (x .number) (w .kind) (w .bank) (w .number) (sym (k .kind)) (sym (k .bank)) (sym (k .number))) (p .unlike)
+                  true-false (isThe (x .kind) (x .bank) (x .number) (w .kind) (w .bank) (w .number))
+                  (of-alike (x .kind) (x .bank) (x .number) (w .kind) (w .bank) (w .number) (sym (k .kind)) (sym (k .bank)) (sym (k .number))) (p .unlike)
               by false z =
                   let a = later-key τ l v (atIn l) (at-in l) (dueAt (s .cycle) x) w p in
                   let c = later-key τ l v (atIn l) (at-in l) w (dueAt (s .cycle) x) (record { first = earlier; second = here; later = b .lt; unlike = z }) in
@@ -78,7 +76,10 @@ module _ (τ : Table) (rng : Ranges τ) (l : List Transaction) (v : AllFit τ l)
       data-goes =
           record {
             good = (data-good, g .good);
-            counts = λ k b y. more-right (isThe (x .kind) (x .bank) (x .number) k b y) (recordsOf k b y h) (duesOf k b y (take (s .acts) (actQueue τ l))) (duesOf k b y (take (s .datas) (dataQueue τ l))) (duesOf k b y (take (s .datas + 1) (dataQueue τ l))) (g .counts k b y) (dues-more k b y (dataQueue τ l) (s .datas) x e);
+            counts =
+                λ k b y. more-right (isThe (x .kind) (x .bank) (x .number) k b y) (recordsOf k b y h) (duesOf k b y (take (s .acts) (actQueue τ l)))
+                (duesOf k b y (take (s .datas) (dataQueue τ l))) (duesOf k b y (take (s .datas + 1) (dataQueue τ l))) (g .counts k b y)
+                (dues-more k b y (dataQueue τ l) (s .datas) x e);
             datas = λ w i d. data-in w i d;
             numbers = λ w i. number-in w i;
             held = λ j y le ey lt. rw (data-kind-at τ l v (s .datas) x e .1, and-false (eqb (x .bank) (y .bank))) (g .held j y (omega (arith, le)) ey lt);
@@ -87,7 +88,21 @@ module _ (τ : Table) (rng : Ranges τ) (l : List Transaction) (v : AllFit τ l)
         where
           data-in : (w : Command) → In w (dueAt (s .cycle) x ∷ h) → isData (w .kind) ≡ true → DataBefore τ l (s .datas + 1) w
           data-in w (inl ew) d =
-              record { place = s .datas; due = x; lt = omega arith; there = e; kind = ap (λ (c : Command). c .kind) (sym ew); bank = ap (λ (c : Command). c .bank) (sym ew); number = ap (λ (c : Command). c .number) (sym ew) }
+              record {
+                place =
+                    s .datas;
+                due =
+                    x;
+                lt =
+                    omega arith;
+                there =
+                    e;
+                kind =
+                    ap (λ (c : Command). c .kind) (sym ew);
+                bank = ap (λ (c : Command). c .bank) (sym ew);
+                number = ap (λ (c : Command). c .number)
+                    (sym ew);
+              }
           data-in w (inr i) d =
               let b = g .datas w i d in
               record { place = b .place; due = b .due; lt = omega (arith, b .lt); there = b .there; kind = b .kind; bank = b .bank; number = b .number }
@@ -98,7 +113,8 @@ module _ (τ : Table) (rng : Ranges τ) (l : List Transaction) (v : AllFit τ l)
               record { place = x .act; due = its .its; lt = had; there = its .there; number = ap (λ (c : Command). c .number) (sym ew) ∙ sym (its .number) }
           number-in w (inr i) = g .numbers w i
 
-          ref-in : (w : Command) → In w (dueAt (s .cycle) x ∷ h) → w .kind ≡ Ref → (j : ℕ) (y : Due) → s .datas + 1 ≤ j → getElem? (dataQueue τ l) j ≡ some y → w .number ≤ y .number
+          ref-in : (w : Command) → In w (dueAt (s .cycle) x ∷ h) → w .kind ≡ Ref → (j : ℕ) (y : Due) → s .datas + 1 ≤ j → getElem? (dataQueue τ l) j ≡ some y
+              → w .number ≤ y .number
           ref-in w (inl ew) ek j y le ey = true-false (isRef (x .kind)) (ap isRef (ap (λ (c : Command). c .kind) ew ∙ ek)) (data-kind-at τ l v (s .datas) x e .2)
           ref-in w (inr i) ek j y le ey = g .refs w i ek j y (omega (arith, le)) ey
 

@@ -2,8 +2,8 @@
 -- Assumes nothing.
 use Prim.Native.Nat.{ℕ, zero, suc, _+_, _≤_, _<_, min, max}
 use native.Mathlib.Omega.{arith}
-use mathlib.Core.Path.{_≡_, refl, sym, ap, _∙_, subst}
-use mathlib.Core.Logic.{_≢_, _⊎_, inl, inr, ⊎-elim}
+use mathlib.Core.Path.{_≡_, refl, ap, subst}
+use mathlib.Core.Logic.{_⊎_, inl, inr, ⊎-elim}
 use mathlib.Core.Bool.{Bool, true, false, not, _&&_, _||_}
 use mathlib.Core.List.{List, [], _∷_}
 use lib.Dec.{ltb, eqb}
@@ -12,7 +12,7 @@ use borrow.Author.Tests.{ltb-true, ltb-false, eqb-true, lt-ltb, eq-eqb}
 use Rattle.records.specs.declared.command.Command.{Command}
 use Rattle.records.specs.Tests.{pick}
 use Rattle.rules.specs.Kinds.{isRef}
-use Rattle.rules.proofs.TestLaws.{true-false, and-fst, and-snd, and-both}
+use Rattle.rules.proofs.TestLaws.{true-false, and-fst, and-snd}
 use Rattle.rules.proofs.Numbers.{from?}
 use Rattle.serves.specs.Check.{mostOf, lastOf, refOf, mostBelow, anyOutside, leastBy}
 use Rattle.serves.proofs.Records.{Somewhere, Has}
@@ -86,7 +86,8 @@ module _ (n : ℕ) (bad : Command → List Command → Bool) where
       L : ℕ
       L = leastBy n bad t
 
-      lower : (b : Bool) → ltb (r .number) L ≡ b → bad r t ≡ true → min (r .number) L < n → (L < n → Somewhere (Fails bad L) t) → Somewhere (Fails bad (min (r .number) L)) (r ∷ t)
+      lower : (b : Bool) → ltb (r .number) L ≡ b → bad r t ≡ true → min (r .number) L < n → (L < n → Somewhere (Fails bad L) t)
+          → Somewhere (Fails bad (min (r .number) L)) (r ∷ t)
       lower true e p h ih = let z : r .number ≡ min (r .number) L = omega (arith, ltb-true (r .number) L e) in inl (z, p)
       lower false e p h ih =
           let z : L ≡ min (r .number) L = omega (arith, ltb-false (r .number) L e) in
@@ -151,7 +152,12 @@ ref-some x (r ∷ h) p = on (eqb (r .number) x && isRef (r .kind)) refl p (ref-s
         let z : M ≡ min (length h) M = omega (arith, ltb-true M (length h) e) in
         inr (subst (λ (i : ℕ). Somewhere (RefAt x i) h) z (ih (omega (arith, z, q))))
     first false e p ih q =
-        inl (eqb-true (r .number) x (and-fst (eqb (r .number) x) (isRef (r .kind)) p), and-snd (eqb (r .number) x) (isRef (r .kind)) p, omega (arith, ltb-false M (length h) e))
+        inl (
+          eqb-true (r .number) x (and-fst (eqb (r .number) x) (isRef (r .kind)) p),
+          and-snd (eqb (r .number) x) (isRef (r .kind)) p,
+          omega
+              (arith, ltb-false M (length h) e),
+        )
 
     on : (b : Bool) → (eqb (r .number) x && isRef (r .kind)) ≡ b → pick b (min (length h) M) M < 69632 → (M < 69632 → Somewhere (RefAt x M) h)
         → Somewhere (RefAt x (pick b (min (length h) M) M)) (r ∷ h)
@@ -165,7 +171,8 @@ module _ (n : ℕ) where
   out-some [] e = true-false false e refl
   out-some (r ∷ h) e = on (ltb (r .number) n) refl e (out-some h)
     where
-      on : (b : Bool) → ltb (r .number) n ≡ b → (not b || anyOutside n h) ≡ true → (anyOutside n h ≡ true → Has (λ r. n ≤ r .number) h) → Has (λ r. n ≤ r .number) (r ∷ h)
+      on : (b : Bool) → ltb (r .number) n ≡ b → (not b || anyOutside n h) ≡ true → (anyOutside n h ≡ true → Has (λ r. n ≤ r .number) h)
+          → Has (λ r. n ≤ r .number) (r ∷ h)
       on true q e ih = inr (ih e)
       on false q e ih = inl (ltb-false (r .number) n q)
 
@@ -173,7 +180,8 @@ module _ (n : ℕ) where
   some-out [] e w = w
   some-out (r ∷ h) e w = on (ltb (r .number) n) refl e (some-out h) w
     where
-      on : (b : Bool) → ltb (r .number) n ≡ b → (not b || anyOutside n h) ≡ false → (anyOutside n h ≡ false → Has (λ r. n ≤ r .number) h → ⊥) → Has (λ r. n ≤ r .number) (r ∷ h) → ⊥
+      on : (b : Bool) → ltb (r .number) n ≡ b → (not b || anyOutside n h) ≡ false → (anyOutside n h ≡ false → Has (λ r. n ≤ r .number) h → ⊥)
+          → Has (λ r. n ≤ r .number) (r ∷ h) → ⊥
       on true q e ih (inl z) = absurd (omega (arith, z, ltb-true (r .number) n q))
       on true q e ih (inr z) = ih e z
       on false q e ih z = true-false true refl e

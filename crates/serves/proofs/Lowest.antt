@@ -1,9 +1,9 @@
 -- The lowest number that the pass and the scan find is the lowest transaction at fault.
 -- Assumes nothing.
-use Prim.Native.Nat.{ℕ, _+_, _≤_, _<_}
+use Prim.Native.Nat.{ℕ, _≤_, _<_}
 use native.Mathlib.Omega.{arith}
 use mathlib.Core.Path.{_≡_, refl, subst}
-use mathlib.Core.Logic.{_⊎_, inl, inr, ⊎-elim}
+use mathlib.Core.Logic.{inl, inr, ⊎-elim}
 use mathlib.Core.Bool.{Bool, true, false}
 use mathlib.Core.Option.{some}
 use mathlib.Core.List.{List, []}
@@ -51,7 +51,8 @@ module _ (τ : Table) (most : τ .banks ≤ 16) (l : List Transaction) (v : AllF
         subst (Hit τ most l v at at-is rs legal few) e (passed (least-some N bad (onto rs []) (omega (arith, e, h))))) (from? m least)
 
     none-below : (n : ℕ) → n ≤ m → NoneBelow τ l rs n
-    none-below n le x lt f = absurd (omega (arith, lt, le, below x (omega (arith, lt, le, in-list)) (hit τ most l v at at-is rs legal few x (omega (arith, lt, le, in-list)) f)))
+    none-below n le x lt f =
+        absurd (omega (arith, lt, le, below x (omega (arith, lt, le, in-list)) (hit τ most l v at at-is rs legal few x (omega (arith, lt, le, in-list)) f)))
 
     -- the answer says so
     pub says : Says τ l rs (answerOf N m (anyOutside N (onto rs [])))
@@ -64,5 +65,9 @@ module _ (τ : Table) (most : τ .banks ≤ 16) (l : List Transaction) (v : AllF
         on false e true e' =
             let q = stands-of (λ r t. N ≤ r .number) rs (out-some N (onto rs []) e') in
             (legal, inr (refl, none-below N (ltb-false m N e), (q .place, q .one, q .stands, q .has)))
-        on false e false e' =
-            (legal, (λ j r s. ⊎-elim (λ z. z) (λ z. absurd (some-out N (onto rs []) e' (before-at (λ r t. N ≤ r .number) rs [] j r s (omega (arith, z .1))))) (from? (r .number) N)), none-below N (ltb-false m N e))
+        on false e false e' = (
+          legal,
+          (λ j r s. ⊎-elim (λ z. z) (λ z. absurd (some-out N (onto rs []) e' (before-at (λ r t. N ≤ r .number) rs [] j r s (omega (arith, z .1)))))
+              (from? (r .number) N)),
+          none-below N (ltb-false m N e),
+        )

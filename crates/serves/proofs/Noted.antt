@@ -1,11 +1,11 @@
 -- What the pass keeps sums up the records: a turn of it.
 -- Assumes nothing.
-use Prim.Native.Nat.{ℕ, suc, _+_, _≤_, _<_, min, max}
+use Prim.Native.Nat.{ℕ, _+_, _≤_, _<_, min, max}
 use native.Mathlib.Omega.{arith}
-use mathlib.Core.Path.{_≡_, refl, sym, ap, _∙_, subst}
-use mathlib.Core.Logic.{_≢_, _⊎_, inl, inr, ⊎-elim}
+use mathlib.Core.Path.{_≡_, refl, sym, ap, _∙_}
+use mathlib.Core.Logic.{_≢_, ⊎-elim}
 use mathlib.Core.Bool.{Bool, true, false, not, _&&_, _||_}
-use mathlib.Core.Option.{Option, none, some}
+use mathlib.Core.Option.{Option, some}
 use mathlib.Core.List.{List, [], _∷_}
 use lib.Dec.{ltb, eqb}
 use lib.ListN.{length, getD, set, replicate, length-set, length-replicate, getD-replicate}
@@ -25,7 +25,7 @@ use Rattle.rules.proofs.Judged.{in-known}
 use Rattle.serves.specs.declared.turn.Marks.{Marks}
 use Rattle.serves.specs.Serves.{kindCode, latestAct}
 use Rattle.serves.specs.Check.{slot, lastOf, refOf, another, highOf, slotCount, anyOutside, leastBy, dueOf, keyIn, topOf, faulty, faultyBy, marksAfter}
-use Rattle.serves.proofs.Tests.{and-false, same-some, none-some}
+use Rattle.serves.proofs.Tests.{same-some, none-some}
 use Rattle.serves.proofs.Opened.{Lawful, lawful-in, opened}
 
 -- ---- the kinds by their numbers
@@ -60,7 +60,8 @@ data-code (Other n) e = true-false false e refl
 -- ---- one number of an array stored
 
 -- what holds of each number below n, of an array with one stored
-store : (a : List ℕ) (i v : ℕ) (f : ℕ → ℕ) (n : ℕ) → i < length a → f i ≡ v → ((k : ℕ) → k < n → k ≢ i → getD a k 0 ≡ f k) → (k : ℕ) → k < n → getD (set a i v) k 0 ≡ f k
+store : (a : List ℕ) (i v : ℕ) (f : ℕ → ℕ) (n : ℕ) → i < length a → f i ≡ v → ((k : ℕ) → k < n → k ≢ i → getD a k 0 ≡ f k) → (k : ℕ) → k < n
+    → getD (set a i v) k 0 ≡ f k
 store a i v f n h e g k l = ⊎-elim
     (λ z. ap (λ (j : ℕ). getD (set a i v) j 0) z ∙ (getD-set-same a i v 0 h ∙ (sym e ∙ ap f (sym z))))
     (λ z. getD-set-other a i k v 0 z ∙ g k l z) (same? k i)
@@ -177,7 +178,8 @@ module _ (banks n : ℕ) (at : ℕ → Transaction) where
           on true e z e' =
               let o = opened τ r h w e in
               ap (λ (k : Bool). rest k (not (eqb own (r .number))) (eqb c 5)) (sym e')
-              ∙ ap (λ (k : Bool). rest (isData (r .kind)) k (eqb c 5)) (ap (λ (k : ℕ). not (eqb k (r .number))) (q .held (r .bank) (o .0) hb (o .1)) ∙ sym (ap (λ (k : Option ℕ). another k (r .number)) (o .1)))
+              ∙ ap (λ (k : Bool). rest (isData (r .kind)) k (eqb c 5))
+              (ap (λ (k : ℕ). not (eqb k (r .number))) (q .held (r .bank) (o .0) hb (o .1)) ∙ sym (ap (λ (k : Option ℕ). another k (r .number)) (o .1)))
           on false e z e' =
               ap (λ (k : Bool). rest k (not (eqb own (r .number))) (eqb c 5)) (sym e' ∙ e)
               ∙ ap (λ (k : Bool). rest k (another (latestAct (r .bank) h) (r .number)) (eqb c 5)) (sym e)
@@ -185,7 +187,8 @@ module _ (banks n : ℕ) (at : ℕ → Transaction) where
       marked' : marksAfter banks (at (r .number)) c (r .bank) (r .number) own m ≡ marksOf (r ∷ h)
       marked' =
           ap (marksAfter banks (at (r .number)) c (r .bank) (r .number) own) (q .marked)
-          ∙ (ap (λ (z : Bool). inBy z (faultyBy (dueOf banks n at r) c own (r .number) (keyIn banks n at r) (topOf banks n at h) (highOf n h))) (sym (data-code (r .kind) known))
+          ∙ (ap (λ (z : Bool). inBy z (faultyBy (dueOf banks n at r) c own (r .number) (keyIn banks n at r) (topOf banks n at h) (highOf n h)))
+          (sym (data-code (r .kind) known))
           ∙ (ap (inBy (isData (r .kind))) same-fault ∙ ap marksBy (sym (lt-ltb (r .number) n l))))
         where
           -- the marks by whether it is a data command, and faulty
@@ -209,12 +212,18 @@ module _ (banks n : ℕ) (at : ℕ → Transaction) where
               length-set refs (r .number) (pick (eqb c 5) (min place (getD refs (r .number) 0)) (getD refs (r .number) 0)) ∙ q .sizes .3,
             );
             counted = store counts i (getD counts i 0 + 1) (slotCount n (r ∷ h)) 24576 (omega (arith, hi, q .sizes .0)) one-more
-                (λ k b z. q .counted k b ∙ (ap (λ (y : Bool). addIf y (slotCount n h k)) (sym (ne-eqb (slot (r .number) c (r .bank)) k (λ e. z (sym e ∙ sym ei)))) ∙ ap (λ (y : Bool). countsBy y k) (sym yes)));
+                (λ k b z. q .counted k b ∙ (ap (λ (y : Bool). addIf y (slotCount n h k)) (sym (ne-eqb (slot (r .number) c (r .bank)) k (λ e. z (sym e ∙ sym ei))))
+                ∙ ap (λ (y : Bool). countsBy y k) (sym yes)));
             held = held';
-            lasts = store last (r .number) place (λ y. lastOf y (r ∷ h)) n (omega (arith, l, few, q .sizes .2)) (ap (λ (z : Bool). pick z (length h) (lastOf (r .number) h)) (eq-eqb (r .number) (r .number) refl) ∙ sym ep)
+            lasts =
+                store last (r .number) place (λ y. lastOf y (r ∷ h)) n (omega (arith, l, few, q .sizes .2))
+                (ap (λ (z : Bool). pick z (length h) (lastOf (r .number) h)) (eq-eqb (r .number) (r .number) refl) ∙ sym ep)
                 (λ y b z. q .lasts y b ∙ ap (λ (k : Bool). pick k (length h) (lastOf y h)) (sym (ne-eqb (r .number) y (λ e. z (sym e)))));
-            firstRefs = store refs (r .number) (pick (eqb c 5) (min place (getD refs (r .number) 0)) (getD refs (r .number) 0)) (λ x. refOf x (r ∷ h)) n (omega (arith, l, few, q .sizes .3)) ref-now
-                (λ x b z. q .firstRefs x b ∙ ap (λ (k : Bool). pick (k && isRef (r .kind)) (min (length h) (refOf x h)) (refOf x h)) (sym (ne-eqb (r .number) x (λ e. z (sym e)))));
+            firstRefs =
+                store refs (r .number) (pick (eqb c 5) (min place (getD refs (r .number) 0)) (getD refs (r .number) 0)) (λ x. refOf x (r ∷ h)) n
+                (omega (arith, l, few, q .sizes .3)) ref-now
+                (λ x b z. q .firstRefs x b ∙ ap (λ (k : Bool). pick (k && isRef (r .kind)) (min (length h) (refOf x h)) (refOf x h))
+                (sym (ne-eqb (r .number) x (λ e. z (sym e)))));
             marked = marked';
             others = q .others ∙ ap (λ (z : Bool). not z || anyOutside n h) (sym yes);
           }

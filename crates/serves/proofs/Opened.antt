@@ -1,7 +1,7 @@
 -- In a schedule that the judge accepts the records are in the table, and a data command's bank has had an ACT.
 -- Assumes nothing.
 use Prim.Native.Nat.{ℕ}
-use mathlib.Core.Path.{_≡_, refl, sym, ap, _∙_, subst}
+use mathlib.Core.Path.{_≡_, refl, subst}
 use mathlib.Core.Logic.{inl, inr}
 use mathlib.Core.Bool.{Bool, true, false, _&&_}
 use mathlib.Core.Option.{Option, none, some}
@@ -31,7 +31,8 @@ pub record Lawful (τ : Table) (r : Command) (h : List Command) : Type 0 where
   pub before : LegalHistory τ h
 
 -- what holds of each record of a legal history, with those before it
-at-each : (τ : Table) (h : List Command) (P : Command → List Command → Type 0) → ((r : Command) (t : List Command) → Lawful τ r t → P r t) → (r : Command) (t : List Command)
+at-each : (τ : Table) (h : List Command) (P : Command → List Command → Type 0) → ((r : Command) (t : List Command) → Lawful τ r t → P r t)
+    → (r : Command) (t : List Command)
     → LegalHistory τ h → Somewhere (λ w u. (w ≡ r) × (u ≡ t)) h → P r t
 at-each τ [] P f r t k w = absurd w
 at-each τ (c ∷ h) P f r t k (inl (e, e')) =

@@ -67,11 +67,13 @@ module _ (τ : Table) (l : List Transaction) (v : AllFit τ l) (at : ℕ → Tra
   -- ---- due records
 
   pub due-of : (r : Command) → r .number < length l → r .bank < τ .banks → dueUnder τ l (r .number) (r .kind) (r .bank) ≡ dueOf (τ .banks) (length l) at r
-  due-of r h hb = due-count τ l (r .number) (at (r .number)) (fit-at τ l v (r .number) (at (r .number)) (at-is (r .number) h)) (at-is (r .number) h) (r .kind) (r .bank) hb
+  due-of r h hb =
+      due-count τ l (r .number) (at (r .number)) (fit-at τ l v (r .number) (at (r .number)) (at-is (r .number) h)) (at-is (r .number) h) (r .kind) (r .bank) hb
 
   pub data-counted : (k : Kind) (b y : ℕ) → isData k ≡ true → 1 ≤ dueUnder τ l y k b → 1 ≤ duesOf k b y (dataQueue τ l)
   unfolding dueUnder
-  data-counted k b y ed h = ⊎-elim (λ z. omega (arith, z, h)) (λ z. no-act (dues-found k b y (actQueue τ l) (omega (arith, z .1)))) (from? (duesOf k b y (actQueue τ l)) 1)
+  data-counted k b y ed h =
+      ⊎-elim (λ z. omega (arith, z, h)) (λ z. no-act (dues-found k b y (actQueue τ l) (omega (arith, z .1)))) (from? (duesOf k b y (actQueue τ l)) 1)
     where
       no-act : Found k b y (actQueue τ l) → 1 ≤ duesOf k b y (dataQueue τ l)
       no-act f = on (map-eq-some-iff (actDue τ) (actPlace l (f .place)) .0 (sym (act-head τ l (f .place)) ∙ f .there))
@@ -97,8 +99,10 @@ module _ (τ : Table) (l : List Transaction) (v : AllFit τ l) (at : ℕ → Tra
       let hn = ltb-true (r .number) (length l) (and-fst (ltb (r .number) (length l)) (isData (r .kind) && not (eqb (dueOf (τ .banks) (length l) at r) 0)) e) in
       let rest = and-snd (ltb (r .number) (length l)) (isData (r .kind) && not (eqb (dueOf (τ .banks) (length l) at r) 0)) e in
       let dt = and-fst (isData (r .kind)) (not (eqb (dueOf (τ .banks) (length l) at r) 0)) rest in
-      let nz = eqb-false (dueOf (τ .banks) (length l) at r) 0 (not-true (eqb (dueOf (τ .banks) (length l) at r) 0) (and-snd (isData (r .kind)) (not (eqb (dueOf (τ .banks) (length l) at r) 0)) rest)) in
-      let f = dues-found (r .kind) (r .bank) (r .number) (dataQueue τ l) (data-counted (r .kind) (r .bank) (r .number) dt (some-due (from? (dueUnder τ l (r .number) (r .kind) (r .bank)) 1) (λ z. nz (sym (due-of r hn hb) ∙ z)))) in
+      let nz = eqb-false (dueOf (τ .banks) (length l) at r) 0
+      (not-true (eqb (dueOf (τ .banks) (length l) at r) 0) (and-snd (isData (r .kind)) (not (eqb (dueOf (τ .banks) (length l) at r) 0)) rest)) in
+      let f = dues-found (r .kind) (r .bank) (r .number) (dataQueue τ l)
+      (data-counted (r .kind) (r .bank) (r .number) dt (some-due (from? (dueUnder τ l (r .number) (r .kind) (r .bank)) 1) (λ z. nz (sym (due-of r hn hb) ∙ z)))) in
       record { place = f .place; due = f .due; there = f .there; kind = sym (f .alike .kind); bank = sym (f .alike .bank); number = sym (f .alike .number) }
     where
       some-due : {m : ℕ} → (m < 1) ⊎ ((d : ℕ) × (m ≡ 1 + d)) → (m ≡ 0 → ⊥) → 1 ≤ m
@@ -115,34 +119,66 @@ module _ (τ : Table) (l : List Transaction) (v : AllFit τ l) (at : ℕ → Tra
       ⊎-elim
       (λ z. omega (arith, z, key-entry r (a .place) (a .due) ea (a .kind) (a .bank) (a .number), key-entry w (b .place) (b .due) eb (b .kind) (b .bank) (b .number)))
       (λ k. true-false (isThe (r .kind) (r .bank) (r .number) (w .kind) (w .bank) (w .number))
-      (of-alike (r .kind) (r .bank) (r .number) (w .kind) (w .bank) (w .number) (a .kind ∙ (k .kind ∙ sym (b .kind))) (a .bank ∙ (k .bank ∙ sym (b .bank))) (a .number ∙ (k .number ∙ sym (b .number)))) (p .unlike))
+      (of-alike (r .kind) (r .bank) (r .number) (w .kind) (w .bank) (w .number) (a .kind ∙ (k .kind ∙ sym (b .kind))) (a .bank ∙ (k .bank ∙ sym (b .bank)))
+      (a .number ∙ (k .number ∙ sym (b .number)))) (p .unlike))
       (entries τ l v (a .place) (b .place) (a .due) (b .due) ea eb (p .later))
 
-  pub alike-key : (r w : Command) → Alike (r .kind) (r .bank) (r .number) (w .kind) (w .bank) (w .number) → keyIn (τ .banks) (length l) at r ≡ keyIn (τ .banks) (length l) at w
+  pub alike-key : (r w : Command) → Alike (r .kind) (r .bank) (r .number) (w .kind) (w .bank) (w .number)
+      → keyIn (τ .banks) (length l) at r ≡ keyIn (τ .banks) (length l) at w
   alike-key r w k =
       ap (λ (y : ℕ). keyOf (τ .banks) (at y .start) y (kindCode (r .kind)) (r .bank)) (k .number)
       ∙ (ap (λ (c : Kind). keyOf (τ .banks) (at (w .number) .start) (w .number) (kindCode c) (r .bank)) (k .kind)
       ∙ ap (λ (b : ℕ). keyOf (τ .banks) (at (w .number) .start) (w .number) (kindCode (w .kind)) b) (k .bank))
 
-  pub key-later : (r w : Command) → Placed (dataQueue τ l) r → Placed (dataQueue τ l) w → keyIn (τ .banks) (length l) at r < keyIn (τ .banks) (length l) at w → PlacesLater (dataQueue τ l) r w
-  key-later r w a b h = record { first = a; second = b; later = on (from? (a .place) (b .place)); unlike = by (isThe (r .kind) (r .bank) (r .number) (w .kind) (w .bank) (w .number)) refl }
+  pub key-later : (r w : Command) → Placed (dataQueue τ l) r → Placed (dataQueue τ l) w → keyIn (τ .banks) (length l) at r < keyIn (τ .banks) (length l) at w
+      → PlacesLater (dataQueue τ l) r w
+  key-later r w a b h =
+      record {
+        first =
+            a;
+        second = b;
+        later = on (from? (a .place) (b .place));
+        unlike = by (isThe (r .kind) (r .bank) (r .number) (w .kind) (w .bank) (w .number)) refl;
+      }
     where
       by : (z : Bool) → isThe (r .kind) (r .bank) (r .number) (w .kind) (w .bank) (w .number) ≡ z → z ≡ false
       by true e = absurd (omega (arith, h, alike-key r w (alike-of (r .kind) (r .bank) (r .number) (w .kind) (w .bank) (w .number) e)))
       by false e = refl
 
       same-due : a .place ≡ b .place → a .due ≡ b .due
-      same-due e = same-some (getElem? (dataQueue τ l) (b .place)) (a .due) (b .due) (subst (λ (i : ℕ). getElem? (dataQueue τ l) i ≡ some (a .due)) e (a .there)) (b .there)
+      same-due e =
+          same-some (getElem? (dataQueue τ l) (b .place)) (a .due) (b .due) (subst (λ (i : ℕ). getElem? (dataQueue τ l) i ≡ some (a .due)) e (a .there)) (b .there)
 
       on : (a .place < b .place) ⊎ ((d : ℕ) × (a .place ≡ b .place + d)) → a .place < b .place
       on (inl z) = z
       on (inr (zero, z)) =
           let e = same-due (omega (arith, z)) in
-          absurd (omega (arith, h, alike-key r w (record { kind = a .kind ∙ (ap (λ (u : Due). u .kind) e ∙ sym (b .kind)); bank = a .bank ∙ (ap (λ (u : Due). u .bank) e ∙ sym (b .bank)); number = a .number ∙ (ap (λ (u : Due). u .number) e ∙ sym (b .number)) })))
+          absurd (omega (
+            arith,
+            h,
+            alike-key r w (record {
+              kind = a .kind ∙ (ap (λ (u : Due). u .kind) e ∙ sym (b .kind));
+              bank = a .bank
+                  ∙ (ap (λ (u : Due). u .bank) e ∙ sym (b .bank));
+              number = a .number ∙ (ap (λ (u : Due). u .number) e ∙ sym (b .number));
+            }),
+          ))
       on (inr (suc m, z)) =
           let ea = entry τ l v (a .place) (a .due) (a .there) in
           let eb = entry τ l v (b .place) (b .due) (b .there) in
           ⊎-elim
-          (λ k. absurd (omega (arith, h, k, key-entry r (a .place) (a .due) ea (a .kind) (a .bank) (a .number), key-entry w (b .place) (b .due) eb (b .kind) (b .bank) (b .number))))
-          (λ k. absurd (omega (arith, h, alike-key w r (record { kind = b .kind ∙ (k .kind ∙ sym (a .kind)); bank = b .bank ∙ (k .bank ∙ sym (a .bank)); number = b .number ∙ (k .number ∙ sym (a .number)) }))))
+          (λ k. absurd (omega (
+            arith,
+            h,
+            k,
+            key-entry r (a .place) (a .due) ea (a .kind) (a .bank) (a .number),
+            key-entry w (b .place) (b .due) eb (b .kind)
+                (b .bank) (b .number),
+          )))
+          (λ k. absurd (omega (
+            arith,
+            h,
+            alike-key w r
+                (record { kind = b .kind ∙ (k .kind ∙ sym (a .kind)); bank = b .bank ∙ (k .bank ∙ sym (a .bank)); number = b .number ∙ (k .number ∙ sym (a .number)) }),
+          )))
           (entries τ l v (b .place) (a .place) (b .due) (a .due) eb ea (omega (arith, z)))

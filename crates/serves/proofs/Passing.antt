@@ -36,13 +36,15 @@ use Rattle.serves.proofs.Lowest.{says}
 
 every-same : (n : ℕ) (f g : ℕ → Bool) → ((i : ℕ) → i < n → f i ≡ g i) → everyBelow n f ≡ everyBelow n g
 every-same zero f g e = refl
-every-same (suc n) f g e = ap (λ (b : Bool). b && everyBelow n f) (e n (omega arith)) ∙ ap (λ (b : Bool). g n && b) (every-same n f g (λ i h. e i (omega (arith, h))))
+every-same (suc n) f g e =
+    ap (λ (b : Bool). b && everyBelow n f) (e n (omega arith)) ∙ ap (λ (b : Bool). g n && b) (every-same n f g (λ i h. e i (omega (arith, h))))
 
 most-same : (f g : ℕ → ℕ) (x : ℕ) → ((y : ℕ) → y < x → f y ≡ g y) → mostBelow f x ≡ mostBelow g x
 most-same f g zero e = refl
 most-same f g (suc x) e = ap (λ (k : ℕ). max k (mostBelow f x)) (e x (omega arith)) ∙ ap (max (g x)) (most-same f g x (λ y h. e y (omega (arith, h))))
 
-agrees-same : (banks : ℕ) (t : Transaction) (x : ℕ) (f g : ℕ → ℕ) → banks ≤ 16 → x < 256 → ((i : ℕ) → i < 24576 → f i ≡ g i) → agrees banks t x f ≡ agrees banks t x g
+agrees-same : (banks : ℕ) (t : Transaction) (x : ℕ) (f g : ℕ → ℕ) → banks ≤ 16 → x < 256 → ((i : ℕ) → i < 24576 → f i ≡ g i)
+    → agrees banks t x f ≡ agrees banks t x g
 agrees-same banks t x f g hb hx e =
     every-same banks (bankAgrees banks t x f) (bankAgrees banks t x g)
     (λ b lb. every-same 6 (λ c. eqb (f (slot x c b)) (dueCount banks t c b)) (λ c. eqb (g (slot x c b)) (dueCount banks t c b))
@@ -101,7 +103,8 @@ module _ {τ : Table} {bs : List ℕ} {n : ℕ} (li : Listed τ bs n) where
                 up true q = omega (arith, q)
                 up false q = omega (arith, q)
 
-        module _ {c : ℕ} (ec : c ≡ getD s (8 * j + 4) 0) {y : ℕ} (ey : y ≡ num s (8 * j + 6)) {v : ℕ} (ev : v ≡ pick (eqb c 0) y (getD acts (getD s (8 * j + 5) 0) 0)) where
+        module _ {c : ℕ} (ec : c ≡ getD s (8 * j + 4) 0) {y : ℕ} (ey : y ≡ num s (8 * j + 6)) {v : ℕ}
+            (ev : v ≡ pick (eqb c 0) y (getD acts (getD s (8 * j + 5) 0) 0)) where
           code : c ≡ kindCode (r .kind)
           code = ec ∙ byte-kind
 
@@ -111,18 +114,22 @@ module _ {τ : Table} {bs : List ℕ} {n : ℕ} (li : Listed τ bs n) where
               (noted-out (τ .banks) n (listedAt bs) τ few r (seen s j) lawful-now bank-small counts acts last refs m outside q (omega (arith, o, ey)))
 
           pub turn-in : y < n → {i : ℕ} → i ≡ slot y c (getD s (8 * j + 5) 0) → i < 24576 → {x : Transaction} → x ≡ listedAt bs y → {m' : Marks}
-              → m' ≡ marksAfter (τ .banks) x c (getD s (8 * j + 5) 0) y (getD acts (getD s (8 * j + 5) 0) 0) m → {u : ℕ} → u ≡ pick (eqb c 5) (min j (getD refs y 0)) (getD refs y 0)
-              → Noted (τ .banks) n (listedAt bs) (seen s (j + 1)) (set counts i (getD counts i 0 + 1)) (set acts (getD s (8 * j + 5) 0) v) (set last y j) (set refs y u) m' outside
+              → m' ≡ marksAfter (τ .banks) x c (getD s (8 * j + 5) 0) y (getD acts (getD s (8 * j + 5) 0) 0) m → {u : ℕ} → u ≡ pick (eqb c 5)
+              (min j (getD refs y 0)) (getD refs y 0)
+              → Noted (τ .banks) n (listedAt bs) (seen s (j + 1)) (set counts i (getD counts i 0 + 1)) (set acts (getD s (8 * j + 5) 0) v) (set last y j)
+              (set refs y u) m' outside
           turn-in l {i} ei hi ex em eu =
               rw (seen-more s j, em, eu, ev, ex, code, ey)
-              (noted-in (τ .banks) n (listedAt bs) τ few r (seen s j) lawful-now bank-small counts acts last refs m outside q (omega (arith, l, ey)) j (sym (seen-length s j)) i
+              (noted-in (τ .banks) n (listedAt bs) τ few r (seen s j) lawful-now bank-small counts acts last refs m outside q (omega (arith, l, ey)) j
+              (sym (seen-length s j)) i
               (ei ∙ (ap (λ (k : ℕ). slot y k (r .bank)) code ∙ ap (λ (k : ℕ). slot k (kindCode (r .kind)) (r .bank)) ey)) hi)
 
     -- at the end
     abbrev M : ℕ
     M = length s / 8
 
-    module _ {j : ℕ} (ej : j ≡ length s / 8) {counts acts last refs : List ℕ} {m : Marks} {outside : Bool} (q' : Noted (τ .banks) n (listedAt bs) (seen s j) counts acts last refs m outside) where
+    module _ {j : ℕ} (ej : j ≡ length s / 8) {counts acts last refs : List ℕ} {m : Marks} {outside : Bool}
+        (q' : Noted (τ .banks) n (listedAt bs) (seen s j) counts acts last refs m outside) where
       q : Noted (τ .banks) n (listedAt bs) (seen s M) counts acts last refs m outside
       q = subst (λ (k : ℕ). Noted (τ .banks) n (listedAt bs) (seen s k) counts acts last refs m outside) ej q'
 
@@ -132,23 +139,28 @@ module _ {τ : Table} {bs : List ℕ} {n : ℕ} (li : Listed τ bs n) where
       pub least-small : m .least ≤ n
       least-small = omega (arith, least-is, least-le n (faulty (τ .banks) n (listedAt bs)) (seen s M))
 
-      same-wrong : (x : ℕ) → x < n → wrongBy (τ .banks) (listedAt bs) (numberAt refs) (numberAt last) (numberAt counts) x ≡ wrong (τ .banks) n (listedAt bs) (seen s M) x
+      same-wrong : (x : ℕ) → x < n
+          → wrongBy (τ .banks) (listedAt bs) (numberAt refs) (numberAt last) (numberAt counts) x ≡ wrong (τ .banks) n (listedAt bs) (seen s M) x
       same-wrong x l =
           ap (λ (k : ℕ). ltb k (mostBelow (numberAt last) x) || not (agrees (τ .banks) (listedAt bs x) x (numberAt counts))) (q .firstRefs x l)
-          ∙ (ap (λ (k : ℕ). ltb (refOf x (seen s M)) k || not (agrees (τ .banks) (listedAt bs x) x (numberAt counts))) (most-same (numberAt last) (λ y. lastOf y (seen s M)) x (λ y h. q .lasts y (omega (arith, h, l))))
-          ∙ ap (λ (k : Bool). ltb (refOf x (seen s M)) (mostBelow (λ y. lastOf y (seen s M)) x) || not k) (agrees-same (τ .banks) (listedAt bs x) x (numberAt counts) (slotCount n (seen s M)) most (omega (arith, l, few)) (q .counted)))
+          ∙ (ap (λ (k : ℕ). ltb (refOf x (seen s M)) k || not (agrees (τ .banks) (listedAt bs x) x (numberAt counts)))
+          (most-same (numberAt last) (λ y. lastOf y (seen s M)) x (λ y h. q .lasts y (omega (arith, h, l))))
+          ∙ ap (λ (k : Bool). ltb (refOf x (seen s M)) (mostBelow (λ y. lastOf y (seen s M)) x) || not k)
+          (agrees-same (τ .banks) (listedAt bs x) x (numberAt counts) (slotCount n (seen s M)) most (omega (arith, l, few)) (q .counted)))
 
       pub pass-end : {i : ℕ} → FirstAt (wrongBy (τ .banks) (listedAt bs) (numberAt refs) (numberAt last) (numberAt counts)) (m .least) i
           → Finds (τ .banks) n (listedAt bs) (seen s M) i outside
       pass-end {i} f =
           record {
             first = subst (λ (k : ℕ). FirstAt (wrong (τ .banks) n (listedAt bs) (seen s M)) k i) least-is
-                (first-same (wrongBy (τ .banks) (listedAt bs) (numberAt refs) (numberAt last) (numberAt counts)) (wrong (τ .banks) n (listedAt bs) (seen s M)) (m .least) i (λ x l. same-wrong x (omega (arith, l, least-small))) f);
+                (first-same (wrongBy (τ .banks) (listedAt bs) (numberAt refs) (numberAt last) (numberAt counts)) (wrong (τ .banks) n (listedAt bs) (seen s M))
+                (m .least) i (λ x l. same-wrong x (omega (arith, l, least-small))) f);
             others = q .others;
           }
 
     -- what is found is the answer
-    pub finds-say : length s / 8 ≤ 69632 → {i : ℕ} {o : Bool} → Finds (τ .banks) n (listedAt bs) (seen s M) i o → Says τ (laterFrom bs n 0) (commandsIn s) (answerOf n i o)
+    pub finds-say : length s / 8 ≤ 69632 → {i : ℕ} {o : Bool} → Finds (τ .banks) n (listedAt bs) (seen s M) i o
+        → Says τ (laterFrom bs n 0) (commandsIn s) (answerOf n i o)
     finds-say short {i} {o} f =
         subst (λ (k : ℕ). Says τ l (commandsIn s) (answerOf k i o)) size
         (subst (λ (z : Bool). Says τ l (commandsIn s) (answerOf (length l) i z)) (sym (g .others))

@@ -24,12 +24,12 @@ use Rattle.rules.proofs.TestLaws.{true-false}
 use Rattle.rules.proofs.Numbers.{from?}
 use Rattle.rules.proofs.Fit.{AllFit}
 use Rattle.rules.proofs.Built.{each-fits}
-use Rattle.serves.specs.Serves.{isThe, recordsOf, duesOf, dueUnder, Stands, Placed, PlacesLater, EachDue, InOrder, DoesTheWork, dataRecords, queued, AreTheQueue, DataOnce}
+use Rattle.serves.specs.Serves.{isThe, recordsOf, duesOf, dueUnder, Stands, Placed, EachDue, InOrder, DoesTheWork, dataRecords, queued, AreTheQueue, DataOnce}
 use Rattle.serves.specs.Check.{keyIn}
 use Rattle.serves.proofs.Tests.{same-some, none-some}
-use Rattle.serves.proofs.Alike.{Alike, alike-of, Found, dues-found, records-found, found-dues}
-use Rattle.serves.proofs.Entries.{below-length, entry, entries}
-use Rattle.serves.proofs.Order.{key-entry, data-counted, later-key, key-later, alike-key}
+use Rattle.serves.proofs.Alike.{Alike, alike-of, Found, dues-found, records-found}
+use Rattle.serves.proofs.Entries.{below-length, entry}
+use Rattle.serves.proofs.Order.{data-counted, later-key, key-later, alike-key}
 use Rattle.serves.proofs.Acts.{atIn, at-in, act-no-data-at}
 use Rattle.serves.proofs.Going.{data-kind-at}
 use Rattle.serves.proofs.Sorted.{AllOf, all-at, Sorted, sorted-same}
@@ -116,19 +116,22 @@ module _ (τ : Table) (l : List Transaction) (v : AllFit τ l) where
           → Alike (r .kind) (r .bank) (r .number) (w .kind) (w .bank) (w .number)
       on (inl z) y = like (isThe (r .kind) (r .bank) (r .number) (w .kind) (w .bank) (w .number)) refl
         where
-          like : (u : Bool) → isThe (r .kind) (r .bank) (r .number) (w .kind) (w .bank) (w .number) ≡ u → Alike (r .kind) (r .bank) (r .number) (w .kind) (w .bank) (w .number)
+          like : (u : Bool) → isThe (r .kind) (r .bank) (r .number) (w .kind) (w .bank) (w .number) ≡ u
+              → Alike (r .kind) (r .bank) (r .number) (w .kind) (w .bank) (w .number)
           like true u = alike-of (r .kind) (r .bank) (r .number) (w .kind) (w .bank) (w .number) u
           like false u = absurd (omega (arith, e, later-key τ l v (atIn l) (at-in l) r w (record { first = a; second = b; later = z; unlike = u })))
       on (inr z) (inl y) = like (isThe (w .kind) (w .bank) (w .number) (r .kind) (r .bank) (r .number)) refl
         where
-          like : (u : Bool) → isThe (w .kind) (w .bank) (w .number) (r .kind) (r .bank) (r .number) ≡ u → Alike (r .kind) (r .bank) (r .number) (w .kind) (w .bank) (w .number)
+          like : (u : Bool) → isThe (w .kind) (w .bank) (w .number) (r .kind) (r .bank) (r .number) ≡ u
+              → Alike (r .kind) (r .bank) (r .number) (w .kind) (w .bank) (w .number)
           like true u =
               let k = alike-of (w .kind) (w .bank) (w .number) (r .kind) (r .bank) (r .number) u in
               record { kind = sym (k .kind); bank = sym (k .bank); number = sym (k .number) }
           like false u = absurd (omega (arith, e, later-key τ l v (atIn l) (at-in l) w r (record { first = b; second = a; later = y; unlike = u })))
       on (inr z) (inr y) =
           let p : a .place ≡ b .place = omega (arith, z .1, y .1) in
-          let d = same-some (getElem? (dataQueue τ l) (b .place)) (a .due) (b .due) (subst (λ (i : ℕ). getElem? (dataQueue τ l) i ≡ some (a .due)) p (a .there)) (b .there) in
+          let d = same-some (getElem? (dataQueue τ l) (b .place)) (a .due) (b .due) (subst (λ (i : ℕ). getElem? (dataQueue τ l) i ≡ some (a .due)) p (a .there))
+          (b .there) in
           record {
             kind = a .kind ∙ (ap (λ (c : Due). c .kind) d ∙ sym (b .kind));
             bank = a .bank ∙ (ap (λ (c : Due). c .bank) d ∙ sym (b .bank));
@@ -149,7 +152,11 @@ module _ (τ : Table) (l : List Transaction) (v : AllFit τ l) where
       on : (u : Bool) → isThe (d .kind) (d .bank) (d .number) (d' .kind) (d' .bank) (d' .number) ≡ u → K (dueAt 0 d) ≤ K (dueAt 0 d')
       on true u = omega (arith, same-key (dueAt 0 d) (dueAt 0 d') (alike-of (d .kind) (d .bank) (d .number) (d' .kind) (d' .bank) (d' .number) u))
       on false u =
-          omega (arith, later-key τ l v (atIn l) (at-in l) (dueAt 0 d) (dueAt 0 d') (record { first = member n d e .0; second = member n' d' e' .0; later = h; unlike = u }))
+          omega (
+            arith,
+            later-key τ l v (atIn l) (at-in l) (dueAt 0 d) (dueAt 0 d')
+                (record { first = member n d e .0; second = member n' d' e' .0; later = h; unlike = u }),
+          )
 
   queue-up : (q : List Due) → ((n n' : ℕ) (d d' : Due) → getElem? q n ≡ some d → getElem? q n' ≡ some d' → n < n' → K (dueAt 0 d) ≤ K (dueAt 0 d')) → Up (queued q)
   queue-up [] f = tt
@@ -204,7 +211,8 @@ module _ (τ : Table) (l : List Transaction) (v : AllFit τ l) where
       found : 1 ≤ recordsOf k b x a → recordsOf k b x a ≡ 0
       found h =
           let f = records-found k b x a h in
-          true-false (isData k) (ap isData (sym (f .alike .kind)) ∙ all-at (λ c. isData (c .kind) ≡ true) a q (f .place) (f .one) (f .stands) (λ c g u. ap (λ (y : Command). isData (y .kind)) (sym g) ∙ u)) e
+          true-false (isData k) (ap isData (sym (f .alike .kind))
+          ∙ all-at (λ c. isData (c .kind) ≡ true) a q (f .place) (f .one) (f .stands) (λ c g u. ap (λ (y : Command). isData (y .kind)) (sym g) ∙ u)) e
 
   data-queue : AllOf (λ c. isData (c .kind) ≡ true) (queued (dataQueue τ l))
   data-queue = all-queued (λ c. isData (c .kind) ≡ true) (dataQueue τ l) (λ n d e. data-kind-at τ l v n d e .0)
@@ -219,7 +227,8 @@ module _ (τ : Table) (l : List Transaction) (v : AllFit τ l) where
 
         order : InOrder τ l rs
         order i j w r s s' h p =
-            let kind-at : (c : Command) → Placed (dataQueue τ l) c → isData (c .kind) ≡ true = λ c y. ap isData (y .kind) ∙ data-kind-at τ l v (y .place) (y .due) (y .there) .0 in
+            let kind-at : (c : Command) → Placed (dataQueue τ l) c → isData (c .kind) ≡ true = λ c y. ap isData (y .kind)
+            ∙ data-kind-at τ l v (y .place) (y .due) (y .there) .0 in
             let up = up-data rs (subst Up (sym e) (queue-up (dataQueue τ l) due-up)) i j w r s s' h (kind-at w (p .second)) (kind-at r (p .first)) in
             absurd (omega (arith, up, later-key τ l v (atIn l) (at-in l) r w p))
 
@@ -235,7 +244,9 @@ module _ (τ : Table) (l : List Transaction) (v : AllFit τ l) where
           (record { place = p .place; due = p .due; there = p .there; kind = p .kind; bank = p .bank; number = p .number }, refl)
 
       rises : InOrder τ l rs → Rising rs
-      rises o i j w r s s' h dw dr = ⊎-elim (λ z. absurd (o i j w r s s' h (key-later τ l v (atIn l) (at-in l) r w (placed-at j r s' dr) (placed-at i w s dw) z))) (λ z. omega (arith, z .1)) (from? (K r) (K w))
+      rises o i j w r s s' h dw dr =
+          ⊎-elim (λ z. absurd (o i j w r s s' h (key-later τ l v (atIn l) (at-in l) r w (placed-at j r s' dr) (placed-at i w s dw) z))) (λ z. omega (arith, z .1))
+          (from? (K r) (K w))
 
       as-often : DataOnce τ l rs → (k : Kind) (b x : ℕ) → isData k ≡ true → recordsOf k b x rs ≡ dueUnder τ l x k b
       as-often o k b x d = on (from? (dueUnder τ l x k b) 1) (from? (recordsOf k b x rs) 1)

@@ -1,10 +1,10 @@
 -- Records by their places in a schedule, and records newest first.
 -- Assumes nothing.
-use Prim.Native.Nat.{ℕ, zero, suc, _+_, _≤_, _<_}
+use Prim.Native.Nat.{ℕ, zero, suc, _+_, _<_}
 use native.Mathlib.Omega.{arith}
-use mathlib.Core.Path.{_≡_, refl, sym, ap, _∙_, subst}
+use mathlib.Core.Path.{_≡_, refl, sym, _∙_, subst}
 use mathlib.Core.Logic.{_⊎_, inl, inr}
-use mathlib.Core.Option.{Option, none, some}
+use mathlib.Core.Option.{some}
 use mathlib.Core.List.{List, [], _∷_}
 use lib.ListN.{length, take}
 use lib.Seq.{length-take-le}
@@ -47,7 +47,8 @@ onto-keeps : (P : Command → List Command → Type 0) (rs h : List Command) →
 onto-keeps P [] h w = w
 onto-keeps P (r ∷ t) h w = onto-keeps P t (r ∷ h) (inr w)
 
-pub before-at : (P : Command → List Command → Type 0) (rs h : List Command) (i : ℕ) (r : Command) → Stands rs i r → P r (onto (take i rs) h) → Somewhere P (onto rs h)
+pub before-at : (P : Command → List Command → Type 0) (rs h : List Command) (i : ℕ) (r : Command) → Stands rs i r → P r (onto (take i rs) h)
+    → Somewhere P (onto rs h)
 before-at P [] h i r s p = none-some r s
 before-at P (w ∷ t) h zero r s p = onto-keeps P t (w ∷ h) (inl (subst (λ (y : Command). P y h) (sym (same-some (some w) w r refl s)) p))
 before-at P (w ∷ t) h (suc i) r s p = before-at P t (w ∷ h) i r s p
@@ -100,9 +101,6 @@ stands-below (w ∷ t) (suc i) r s = omega (arith, stands-below t i r s)
 onto-length : (rs h : List Command) → length (onto rs h) ≡ length rs + length h
 onto-length [] h = omega arith
 onto-length (r ∷ t) h = onto-length t (r ∷ h) ∙ omega arith
-
-pub all-length : (rs : List Command) → length (onto rs []) ≡ length rs
-all-length rs = onto-length rs [] ∙ omega arith
 
 pub before-length : (rs : List Command) (i : ℕ) (r : Command) → Stands rs i r → length (onto (take i rs) []) ≡ i
 before-length rs i r s = onto-length (take i rs) [] ∙ omega (arith, length-take-le i rs (omega (arith, stands-below rs i r s)))

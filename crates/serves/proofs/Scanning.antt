@@ -1,6 +1,6 @@
 -- Turns of the scan.
 -- Assumes nothing.
-use Prim.Native.Nat.{ℕ, zero, suc, _+_, _≤_, _<_, max}
+use Prim.Native.Nat.{ℕ, suc, _+_, _≤_, _<_, max}
 use native.Mathlib.Omega.{arith}
 use mathlib.Core.Path.{_≡_, refl, sym, ap, _∙_}
 use mathlib.Core.Logic.{⊎-elim}
@@ -28,10 +28,12 @@ module _ (banks : ℕ) (at : ℕ → Transaction) (ref last count : ℕ → ℕ)
   scan-start m = record { within = omega arith; none = λ j h. absurd (omega arith); greatest = refl }
 
   module _ (m k most : ℕ) (q : Scanned m k most) where
-    pub wrong-now : (x : Transaction) → x ≡ at k → (a : Bool) → a ≡ agrees banks x k count → (b : Bool) → b ≡ (ltb (ref k) most || not a) → b ≡ wrongBy banks at ref last count k
+    pub wrong-now : (x : Transaction) → x ≡ at k → (a : Bool) → a ≡ agrees banks x k count → (b : Bool) → b ≡ (ltb (ref k) most || not a)
+        → b ≡ wrongBy banks at ref last count k
     wrong-now x ex a ea b eb =
         eb ∙ (ap (λ (z : Bool). ltb (ref k) most || not z) ea
-        ∙ (ap (λ (z : Transaction). ltb (ref k) most || not (agrees banks z k count)) ex ∙ ap (λ (z : ℕ). ltb (ref k) z || not (agrees banks (at k) k count)) (q .greatest)))
+        ∙ (ap (λ (z : Transaction). ltb (ref k) most || not (agrees banks z k count)) ex
+        ∙ ap (λ (z : ℕ). ltb (ref k) z || not (agrees banks (at k) k count)) (q .greatest)))
 
     pub scan-found : k < m → wrongBy banks at ref last count k ≡ true → FirstAt (wrongBy banks at ref last count) m k
     scan-found h e = record { within = q .within; none-before = q .none; there = λ z. e }

@@ -3,14 +3,12 @@
 use Prim.Native.Nat.{ℕ, zero, suc, _+_, _*_, _/_, _≤_, _<_}
 use native.Mathlib.Omega.{arith}
 use mathlib.Core.Path.{_≡_, refl, sym, ap, _∙_, subst}
-use mathlib.Core.Bool.{Bool}
 use mathlib.Core.Logic.{_⊎_, inl, inr, ⊎-elim}
 use mathlib.Core.Option.{some}
 use mathlib.Core.List.{List, [], _∷_, _++_}
 use lib.ListN.{length, getElem?}
 use borrow.Author.Tests.{ne-eqb}
 use Rattle.records.specs.declared.table.Table.{Table}
-use Rattle.records.specs.declared.command.Kind.{Kind}
 use Rattle.records.specs.declared.command.Kind.the-variants.{Other}
 use Rattle.records.specs.declared.command.Command.{Command}
 use Rattle.records.specs.Transaction.{laterAt, laterFrom}

@@ -3,7 +3,7 @@
 use Prim.Native.Nat.{ℕ, zero, suc, _+_, _≤_, _<_}
 use native.Mathlib.Omega.{arith}
 use mathlib.Core.Path.{_≡_, refl, sym, ap, _∙_, subst}
-use mathlib.Core.Logic.{_≢_, _⊎_, ⊎-elim}
+use mathlib.Core.Logic.{_≢_, ⊎-elim}
 use mathlib.Core.Bool.{Bool, true, false}
 use mathlib.Core.Option.{some}
 use mathlib.Core.List.{List, [], _∷_, _++_}
@@ -36,7 +36,8 @@ pub total-one : (W : ℕ → ℕ) (n i j : ℕ) → ((m : ℕ) → i ≤ m → m
 total-one W zero i j f h h' = absurd (omega arith)
 total-one W (suc n) i j f h h' = ⊎-elim
     (λ e. omega (arith, ap W e, total-none W n (suc i) (λ m p q. f m (omega (arith, p)) (omega (arith, q)) (λ z. omega (arith, z, p, e)))))
-    (λ e. omega (arith, f i (omega arith) (omega arith) e, total-one W n (suc i) j (λ m p q. f m (omega (arith, p)) (omega (arith, q))) (neq-lt e) (omega arith))) (same? i j)
+    (λ e. omega (arith, f i (omega arith) (omega arith) e, total-one W n (suc i) j (λ m p q. f m (omega (arith, p)) (omega (arith, q))) (neq-lt e) (omega arith)))
+    (same? i j)
   where
     neq-lt : i ≢ j → suc i ≤ j
     neq-lt e = ⊎-elim (λ z. omega (arith, z)) (λ (d, z). above d z) (from? i j)

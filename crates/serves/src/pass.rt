@@ -8,7 +8,6 @@ use crate::turn::slot_of;
 use records::later::later_at;
 use records::little::num_at;
 use records::table::Table;
-ghost use mathlib.Core.Path.{_≡_};
 ghost use Prim.Native.Nat.{_≤_};
 ghost use Rattle.records.specs.Command.{commandsIn};
 ghost use Rattle.rules.specs.Verdict.{Legal};
