@@ -1,7 +1,8 @@
-//! The example files: an expected edition, a table and transactions as the listing reads them, or a capture as the trace does, with a text
-//! beside each that says what it holds.
+//! The example files: an expected edition, a table and transactions as the listing reads them, a capture as the trace does, or what is asked for
+//! as `pattern` does, with a text beside each that says what it holds.
 
 mod captures;
+mod patterns;
 mod text;
 
 use std::fs;
@@ -168,7 +169,10 @@ fn files() -> Vec<(&'static str, Vec<u8>, String)> {
     let traced = captures::all()
         .into_iter()
         .map(|e| (e.name, e.bytes(), e.text()));
-    listed.chain(traced).collect()
+    let patterned = patterns::all()
+        .into_iter()
+        .map(|e| (e.name, e.bytes(), e.text()));
+    listed.chain(traced).chain(patterned).collect()
 }
 
 #[cfg(test)]

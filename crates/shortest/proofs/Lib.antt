@@ -10,4 +10,4 @@ pub mod Searching
 pub mod Written
 pub mod Lengths
 pub mod Calls
-pub mod Only
+pub mod Unique

@@ -1,9 +1,9 @@
 -- One turn of the loop that sets records out, for a state that is kept in plain numbers and changed in place.
 -- Assumes nothing.
-use Prim.Native.Nat.{ℕ, zero, suc, _+_, _-_, _*_, _≤_, _<_, max}
+use Prim.Native.Nat.{ℕ, suc, _+_, _-_, _*_, _≤_, _<_, max}
 use native.Mathlib.Omega.{arith}
 use mathlib.Core.Path.{_≡_, refl, sym, ap, _∙_, subst}
-use mathlib.Core.Bool.{Bool, true, false, not, _&&_, _||_}
+use mathlib.Core.Bool.{Bool, true, false}
 use mathlib.Core.List.{List, _∷_, map}
 use lib.Dec.{leb, ltb, eqb}
 use lib.ListN.{length, getD, set, length-set}
@@ -28,7 +28,7 @@ use Rattle.timing.specs.Kept.{isClosing, stampOf, toldBank, toldGroup, told, sh
 use Rattle.timing.proofs.Telling.{told-fresh, told-at, actKept, told-act, dataKept, told-data}
 use Rattle.broken.specs.ByState.{foundBy, groupsFar, foundOn}
 use Rattle.broken.proofs.Laws.{found-parts}
-use Rattle.shortest.specs.Search.{nil, nth, Placeable, Hopeless}
+use Rattle.shortest.specs.Search.{nth, Placeable, Hopeless}
 use Rattle.shortest.specs.Lifting.{foundAt, Scanned, Limit, nextPlace, nextShift, Lifting, LostFor}
 use Rattle.shortest.proofs.Turns.{placeable-set}
 use Rattle.shortest.proofs.Lifted.{lift-start, lift-wrap, lift-next, no-hope}

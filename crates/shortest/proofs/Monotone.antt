@@ -1,13 +1,13 @@
 -- The rules are lower bounds: what breaks no rule after a history breaks none after one of the same commands, none of them later.
 -- Assumes nothing.
-use Prim.Native.Nat.{ℕ, zero, suc, _+_, _≤_, _<_, max}
+use Prim.Native.Nat.{ℕ, zero, suc, _+_, _≤_}
 use native.Mathlib.Omega.{arith}
 use mathlib.Core.Path.{_≡_, refl, sym, ap, _∙_}
 use mathlib.Core.Bool.{Bool, true, false, not, _&&_, _||_}
 use mathlib.Core.List.{List, [], _∷_}
-use lib.Dec.{leb, ltb, eqb}
+use lib.Dec.{leb, eqb}
 use borrow.Author.Tests.{le-leb, leb-true, lt-ltb, ltb-true}
-use Rattle.records.specs.Tests.{pick, every, everyBelow, allOf}
+use Rattle.records.specs.Tests.{pick, every, allOf}
 use Rattle.records.specs.declared.table.Table.{Table}
 use Rattle.records.specs.declared.command.Kind.{Kind}
 use Rattle.records.specs.declared.command.Kind.the-variants.{Act, Rd, Rda, Wr, Wra, Ref, Other}
@@ -18,7 +18,7 @@ use Rattle.rules.specs.declared.verdict.Found.the-variants.{Fine}
 use Rattle.rules.specs.Kinds.{isAct, isRd, isWr, isRef}
 use Rattle.rules.specs.Square.{groupOf, rrdOf, fromRd, fromWr, writeTail}
 use Rattle.rules.specs.State.{past}
-use Rattle.rules.specs.History.{inTable, later, openIn, actIn, greater, prechargeAfter, prechargeIn, actBack, fourthAct, far, farAct, farData, farRefresh, atRestIn, allAtRest, actRules, refreshRules, dataRules, rulesBy, rules, broken, isFine}
+use Rattle.rules.specs.History.{later, openIn, actIn, greater, prechargeAfter, prechargeIn, actBack, fourthAct, far, farAct, farData, farRefresh, atRestIn, allAtRest, actRules, refreshRules, dataRules, rulesBy, rules, broken, isFine}
 use Rattle.rules.proofs.TestLaws.{and-both, and-fst, and-snd}
 use Rattle.rules.proofs.Below.{below-all, below-each}
 use Rattle.rules.proofs.Judged.{fine-rules, is-fine}

@@ -3,22 +3,24 @@
 use Prim.Native.Nat.{ℕ, zero, suc, _+_, _*_, _≤_, _<_}
 use native.Mathlib.Numerals.{add-one}
 use native.Mathlib.Omega.{arith}
-use mathlib.Core.Path.{_≡_, refl, sym, ap, _∙_}
+use mathlib.Core.Path.{_≡_, refl, sym, ap, _∙_, subst}
 use mathlib.Core.Bool.{Bool, true, false}
 use mathlib.Core.List.{List, [], _∷_, _++_}
 use lib.ListN.{length, take}
-use lib.Seq.{take-suc, length-take-le}
+use lib.Seq.{take-suc, take-length, length-take-le}
 use Rattle.records.specs.declared.table.Table.{Table}
 use Rattle.records.specs.declared.command.Command.{Command}
 use Rattle.records.specs.Told.{over, putAt}
-use Rattle.records.specs.Command.{commandsIn, kindOf, kindNumber, bytesOf, bytesOfAll}
+use Rattle.records.specs.Command.{commandsIn, bytesOf, bytesOfAll}
 use Rattle.records.proofs.Written.{written-more, length-written, Each, Readable, bytes-stand, read-whole}
 use Rattle.rules.specs.declared.verdict.PatternVerdict.{PatternVerdict}
 use Rattle.rules.specs.declared.verdict.PatternVerdict.the-variants.{Accepted, Refused}
 use Rattle.rules.specs.Pattern.{EveryNumberLegal, copies}
 use Rattle.rules.proofs.TestLaws.{true-false}
 use Rattle.rules.proofs.Pattern.{five-legal}
+use Rattle.shortest.specs.Shortest.{IsPattern}
 use Rattle.shortest.specs.Search.{nil, nth, tally, Shaped, allPassed}
+use Rattle.shortest.proofs.Shape.{pattern-within, pattern-kind}
 use Rattle.shortest.proofs.Turns.{kind-plain}
 
 module _ (x : List Command) (b₀ b : List ℕ) (i : ℕ) (e : b ≡ over (bytesOfAll (take i x)) b₀) where
@@ -61,3 +63,9 @@ pub shaped-readable : {w : Bool} {bi bc L n : ℕ} {x : List Command} → L ≤ 
 shaped-readable {w} {bi} {bc} {L} {n} {x} l q =
     each-take Readable n x (q .room)
     (λ i m. record { cycle = omega (arith, q .cycle i m); kind = rw (q .kind i m) (kind-plain w bc (tally (nth x i .bank) x i) .2) })
+
+pub pattern-readable : {τ : Table} {w : Bool} {bi bc L : ℕ} {p : List Command} → L ≤ 128 → IsPattern τ w bi bc L p → Each Readable p
+pattern-readable {τ} {w} {bi} {bc} {L} {p} l q =
+    subst (Each Readable) (take-length p)
+    (each-take Readable (length p) p (omega arith)
+    (λ i m. record { cycle = omega (arith, pattern-within q i m); kind = rw (pattern-kind q i m) (kind-plain w bc (tally (nth p i .bank) p i) .2) }))

@@ -2,12 +2,10 @@ use borrow.Author.Needs.{needs}
 use borrow.Fn.Kinds.{In}
 use borrow.Fn.PlainCycle.{Measures, is, falls, and}
 use native.Mathlib.Omega.{arith}
-use Prim.Native.Nat.{ℕ, _+_, _-_, _≤_, _<_}
+use Prim.Native.Nat.{ℕ, _+_, _-_, _<_}
 use mathlib.Core.Bool.{true}
-use mathlib.Core.List.{List}
 use mathlib.Core.Path.{_≡_, refl, sym, ap, _∙_, subst}
 use lib.ListN.{set, length as lengthOf}
-use Rattle.records.specs.declared.command.Command.{Command}
 use Rattle.records.specs.declared.command.Kind.{Kind}
 use Rattle.records.specs.Command.{command}
 use Rattle.rules.proofs.TestLaws.{true-false}

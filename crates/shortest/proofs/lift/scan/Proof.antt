@@ -2,7 +2,7 @@ use borrow.Author.Needs.{needs}
 use native.Mathlib.Omega.{arith}
 use Prim.Native.Nat.{_+_, _-_, _≤_}
 use mathlib.Core.List.{map}
-use mathlib.Core.Path.{_≡_, sym, ap, _∙_}
+use mathlib.Core.Path.{sym, ap, _∙_}
 use Rattle.rules.specs.History.{isFine}
 use Rattle.timing.specs.Kept.{stampOf, toldBank, toldGroup}
 use Rattle.shortest.specs.Lifting.{foundAt}

@@ -1,24 +1,21 @@
 -- One answer and one content of the buffer: the shortest pattern is one.
 -- Assumes nothing.
-use Prim.Native.Nat.{ℕ, zero, suc, _*_, _≤_, _<_}
+use Prim.Native.Nat.{ℕ, _<_}
 use native.Mathlib.Omega.{arith}
 use mathlib.Core.Path.{_≡_, refl, sym, ap, _∙_, subst}
 use mathlib.Core.Logic.{_⊎_, inl, inr}
 use mathlib.Core.Bool.{Bool, true, false, _&&_, _||_}
 use mathlib.Core.List.{List, [], _∷_}
 use lib.Dec.{ltb, eqb}
-use lib.ListN.{length}
-use borrow.Author.Tests.{ltb-true, ltb-false, le-ltb, eqb-true}
-use Rattle.records.specs.Tests.{pick}
-use Rattle.records.specs.Told.{refusal, over}
+use borrow.Author.Tests.{ltb-true, ltb-false, eqb-true}
+use Rattle.records.specs.Told.{over}
 use Rattle.records.specs.declared.table.Table.{Table}
-use Rattle.records.specs.declared.refusal.Refusal.{Refusal}
 use Rattle.records.specs.declared.command.Command.{Command}
 use Rattle.records.specs.Command.{kindNumber, bytesOfAll}
-use Rattle.rules.proofs.TestLaws.{true-false, and-fst, and-snd}
+use Rattle.rules.proofs.TestLaws.{and-fst, and-snd}
 use Rattle.shortest.specs.declared.answer.ShortestAnswer.{ShortestAnswer}
 use Rattle.shortest.specs.declared.answer.ShortestAnswer.the-variants.{Pattern, Refused}
-use Rattle.shortest.specs.Shortest.{earlier, NoLater, IsPattern, Shortest, NoneUpTo}
+use Rattle.shortest.specs.Shortest.{earlier, NoLater, IsPattern, Shortest}
 use Rattle.shortest.specs.Answer.{Cause, LeavesShortest}
 
 or-cases : (a b : Bool) → (a || b) ≡ true → (a ≡ true) ⊎ (b ≡ true)
