@@ -14,5 +14,6 @@ pub mod CallLaws
 pub mod GroupCalls
 pub mod Calls
 pub mod Traces
+pub mod Patterns
 pub mod OneGroup
 pub mod Pins

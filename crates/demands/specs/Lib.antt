@@ -2,6 +2,7 @@ pub mod Causes
 pub mod Demands
 pub mod Runs
 pub mod Traces
+pub mod Patterns
 pub mod Handed
 pub mod GroupCalls
 pub mod Calls

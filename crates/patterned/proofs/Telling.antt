@@ -1,8 +1,8 @@
 -- The call's answer is what is told, and its text has room.
 -- Assumes nothing.
-use Prim.Native.Nat.{ℕ, zero, suc, _+_, _-_, _*_, _≤_, _<_}
+use Prim.Native.Nat.{ℕ, _+_, _-_, _*_, _≤_, _<_}
 use mathlib.Core.Bool.{Bool}
-use mathlib.Core.Path.{_≡_, refl, sym, ap, _∙_, subst}
+use mathlib.Core.Path.{_≡_, sym, ap, _∙_, subst}
 use mathlib.Core.List.{List, _++_}
 use native.Mathlib.Omega.{arith}
 use native.Mathlib.Nat.{zero-add}
@@ -26,6 +26,7 @@ use Rattle.text.proofs.Digits.{at-most, then-long}
 use Rattle.text.proofs.Putting.{puts-then}
 use Rattle.lines.specs.Words.{newline}
 use Rattle.lines.specs.Lines.{refusedLine, commandLines}
+use Rattle.lines.proofs.Turns.{commands-count}
 use Rattle.patterned.specs.Pattern.{lengthLine, patternText, answerText, Told, PatternOf, Writes}
 
 pub writes : (is : List ℕ → Type 0) (text : List ℕ) (r : ℕ) (s l : List ℕ) → is text → Puts text 0 r s l → Writes is r s l
@@ -39,11 +40,6 @@ length-long e L n = simp length-append
 
 pub length-most : (e L n : ℕ) → e < 65536 → L < 4294967296 → n < 18446744073709551616 → length (lengthLine e L n) ≤ 62
 length-most e L n h i j = omega (arith, length-long e L n, then-long n 10, at-most 4 e (omega arith), at-most 9 L (omega arith), at-most 19 n (omega arith))
-
-commands-count : (s : List ℕ) (n at : ℕ) → length (commandsFrom s n at) ≡ n
-unfolding commandsFrom
-commands-count s zero at = refl
-commands-count s (suc n) at = ap suc (commands-count s n (at + 8))
 
 pub pattern-put : (e L n : ℕ) (s : List ℕ) (p q : ℕ) (b t u : List ℕ) → Puts (lengthLine e L n) 0 p b t → Puts (commandLines (commandsFrom s n 0)) p q t u
     → Puts (patternText e L (commandsFrom s n 0)) 0 q b u

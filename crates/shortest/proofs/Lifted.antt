@@ -1,10 +1,10 @@
 -- Lower bounds of a pattern's cycles, lifted: copies are set out at the earliest cycles that the rules let them have, and stay below the pattern's.
 -- Assumes nothing.
-use Prim.Native.Nat.{ℕ, zero, suc, _+_, _-_, _*_, _≤_, _<_}
+use Prim.Native.Nat.{ℕ, suc, _+_, _-_, _*_, _≤_, _<_}
 use native.Mathlib.Omega.{arith}
 use mathlib.Core.Path.{_≡_, refl, sym, ap, _∙_, subst}
 use mathlib.Core.Bool.{Bool, true, false}
-use mathlib.Core.List.{List, [], _∷_, _++_}
+use mathlib.Core.List.{List, [], _∷_}
 use lib.Dec.{eqb, ltb}
 use lib.ListN.{length, take, drop, set}
 use lib.Seq.{take-suc, split-at, take-length, getD-set-same, getD-set-other}
@@ -17,29 +17,18 @@ use Rattle.rules.specs.declared.verdict.Found.{Found}
 use Rattle.rules.specs.declared.verdict.Found.the-variants.{Fine}
 use Rattle.rules.specs.State.{fresh, note, Held}
 use Rattle.rules.specs.History.{broken}
-use Rattle.rules.specs.Pattern.{moved, copy, endToEnd, onto, EveryNumberLegal}
-use Rattle.rules.proofs.Judged.{LegalHistory, accepted-legal}
+use Rattle.rules.specs.Pattern.{moved, endToEnd, onto, EveryNumberLegal}
+use Rattle.rules.proofs.Judged.{LegalHistory, legal-older, accepted-legal}
 use Rattle.rules.proofs.JudgeState.{judging-fresh, judging-broken, judging-note}
 use Rattle.rules.proofs.Alike.{recordLater}
-use Rattle.rules.proofs.Copies.{afterCopies}
+use Rattle.rules.proofs.Copies.{afterCopies, moved-append}
+use Rattle.rules.proofs.Pattern.{onto-append, end-history}
 use Rattle.broken.specs.ByState.{foundBy}
 use Rattle.shortest.specs.Shortest.{IsPattern}
 use Rattle.shortest.specs.Search.{nil, nth, Below, Under, Capped}
 use Rattle.shortest.specs.Lifting.{Lower, seen, Scanned, Limit, Lifting}
 use Rattle.shortest.proofs.Monotone.{fine-lower}
 use Rattle.shortest.proofs.Shape.{pattern-length, pattern-within}
-
-onto-append : (a b h : List Command) → onto (a ++ b) h ≡ onto b (onto a h)
-onto-append [] b h = refl
-onto-append (r ∷ a) b h = onto-append a b (r ∷ h)
-
-moved-append : (d : ℕ) (a b : List Command) → moved d (a ++ b) ≡ moved d a ++ moved d b
-moved-append d [] b = refl
-moved-append d (r ∷ a) b = rw (moved-append d a b)
-
-legal-older : (τ : Table) (rs h : List Command) → LegalHistory τ (onto rs h) → LegalHistory τ h
-legal-older τ [] h k = k
-legal-older τ (r ∷ rs) h k = legal-older τ rs (r ∷ h) k .1
 
 pub seen-next : (L : ℕ) (p : List Command) (k i : ℕ) → i < length p → seen L p k (suc i) ≡ recordLater (L * k) (nth p i) ∷ seen L p k i
 seen-next L p k i l =
@@ -50,13 +39,9 @@ seen-next L p k i l =
 seen-all : (L : ℕ) (p : List Command) (k : ℕ) → seen L p k (length p) ≡ seen L p (suc k) 0
 seen-all L p k = ap (λ (q : List Command). onto (moved (L * k) q) (afterCopies L p k)) (take-length p)
 
-end-history : (L : ℕ) (p : List Command) (n k m : ℕ) → m ≡ k + n → onto (endToEnd L p n k) (afterCopies L p k) ≡ afterCopies L p m
-end-history L p zero k m s = let z : k ≡ m = omega arith in ap (afterCopies L p) z
-end-history L p (suc n) k m s = onto-append (copy L p k) (endToEnd L p n (suc k)) (afterCopies L p k) ∙ end-history L p n (suc k) m (omega arith)
-
 copies-legal : (τ : Table) (L : ℕ) (p : List Command) → EveryNumberLegal τ L p → (n : ℕ) → LegalHistory τ (afterCopies L p n)
 copies-legal τ L p f n =
-    subst (LegalHistory τ) (end-history L p n 0 n (omega arith)) (accepted-legal τ (endToEnd L p n 0) 0 [] tt (f n) .0)
+    subst (LegalHistory τ) (end-history τ L p n 0 n (omega arith)) (accepted-legal τ (endToEnd L p n 0) 0 [] tt (f n) .0)
 
 -- each record of each copy breaks no rule
 pub fine-at : (τ : Table) (L : ℕ) (p : List Command) → EveryNumberLegal τ L p → (k i : ℕ) → i < length p
