@@ -1,0 +1,2 @@
+-- A turn of the loop goes to the next command, or to the run's end.
+pub mod Numbers
