@@ -76,10 +76,10 @@ module _ (τ : Table) (bs : List ℕ) (n : ℕ) (s : Kept) (q : Queues) (h : Bot
   abbrev d : Head
   d = q .datas .head
 
-  queued : a .there ≡ true → inActQueue (a .kind) ≡ true
+  pub queued : a .there ≡ true → inActQueue (a .kind) ≡ true
   queued e = there (λ k. inActQueue (k .kind) ≡ true) a e (rw (h .ofActs .head) (act-kinds τ (first bs n) (told s .acts)))
 
-  moved : d .there ≡ true → isData (d .kind) ≡ true
+  pub moved : d .there ≡ true → isData (d .kind) ≡ true
   moved e = there (λ k. isData (k .kind) ≡ true) d e (rw (h .ofDatas .head) (data-kinds τ (first bs n) (told s .datas)))
 
   module _ (k : KeptBank) (g x : ℕ) where
