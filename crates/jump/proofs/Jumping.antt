@@ -14,7 +14,6 @@ use Rattle.records.specs.declared.table.Table.{Table}
 use Rattle.records.specs.declared.transaction.Transaction.{Transaction}
 use Rattle.records.specs.declared.command.Command.{Command}
 use Rattle.rules.specs.declared.state.State.{State}
-use Rattle.rules.specs.Kinds.{isAct, isRef, isData}
 use Rattle.rules.specs.Queues.{Due, actQueue, dataQueue, headAfter}
 use Rattle.rules.specs.CycleRule.{goes, otherwise}
 use Rattle.rules.specs.Run.{served, stops, Ran, run}
@@ -22,16 +21,16 @@ use Rattle.heads.specs.declared.head.Head.{Head}
 use Rattle.heads.specs.declared.due.Counts.{Counts}
 use Rattle.heads.specs.declared.queue.Queues.{Queues}
 use Rattle.heads.specs.Head.{dueOf}
-use Rattle.heads.specs.Queue.{Counted, BothStand}
+use Rattle.heads.specs.Queue.{Counted}
 use Rattle.heads.proofs.Laws.{first}
 use Rattle.engine.specs.Choose.{commandOf}
-use Rattle.engine.specs.Run.{Ready, Runs}
+use Rattle.engine.specs.Run.{Ready}
 use Rattle.engine.proofs.Laws.{here}
 use Rattle.engine.proofs.Going.{Going, Moving}
 use Rattle.earliest.specs.Earliest.{limit, headFrom, actDueFrom, dataDueFrom, actHeadFrom, dataHeadFrom}
 use Rattle.earliest.specs.Jump.{atCycle, leavesAt, leftOf, endsAt, later}
 use Rattle.earliest.proofs.Free.{headAt, fromOn, goes-from}
-use Rattle.earliest.proofs.Jump.{to-end, goes-on, in-time, to-next, still-there}
+use Rattle.earliest.proofs.Jump.{to-end, in-time, to-next, still-there}
 
 -- a head that is free before the limit stands there
 there-if : (q : Option Due) (f : Due → ℕ) (b : Bool) (x : Due) → pick b (some x) none ≡ q → headFrom f q < limit → b ≡ true

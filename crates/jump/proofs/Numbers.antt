@@ -13,7 +13,6 @@ use borrow.Author.Tests.{eq-eqb}
 use Rattle.records.specs.Tests.{pick}
 use Rattle.records.specs.declared.table.Table.{Table}
 use Rattle.rules.specs.declared.state.Stamp.{Stamp}
-use Rattle.rules.specs.declared.state.Bank.{Bank}
 use Rattle.rules.specs.declared.state.Group.{Group}
 use Rattle.rules.specs.Square.{rrdOf, square}
 use Rattle.rules.specs.State.{bankOf, quiet}

@@ -2,14 +2,14 @@ use borrow.Author.Needs.{needs}
 use native.Mathlib.Omega.{arith}
 use Prim.Native.Nat.{ℕ, _+_, _-_, _*_, _≤_, _<_}
 use mathlib.Core.Path.{_≡_, refl, sym, ap, _∙_}
-use mathlib.Core.Logic.{inl, inr, ⊎-elim}
-use mathlib.Core.Bool.{Bool, true, false}
+use mathlib.Core.Logic.{⊎-elim}
+use mathlib.Core.Bool.{Bool, true}
 use mathlib.Core.List.{map}
 use denote.Ref.{now}
 use Rattle.records.specs.Told.{putAt}
 use Rattle.records.specs.declared.command.Command.{Command}
 use Rattle.records.specs.Command.{bytesOf}
-use Rattle.rules.specs.Kinds.{isAct, isWr, isRef, isData, inActQueue}
+use Rattle.rules.specs.Kinds.{isWr, isData, inActQueue}
 use Rattle.rules.specs.State.{Held}
 use Rattle.rules.proofs.Ranges.{held, ranges}
 use Rattle.heads.proofs.Laws.{first}
@@ -17,7 +17,7 @@ use Rattle.timing.specs.Kept.{toldGroup, told}
 use Rattle.engine.specs.Choose.{commandOf}
 use Rattle.engine.proofs.Laws.{act-kind}
 use Rattle.engine.proofs.Going.{Going, starts, same-size, Moving, room-for, few, act-asked, act-left, data-asked, data-left}
-use Rattle.engine.proofs.InPlace.{atCycle, data-only, act-queues, ref-queues, kept-asked, ref-moves, act-stored, data-stored}
+use Rattle.engine.proofs.InPlace.{atCycle, data-only, kept-asked, ref-moves, act-stored, data-stored}
 use Rattle.earliest.specs.Earliest.{limit, actsFrom, datasFrom, actHeadFrom, dataHeadFrom}
 use Rattle.jump.proofs.Numbers.{acts-one, datas-one}
 use Rattle.jump.proofs.Heads.{queued, moved, from-data, from-act, from-ref}
