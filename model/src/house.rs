@@ -2,6 +2,7 @@
 
 use crate::desk::schedule_bytes;
 use crate::records::{GroupTable, Table, BANKS, EDITION, REFRESH};
+use crate::rules::{ACT, RDA, WRA};
 pub use crate::records::{whole, B, GROUPS, LONGS, RFC};
 
 pub const RC: usize = 7;
@@ -158,6 +159,20 @@ pub fn built(table: &[u16], list: &[[u8; 4]]) -> (Vec<u8>, Vec<u32>) {
     schedule_bytes(edition, &bytes_of(table), &bytes, &mut room, &mut finishes)
         .expect("the list is accepted");
     (room, finishes)
+}
+
+/// Patterns whose copy 2 breaks by a long number of table D at length 59: by rule 6, its first ACT against an ACT of copy 1, and by rule 9,
+/// its first read against a write; each also where a neighbour hides that one.
+pub fn long_in_copy_2() -> [Vec<(u32, u8, u8)>; 4] {
+    let act = [(0, ACT, 0), (10, RDA, 0), (40, ACT, 4), (50, RDA, 4)];
+    let write = [(0, ACT, 0), (10, RDA, 0), (20, ACT, 4), (45, WRA, 4)];
+    let mut hidden_act = act.to_vec();
+    hidden_act.insert(3, (46, ACT, 1));
+    hidden_act.push((56, RDA, 1));
+    let mut hidden_write = write.to_vec();
+    hidden_write.insert(3, (26, ACT, 1));
+    hidden_write.push((49, WRA, 1));
+    [act.to_vec(), hidden_act, write.to_vec(), hidden_write]
 }
 
 /// A linear congruential generator, so that the cases are the same on every machine.

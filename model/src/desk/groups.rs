@@ -172,20 +172,8 @@ fn remainders() {
 /// Copy 2 breaks by a long number, of rule 6 and of rule 9, with a neighbour that hides it and without; not under table A.
 #[test]
 fn patterns() {
-    let act = [(0, ACT, 0), (10, RDA, 0), (40, ACT, 4), (50, RDA, 4)];
-    let write = [(0, ACT, 0), (10, RDA, 0), (20, ACT, 4), (45, WRA, 4)];
-    let mut hidden_act = act.to_vec();
-    hidden_act.insert(3, (46, ACT, 1));
-    hidden_act.push((56, RDA, 1));
-    let mut hidden_write = write.to_vec();
-    hidden_write.insert(3, (26, ACT, 1));
-    hidden_write.push((49, WRA, 1));
-    for (pattern, rule, record) in [
-        (&act[..], 6, 0),
-        (&hidden_act, 6, 0),
-        (&write, 9, 1),
-        (&hidden_write, 9, 1),
-    ] {
+    let broken = [(6, 0), (6, 0), (9, 1), (9, 1)];
+    for (pattern, (rule, record)) in long_in_copy_2().iter().zip(broken) {
         let verdict = |t: &[u16], length| {
             let answer = judge_pattern(7, &bytes_of(t), &bytes(pattern), length);
             answer.expect("whole records").1

@@ -154,15 +154,7 @@ fn one_group(cases: &mut Cases) {
 /// Copy 2 breaks by a long number: its first ACT against an ACT of copy 1, and its first read against a write; each also where a neighbour
 /// hides that one.
 fn patterns(cases: &mut Cases) {
-    let act = [(0, ACT, 0), (10, RDA, 0), (40, ACT, 4), (50, RDA, 4)];
-    let write = [(0, ACT, 0), (10, RDA, 0), (20, ACT, 4), (45, WRA, 4)];
-    let mut hidden_act = act.to_vec();
-    hidden_act.insert(3, (46, ACT, 1));
-    hidden_act.push((56, RDA, 1));
-    let mut hidden_write = write.to_vec();
-    hidden_write.insert(3, (26, ACT, 1));
-    hidden_write.push((49, WRA, 1));
-    for pattern in [&act[..], &hidden_act, &write, &hidden_write] {
+    for pattern in &long_in_copy_2() {
         for length in [59, 60, 200] {
             cases.pattern(&TABLE_D, pattern, length);
         }
