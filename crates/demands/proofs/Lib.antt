@@ -10,8 +10,10 @@ pub mod Judges
 pub mod Serves
 pub mod RunsOn
 pub mod NeverRuns
+pub mod Pieces
 pub mod CallLaws
 pub mod GroupCalls
+pub mod ArrivalCalls
 pub mod Calls
 pub mod Traces
 pub mod OneGroup

@@ -1,9 +1,11 @@
 pub mod Causes
 pub mod Demands
 pub mod Runs
+pub mod Pieces
 pub mod Traces
 pub mod Handed
 pub mod GroupCalls
+pub mod ArrivalCalls
 pub mod Calls
 pub mod OneGroup
 pub mod Pins
