@@ -6,7 +6,7 @@
 #include "skvorzhan.h"
 
 static const skv_numbers table_a = {{7, 8, 4, 4, 10, 10, 28, 38, 6, 32, 10, 8, 6, 12, 6, 0}};
-static const skv_transaction list[2] = {{1, 0, 1, 1}, {0, 0, 1, 1}};
+static const skv_transaction list[2] = {{1, 0, 1, 1, 0}, {0, 0, 1, 1, 0}};
 static const uint8_t list_bytes[8] = {1, 0, 1, 1, 0, 0, 1, 1};
 static const uint16_t expected = 7;
 static const char *const kinds[6] = {"ACT", "RD", "RDA", "WR", "WRA", "REF"};
@@ -54,6 +54,18 @@ int main(void) {
         skv_run_bytes(c, expected, table, sizeof table, list_bytes, sizeof list_bytes, 1000, again + 16, sizeof again - 16);
     if (rest.answer.count != 2 || rest.answer.cycles != 35 || rest.controller.cycle != 55) return wrong("skv_run_bytes");
     if (memcmp(again, commands, sizeof commands) != 0) return wrong("skv_run");
+
+    /* The read arrives at cycle 20, and is lent when the write is served; then another at 20 comes too late. */
+    static const skv_transaction pieces[3] = {{1, 0, 1, 1, 0}, {0, 0, 1, 1, 20}, {0, 0, 1, 1, 20}};
+    c = skv_start(expected, table, sizeof table).controller;
+    ran = skv_run(&c, expected, table, sizeof table, pieces, 1, 1000, again, sizeof again);
+    if (ran.count != 2 || ran.cycles != 11 || c.lent != 1) return wrong("skv_run");
+    ran = skv_run(&c, expected, table, sizeof table, pieces, 2, 1000, again + 16, sizeof again - 16);
+    if (ran.count != 2 || ran.cycles != 44 || c.lent != 2) return wrong("skv_run");
+    if (memcmp(again, commands, sizeof commands) != 0) return wrong("skv_run");
+    ran = skv_run(&c, expected, table, sizeof table, pieces, 3, 1, again, sizeof again);
+    if (ran.refused != 12 || c.lent != 2) return wrong("skv_run");
+
     skv_answer none = skv_schedule(expected, table, sizeof table, list, 2, commands, 31, finishes, 2);
     if (none.refused != 5 || none.edition != 7) return wrong("skv_schedule");
     skv_answer other = skv_schedule(5, table, sizeof table, list, 2, commands, 31, finishes, 2);

@@ -1,50 +1,6 @@
 /* Every field of every struct, and every parameter of every call, with a value of its own, through the archive. Were two of them in another
  * order here than in the archive, some value would come back elsewhere. Ends with status 1 and the line where one does. */
-#include <stdio.h>
-#include <string.h>
-
-#include "skvorzhan.h"
-
-#define EDITION 4660
-
-static const skv_numbers numbers = {{EDITION, 16, 4, 5, 11, 12, 28, 41, 6, 155, 13, 10, 7, 14, 3, 50}};
-static const uint8_t table[32] = {0x34, 0x12, 16, 0, 4,  0, 5,  0, 11, 0, 12, 0, 28, 0, 41, 0,
-                                  6,    0,    155, 0, 13, 0, 10, 0, 7,  0, 14, 0, 3,  0, 50, 0};
-
-/* The same in five groups, with long CCD 8, long RRD 9, long WTR 15. */
-static const skv_group_numbers group_numbers = {{EDITION, 16, 4, 5, 11, 12, 28, 41, 6, 155, 13, 10, 7, 14, 3, 50, 5, 8, 9, 15}};
-static const uint8_t group_table[40] = {0x34, 0x12, 16,  0, 4,  0, 5,  0, 11, 0, 12, 0, 28, 0, 41, 0, 6, 0, 155, 0,
-                                        13,   0,    10,  0, 7,  0, 14, 0, 3,  0, 50, 0, 5,  0, 8,  0, 9, 0, 15,  0};
-
-static int wrong;
-
-static void must(int holds, int line, const char *what) {
-    if (holds) return;
-    fprintf(stderr, "fields.c, line %d: not so: %s\n", line, what);
-    wrong = 1;
-}
-
-#define MUST(holds) must(holds, __LINE__, #holds)
-
-static int same(const void *a, const void *b, size_t n) { return memcmp(a, b, n) == 0; }
-
-static int is(skv_answer a, uint32_t refused, uint32_t position, uint32_t edition, uint32_t count, uint32_t cycles) {
-    return a.refused == refused && a.position == position && a.edition == edition && a.count == count && a.cycles == cycles;
-}
-
-static int says(skv_verdict_answer a, uint32_t refused, uint32_t position, uint32_t edition, uint32_t rule, uint32_t copy, uint32_t record) {
-    return a.refused == refused && a.position == position && a.edition == edition && a.rule == rule && a.copy == copy && a.record == record;
-}
-
-static int finds(skv_capture_answer a, uint32_t refused, uint32_t position, uint32_t edition, uint32_t count, uint32_t rule, uint32_t record) {
-    return a.refused == refused && a.position == position && a.edition == edition && a.count == count && a.rule == rule && a.record == record;
-}
-
-static void put(uint8_t *out, uint32_t cycle, uint8_t kind, uint8_t bank, uint16_t number) {
-    const uint8_t bytes[8] = {(uint8_t)cycle, (uint8_t)(cycle >> 8), (uint8_t)(cycle >> 16), (uint8_t)(cycle >> 24),
-                              kind,           bank,                  (uint8_t)number,        (uint8_t)(number >> 8)};
-    memcpy(out, bytes, 8);
-}
+#include "fields.h"
 
 static void one_record(void) {
     uint8_t out[40];
@@ -66,8 +22,14 @@ static void one_record(void) {
     MUST(is(skv_write_transaction(1, 2, 3, 4, out, 4), 0, 0, 0, 0, 0) && same(out, four, 4));
     MUST(is(skv_write_transaction(1, 2, 3, 4, out, 5), 3, 0, 0, 0, 0));
     skv_transaction_answer x = skv_read_transaction(four, 4);
-    MUST(x.refused == 0 && x.position == 0 && x.edition == 0 && x.kind == 1 && x.start == 2 && x.bi == 3 && x.bc == 4);
+    MUST(x.refused == 0 && x.position == 0 && x.edition == 0 && x.kind == 1 && x.start == 2 && x.bi == 3 && x.bc == 4 && x.arrival == 0);
     MUST(skv_read_transaction(four, 3).refused == 3);
+    const uint8_t later[8] = {1, 2, 3, 4, 0x67, 0x45, 0x23, 0x01};
+    MUST(is(skv_write_later(1, 2, 3, 4, 0x01234567, out, 8), 0, 0, 0, 0, 0) && same(out, later, 8));
+    MUST(is(skv_write_later(1, 2, 3, 4, 0x01234567, out, 4), 3, 0, 0, 0, 0));
+    x = skv_read_later(later, 8);
+    MUST(x.refused == 0 && x.position == 0 && x.edition == 0 && x.kind == 1 && x.start == 2 && x.bi == 3 && x.bc == 4);
+    MUST(x.arrival == 0x01234567 && skv_read_later(later, 4).refused == 3);
     const uint8_t refresh[4] = {2, 0, 0, 0}, not_one[4] = {2, 0, 0, 1};
     x = skv_read_transaction(refresh, 4);
     MUST(x.refused == 0 && x.kind == 2 && x.start == 0 && x.bi == 0 && x.bc == 0);
@@ -94,10 +56,10 @@ static void one_record(void) {
 static void lists(void) {
     const uint8_t bytes[12] = {1, 2, 3, 4, 0, 5, 6, 7, 0, 16, 1, 1};
     const skv_transaction first = {.kind = 1, .start = 2, .bi = 3, .bc = 4}, second = {.kind = 0, .start = 5, .bi = 6, .bc = 7};
-    const skv_transaction third = {.kind = 0, .start = 16, .bi = 1, .bc = 1}, untouched = {9, 9, 9, 9};
+    const skv_transaction third = {.kind = 0, .start = 16, .bi = 1, .bc = 1}, untouched = {9, 9, 9, 9, 9};
     skv_transaction list[3] = {untouched, untouched, untouched};
     MUST(is(skv_read_transactions(EDITION, table, 32, bytes, 8, list, 3), 0, 0, EDITION, 2, 0));
-    MUST(same(&list[0], &first, 4) && same(&list[1], &second, 4) && same(&list[2], &untouched, 4));
+    MUST(same(&list[0], &first, 8) && same(&list[1], &second, 8) && same(&list[2], &untouched, 8));
     MUST(is(skv_read_transactions(EDITION, table, 32, bytes, 8, list, 1), 3, 0, EDITION, 0, 0));
     MUST(is(skv_read_transactions(EDITION, table, 32, bytes, 12, list, 3), 4, 2, EDITION, 0, 0));
     MUST(is(skv_read_transactions(1, table, 32, bytes, 8, list, 3), 10, EDITION, EDITION, 0, 0));
@@ -111,6 +73,16 @@ static void lists(void) {
     MUST(same(commands, start, 8) && same(commands, again, sizeof commands) && same(finishes, same_finishes, sizeof finishes));
     skv_command_answer last = skv_read_command(commands + 8 * 62, 8);
     MUST(last.kind == 2 && last.bank == 10 && last.number == 1 && finishes[1] == last.cycle + 13 + 4 && finishes[2] == 9);
+    /* The same, 0x010203 cycles later. */
+    const uint8_t laters[16] = {1, 2, 3, 4, 3, 2, 1, 0, 0, 5, 6, 7, 3, 2, 1, 0};
+    skv_transaction arriving[3] = {untouched, untouched, untouched};
+    MUST(is(skv_read_later_transactions(EDITION, table, 32, laters, 16, arriving, 3), 0, 0, EDITION, 2, 0));
+    MUST(arriving[0].kind == 1 && arriving[0].bc == 4 && arriving[0].arrival == 0x010203 && same(&arriving[2], &untouched, 8));
+    MUST(is(skv_read_later_transactions(EDITION, table, 32, laters, 12, arriving, 3), 3, 0, EDITION, 0, 0));
+    MUST(is(skv_schedule_later_bytes(EDITION, table, 32, laters, 16, again, sizeof again, same_finishes, 3), 0, 0, EDITION, 63, 0));
+    MUST(skv_read_command(again + 8 * 62, 8).cycle == last.cycle + 0x010203 && same_finishes[1] == finishes[1] + 0x010203);
+    MUST(is(skv_schedule(EDITION, table, 32, arriving, 2, commands, sizeof commands, finishes, 3), 0, 0, EDITION, 63, 0));
+    MUST(same(commands, again, sizeof commands) && same(finishes, same_finishes, sizeof finishes));
     list[2] = third;
     MUST(is(skv_schedule(EDITION, table, 32, list, 3, commands, sizeof commands, finishes, 3), 4, 2, EDITION, 0, 0));
     MUST(is(skv_schedule(EDITION, table, 32, list, 2, commands, 8 * 63 - 1, finishes, 3), 5, 0, EDITION, 0, 0));
@@ -182,14 +154,16 @@ static void captures(void) {
     MUST(finds(skv_judge_capture(EDITION, table, 32, again, 12, commands, 25), 11, 2, EDITION, 0, 0, 0));
 }
 
-static const skv_transaction three[3] = {
-    {.kind = 1, .start = 3, .bi = 1, .bc = 2}, {.kind = 0, .start = 9, .bi = 1, .bc = 2}, {.kind = 2, .start = 0, .bi = 0, .bc = 0}};
+static const skv_transaction three[3] = {{.kind = 1, .start = 3, .bi = 1, .bc = 2, .arrival = 800},
+                                         {.kind = 0, .start = 9, .bi = 1, .bc = 2, .arrival = 900},
+                                         {.kind = 2, .start = 0, .bi = 0, .bc = 0, .arrival = 1000}};
 static const uint8_t three_bytes[12] = {1, 3, 1, 2, 0, 9, 1, 2, 2, 0, 0, 0};
+static const uint8_t three_laters[24] = {1, 3, 1, 2, 0x20, 3, 0, 0, 0, 9, 1, 2, 0x84, 3, 0, 0, 2, 0, 0, 0, 0xe8, 3, 0, 0};
 
 /* All numbers differ. The list's ACTs go to banks 3 and 9, of groups 3 and 4, its data commands are WR, WRA to bank 3, RD, RDA to bank 9; then
- * comes a REF. What stands past the five groups is not looked at. */
+ * comes a REF, which was not lent before and arrives in time. What stands past the five groups is not looked at. */
 static skv_controller running(uint32_t acts, uint32_t datas) {
-    skv_controller c = {.edition = EDITION, .cycle = 1000, .acts = acts, .datas = datas, .refresh = 402};
+    skv_controller c = {.edition = EDITION, .cycle = 1000, .acts = acts, .datas = datas, .refresh = 402, .lent = 2};
     for (uint32_t k = 0; k < 16; k++) c.banks[k] = (skv_bank){.opened = 500 + k, .act = 100 + 10 * k, .rd = 101 + 10 * k, .wr = 102 + 10 * k};
     for (uint32_t k = 0; k < 4; k++) c.last[k] = 300 + k;
     for (uint32_t k = 0; k < 8; k++) {
@@ -199,10 +173,20 @@ static skv_controller running(uint32_t acts, uint32_t datas) {
     return c;
 }
 
+/* Refused, c stays. */
+static void stays(skv_controller c, uint32_t number) {
+    uint8_t room[8];
+    skv_controller_answer a = skv_run_later_bytes(c, EDITION, group_table, 40, three_laters, 24, 1, room, 8);
+    MUST(is(a.answer, number, 0, EDITION, 0, 0) && same(&a.controller, &c, sizeof c));
+    a = skv_run_bytes(c, EDITION, group_table, 40, three_bytes, 12, 1, room, 8);
+    MUST(is(a.answer, number, 0, EDITION, 0, 0) && same(&a.controller, &c, sizeof c));
+}
+
 /* One cycle from c, by each call: it writes that command, and leaves want. */
 static void goes(skv_controller c, skv_controller want, uint8_t kind, uint8_t bank, uint16_t number) {
     uint8_t room[8], right[8];
     put(right, 1000, kind, bank, number);
+    want.lent = 3;
     skv_controller lent = c;
     MUST(is(skv_step(&lent, EDITION, group_table, 40, three, 3, room, 8), 0, 0, EDITION, 1, 1));
     MUST(same(&lent, &want, sizeof want) && same(room, right, 8));
@@ -211,18 +195,23 @@ static void goes(skv_controller c, skv_controller want, uint8_t kind, uint8_t ba
     MUST(is(skv_run(&lent, EDITION, group_table, 40, three, 3, 1, room, 8), 0, 0, EDITION, 1, 1));
     MUST(same(&lent, &want, sizeof want) && same(room, right, 8));
     memset(room, 0, 8);
-    skv_controller_answer a = skv_run_bytes(c, EDITION, group_table, 40, three_bytes, 12, 1, room, 8);
+    skv_controller_answer a = skv_run_later_bytes(c, EDITION, group_table, 40, three_laters, 24, 1, room, 8);
+    MUST(is(a.answer, 0, 0, EDITION, 1, 1) && same(&a.controller, &want, sizeof want) && same(room, right, 8));
+    memset(room, 0, 8);
+    c.lent = 1; /* The read arrived at 900. */
+    stays(c, 12);
+    c.lent = 4;
+    stays(c, 9);
+    c.lent = 3; /* Of 4 bytes they arrive at 0. */
+    a = skv_run_bytes(c, EDITION, group_table, 40, three_bytes, 12, 1, room, 8);
     MUST(is(a.answer, 0, 0, EDITION, 1, 1) && same(&a.controller, &want, sizeof want) && same(room, right, 8));
     /* Another edition, and a stored cycle that is not before its own: all stays. */
     c.edition += 65536;
-    a = skv_run_bytes(c, EDITION, group_table, 40, three_bytes, 12, 1, room, 8);
-    MUST(is(a.answer, 9, 0, EDITION, 0, 0) && same(&a.controller, &c, sizeof c));
+    stays(c, 9);
     c.edition -= 65536, c.refresh = c.cycle;
-    a = skv_run_bytes(c, EDITION, group_table, 40, three_bytes, 12, 1, room, 8);
-    MUST(is(a.answer, 9, 0, EDITION, 0, 0) && same(&a.controller, &c, sizeof c));
+    stays(c, 9);
     c.refresh = 402, c.groups[4].wr = c.cycle;
-    a = skv_run_bytes(c, EDITION, group_table, 40, three_bytes, 12, 1, room, 8);
-    MUST(is(a.answer, 9, 0, EDITION, 0, 0) && same(&a.controller, &c, sizeof c));
+    stays(c, 9);
 }
 
 static void running_controllers(void) {
@@ -259,10 +248,10 @@ static void running_controllers(void) {
     want.cycle = 1001, want.acts = 3, want.refresh = 1000;
     goes(c, want, 5, 0, 2);
 
-    /* Commands and cycles apart: ACT at 0, WR at RCD, and WRA not yet. */
+    /* Commands and cycles apart: ACT at the arrival, 800, WR after RCD, and WRA not yet. */
     uint8_t room[24];
     c = fresh.controller;
-    MUST(is(skv_run(&c, EDITION, table, 32, three, 1, 16, room, 24), 0, 0, EDITION, 2, 16));
+    MUST(is(skv_run(&c, EDITION, table, 32, three, 1, 816, room, 24), 0, 0, EDITION, 2, 816));
 }
 
 int main(void) {

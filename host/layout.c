@@ -46,6 +46,7 @@ int main(void) {
     FIELD(skv_transaction_answer, start);
     FIELD(skv_transaction_answer, bi);
     FIELD(skv_transaction_answer, bc);
+    FIELD(skv_transaction_answer, arrival);
     WHOLE(skv_transaction_answer);
     HEAD(skv_command_answer);
     FIELD(skv_command_answer, cycle);
@@ -66,6 +67,7 @@ int main(void) {
     FIELD(skv_transaction, start);
     FIELD(skv_transaction, bi);
     FIELD(skv_transaction, bc);
+    FIELD(skv_transaction, arrival);
     WHOLE(skv_transaction);
     FIELD(skv_bank, opened);
     FIELD(skv_bank, act);
@@ -84,6 +86,7 @@ int main(void) {
     FIELD(skv_controller, last);
     FIELD(skv_controller, groups);
     FIELD(skv_controller, refresh);
+    FIELD(skv_controller, lent);
     WHOLE(skv_controller);
     FIELD(skv_controller_answer, controller);
     FIELD(skv_controller_answer, answer);

@@ -12,18 +12,20 @@
  *
  *   1  table neither 32 nor 40 bytes
  *   2  a table number out of range, CCD below 2 or below B, a long number below its short one
- *   3  transaction bytes not a multiple of 4, or over 256 transactions, or too few places to decode into
- *   4  a transaction out of range, a refresh where RFC is 0 among them; the position is the lowest such transaction's number, from 0
+ *   3  transaction bytes not a multiple of 4, or for those of 8 bytes of 8, or over 256 transactions, or too few places to decode into
+ *   4  a transaction out of range, a refresh where RFC is 0 among them, or an arrival above 20,000,000 or less than the one before it; the
+ *      position is the lowest such transaction's number, from 0
  *   5  too little room for commands
  *   6  fewer places for finishing cycles than transactions
  *   7  schedule bytes not a multiple of 8, or capture bytes not a multiple of 4, or over 69,632 records
  *   8  pattern length 0
  *   9  a controller that cannot be gone on with: its cycle at 100,000,000 or more, an edition not the table's, a stored cycle (of the table's
  *      banks and groups, of the four ACTs, of the last REF) not before its own cycle, more commands gone from a queue than the list puts
- *      there, or a data command gone whose ACT has not
+ *      there, a data command gone whose ACT has not, or more transactions lent before than the list has
  *  10  the expected edition is not the table's; the position is the table's edition. Expected 0 always differs, since no table has it
  *  11  a capture record whose stamp is equal to that of the record before it, or whose true cycle is above 4,294,967,295; the position is the
  *      lowest such record's number, from 0, ticks counted
+ *  12  a late piece: the first transaction that was not lent before arrives below the controller's cycle
  *
  * Each call that is lent a table is told before it which edition the caller expects. Those that read or write one record are told none.
  *
@@ -47,7 +49,10 @@
  *                         that is lent a table takes either
  *   transaction, 4 bytes  type (0 read, 1 write, 2 refresh), start bank, BI, BC. BI and BC are 1 to 16; start is below banks and BI is at most
  *                         banks. Its banks are start, start + 1 and so on, BI of them, with bank 0 after the last. Of a refresh start, BI and
- *                         BC are 0; a table whose RFC is 0 refuses it
+ *                         BC are 0; a table whose RFC is 0 refuses it. It arrives at cycle 0
+ *   transaction, 8 bytes  the same, then its arrival (32 bits), at most 20,000,000 and in a list never less than the one before it. Neither
+ *                         queue sees the transaction before that cycle. Each call that is lent transactions as bytes is there for either
+ *                         record: one with `later` in its name takes those of 8 bytes
  *   command, 8 bytes      cycle (32 bits), kind (0 ACT, 1 RD, 2 RDA, 3 WR, 4 WRA, 5 REF), bank (of a REF 0), transaction number (16 bits)
  *   capture record,       stamp (16 bits), kind, bank; kind 255 with bank 0 is a tick, which is no command, and any other a command. The stamp
  *   4 bytes               runs round from 65,535 to 0. The first record's true cycle is its stamp, and each later one's is that of the record
@@ -68,77 +73,54 @@ extern "C" {
 #define SKV_NEVER 4294967295u
 
 /* refused: 0, or the number of the refusal; then count and cycles are 0.
- * count: commands written (skv_schedule, skv_schedule_bytes, skv_run, skv_step, skv_run_bytes), transactions read (skv_read_transactions), or
- * the bound (skv_bound); else 0, for skv_write_command and skv_write_capture_record too. cycles: cycles run (skv_run, skv_step and
- * skv_run_bytes); else 0. */
+ * count: commands written (skv_schedule, skv_run and skv_step, and those from bytes), transactions read (skv_read_transactions and
+ * skv_read_later_transactions), or the bound (skv_bound); else 0, for skv_write_command and skv_write_capture_record too. cycles: cycles run
+ * (skv_run and skv_step, and those from bytes); else 0. */
 typedef struct skv_answer {
-    uint32_t refused;
-    uint32_t position;
-    uint32_t edition;
-    uint32_t count;
-    uint32_t cycles;
+    uint32_t refused, position, edition;
+    uint32_t count, cycles;
 } skv_answer;
 
 /* rule: 0 where the schedule or pattern is accepted, else the first broken rule, 1 to 12. copy: the lowest that breaks it, from 1, for a
  * pattern; 0 for a schedule. record: from 0; for rule 10 the number of records. Where refused or accepted, rule, copy and record are 0. */
 typedef struct skv_verdict_answer {
-    uint32_t refused;
-    uint32_t position;
-    uint32_t edition;
-    uint32_t rule;
-    uint32_t copy;
-    uint32_t record;
+    uint32_t refused, position, edition;
+    uint32_t rule, copy, record;
 } skv_verdict_answer;
 
 /* count: commands written. rule: 0 where they are accepted, else the first broken rule, 1 to 12. record: from 0 of the written commands; for
  * rule 10 their count. Where refused, count, rule and record are 0; where accepted, rule and record are. */
 typedef struct skv_capture_answer {
-    uint32_t refused;
-    uint32_t position;
-    uint32_t edition;
-    uint32_t count;
-    uint32_t rule;
-    uint32_t record;
+    uint32_t refused, position, edition;
+    uint32_t count, rule, record;
 } skv_capture_answer;
 
 /* The twenty numbers, of a table of 32 bytes with 1 group and the short CCD, RRD and WTR again. Where refused, all twenty are 0. */
 typedef struct skv_table_answer {
-    uint32_t refused;
-    uint32_t position;
-    uint32_t edition;
+    uint32_t refused, position, edition;
     uint16_t numbers[20];
 } skv_table_answer;
 
-/* Where refused, kind, start, bi and bc are 0. */
+/* Where refused, kind, start, bi, bc and arrival are 0. Of a transaction of 4 bytes the arrival is 0. */
 typedef struct skv_transaction_answer {
-    uint32_t refused;
-    uint32_t position;
-    uint32_t edition;
-    uint8_t kind;
-    uint8_t start;
-    uint8_t bi;
-    uint8_t bc;
+    uint32_t refused, position, edition;
+    uint8_t kind, start, bi, bc;
+    uint32_t arrival;
 } skv_transaction_answer;
 
 /* Where refused, cycle, kind, bank and number are 0. */
 typedef struct skv_command_answer {
-    uint32_t refused;
-    uint32_t position;
-    uint32_t edition;
+    uint32_t refused, position, edition;
     uint32_t cycle;
-    uint8_t kind;
-    uint8_t bank;
+    uint8_t kind, bank;
     uint16_t number;
 } skv_command_answer;
 
 /* Where refused, stamp, kind and bank are 0. */
 typedef struct skv_capture_record_answer {
-    uint32_t refused;
-    uint32_t position;
-    uint32_t edition;
+    uint32_t refused, position, edition;
     uint16_t stamp;
-    uint8_t kind;
-    uint8_t bank;
+    uint8_t kind, bank;
 } skv_capture_record_answer;
 
 /* The sixteen numbers of a table of 32 bytes, in the order of its bytes. */
@@ -152,10 +134,11 @@ typedef struct skv_group_numbers {
 } skv_group_numbers;
 
 typedef struct skv_transaction {
-    uint8_t kind;  /* 0 read, 1 write, 2 refresh; of a refresh the others are 0 */
-    uint8_t start; /* the first bank */
-    uint8_t bi;    /* how many, with bank 0 after the table's last */
-    uint8_t bc;    /* data commands to each */
+    uint8_t kind;     /* 0 read, 1 write, 2 refresh; of a refresh start, bi and bc are 0 */
+    uint8_t start;    /* the first bank */
+    uint8_t bi;       /* how many, with bank 0 after the table's last */
+    uint8_t bc;       /* data commands to each */
+    uint32_t arrival; /* the first cycle at which a queue sees it */
 } skv_transaction;
 
 /* A bank: open unless opened is 0; the cycles of its last ACT and of the last RD and WR since. In the bank that it goes to, each ACT, RD and WR
@@ -163,20 +146,16 @@ typedef struct skv_transaction {
  * goes to keeps its number. */
 typedef struct skv_bank {
     uint32_t opened;
-    uint32_t act;
-    uint32_t rd;
-    uint32_t wr;
+    uint32_t act, rd, wr;
 } skv_bank;
 
 /* A group of banks: the cycles of its latest ACT, RD and WR. */
 typedef struct skv_group {
-    uint32_t act;
-    uint32_t rd;
-    uint32_t wr;
+    uint32_t act, rd, wr;
 } skv_group;
 
 /* A running controller. Any bits are one; what number 9 says of them is checked by the calls. Of the banks and of the groups only the table's
- * are read or changed. No byte lies between the fields: it is 97 numbers in 388 bytes. */
+ * are read or changed. No byte lies between the fields: it is 98 numbers in 392 bytes. */
 typedef struct skv_controller {
     uint32_t edition;
     uint32_t cycle; /* the next to be tried */
@@ -186,6 +165,7 @@ typedef struct skv_controller {
     uint32_t last[4]; /* the last four ACTs, newest first */
     skv_group groups[8];
     uint32_t refresh; /* the last REF */
+    uint32_t lent;    /* how many transactions it was lent before: the length of the last run's list */
 } skv_controller;
 
 typedef struct skv_controller_answer {
@@ -208,6 +188,10 @@ skv_transaction_answer skv_read_transaction(const uint8_t *bytes, size_t bytes_l
 /* Checks 3 (out is not 4 bytes), 4 (as skv_read_transaction). Writes the 4 bytes of the transaction. count is 0. */
 skv_answer skv_write_transaction(uint8_t kind, uint8_t start, uint8_t bi, uint8_t bc, uint8_t *out, size_t out_len);
 
+/* As the two before it, for a transaction of 8 bytes: 3 (not 8 bytes), 4 also for an arrival above 20,000,000. */
+skv_transaction_answer skv_read_later(const uint8_t *bytes, size_t bytes_len);
+skv_answer skv_write_later(uint8_t kind, uint8_t start, uint8_t bi, uint8_t bc, uint32_t arrival, uint8_t *out, size_t out_len);
+
 /* Checks 7 (not 8 bytes). Any 8 bytes are a command. */
 skv_command_answer skv_read_command(const uint8_t *bytes, size_t bytes_len);
 
@@ -227,6 +211,10 @@ skv_answer skv_write_capture_record(uint16_t stamp, uint8_t kind, uint8_t bank, 
 skv_answer skv_read_transactions(uint16_t expected, const uint8_t *table, size_t table_len, const uint8_t *bytes, size_t bytes_len,
                                  skv_transaction *list, size_t list_len);
 
+/* The same from transactions of 8 bytes: 3 where bytes_len is not a multiple of 8. */
+skv_answer skv_read_later_transactions(uint16_t expected, const uint8_t *table, size_t table_len, const uint8_t *bytes, size_t bytes_len,
+                                       skv_transaction *list, size_t list_len);
+
 /* Checks 1, 2, 10, 3 (over 256 transactions), 4, 5 (commands_len under 8 x the commands due), 6 (finishes_len under list_len).
  * Writes the schedule that the cycle rule gives, 8 bytes for each command, oldest first, and into finishes, for each transaction, the cycle at
  * which it finishes: a write at its last data command, a read RL + B cycles after its last data command, when its last word has come back, a
@@ -238,6 +226,10 @@ skv_answer skv_schedule(uint16_t expected, const uint8_t *table, size_t table_le
 /* As skv_schedule, with the transactions' bytes for the list: 3 also where list_len is not a multiple of 4. */
 skv_answer skv_schedule_bytes(uint16_t expected, const uint8_t *table, size_t table_len, const uint8_t *list, size_t list_len,
                               uint8_t *commands, size_t commands_len, uint32_t *finishes, size_t finishes_len);
+
+/* The same from transactions of 8 bytes: 3 where list_len is not a multiple of 8. */
+skv_answer skv_schedule_later_bytes(uint16_t expected, const uint8_t *table, size_t table_len, const uint8_t *list, size_t list_len,
+                                    uint8_t *commands, size_t commands_len, uint32_t *finishes, size_t finishes_len);
 
 /* Checks 1, 2, 10, 7. Accepts the schedule exactly when every timing rule holds of each record and at the end every bank is closed; otherwise
  * names the first record that breaks a rule, and the first rule that it breaks, 11 and 12 being tested after 9. The transaction numbers are not
@@ -259,17 +251,19 @@ skv_capture_answer skv_judge_capture(uint16_t expected, const uint8_t *table, si
                                      uint8_t *commands, size_t commands_len);
 
 /* Checks 1, 2, 10, 4 (bi or bc outside 1 to 16, or bi above banks; position 0). count is the bound: the last data command of a transaction of
- * (bi, bc) comes at most so many cycles after that of the one before it, the first's after cycle 0; where the one before is a refresh, after its
- * finish. A write finishes there, a read RL + B cycles later. A refresh has no bound of (bi, bc): its REF comes within S, document 01's number of
- * the table, of where its count starts. */
+ * (bi, bc) comes at most so many cycles after the later of its arrival and the last data command of the one before it, where that is a refresh
+ * its finish; the first's after its arrival. A write finishes there, a read RL + B cycles later. A refresh has no bound of (bi, bc): its REF comes
+ * within S, document 01's number of the table, of where its count starts. */
 skv_answer skv_bound(uint16_t expected, const uint8_t *table, size_t table_len, uint8_t bi, uint8_t bc);
 
-/* Checks 1, 2, 10. Answers a fresh controller of the table's edition: cycle 0, all banks closed, "never" throughout. Where refused, one of
- * edition 0, which no table has. */
+/* Checks 1, 2, 10. Answers a fresh controller of the table's edition: cycle 0, all banks closed, "never" throughout, nothing lent. Where refused,
+ * one of edition 0, which no table has. */
 skv_controller_answer skv_start(uint16_t expected, const uint8_t *table, size_t table_len);
 
-/* Checks 1, 2, 10, 3 (over 256 transactions), 4, 5 (room_len under 8 x the lesser of count and the commands left in the two queues), 9.
- * Runs the cycle rule on from what c tells, and stops after count cycles, when the list is served, or at cycle 100,000,000, whichever is first.
+/* Checks 1, 2, 10, 3 (over 256 transactions), 4, 5 (room_len under 8 x the lesser of count and the commands left in the two queues, arrived or
+ * not), 9, 12. Runs the cycle rule on from what c tells, and stops after count cycles, when the list is served, or at cycle 100,000,000, whichever
+ * is first. Transactions may come in pieces: each run is lent the whole list so far, and leaves its length in c, with a count of 0 too. From a
+ * fresh controller, pieces of which none is refused, run to the end, give the commands, the controller and the cycles of the whole list at once.
  * Writes the commands that go, 8 bytes each, into room, and changes c to what it then tells. Bytes beyond, and what c keeps past the table's
  * banks and past its groups, stay as they stood. Of the four ACTs rule 7 reads the fourth; rule 6 reads the groups' ACTs, rule 9 their RDs and
  * WRs. count is the number of commands, cycles the number of cycles run. */
@@ -284,6 +278,10 @@ skv_answer skv_step(skv_controller *c, uint16_t expected, const uint8_t *table, 
  * back by value. Where refused, it comes back as it was. */
 skv_controller_answer skv_run_bytes(skv_controller c, uint16_t expected, const uint8_t *table, size_t table_len, const uint8_t *list,
                                     size_t list_len, uint32_t count, uint8_t *room, size_t room_len);
+
+/* The same from transactions of 8 bytes: 3 where list_len is not a multiple of 8. */
+skv_controller_answer skv_run_later_bytes(skv_controller c, uint16_t expected, const uint8_t *table, size_t table_len, const uint8_t *list,
+                                          size_t list_len, uint32_t count, uint8_t *room, size_t room_len);
 
 #ifdef __cplusplus
 }

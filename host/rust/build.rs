@@ -1,6 +1,6 @@
 //! Finds the archive: the file that SKVORZHAN_ARCHIVE names, or what `rt staticlib host` leaves in the repository. Where SKVORZHAN_BEFORE names
-//! an archive from before a change, with the same calls and structs but for the controller's end, that is linked too, each of its calls with
-//! `before_` in front of its name.
+//! an archive from before a change, with the same calls and structs but for the controller's end and the transactions' arrivals, that is linked too,
+//! each of its calls with `before_` in front of its name.
 
 use std::env;
 use std::path::{Path, PathBuf};
@@ -65,4 +65,10 @@ fn rename(before: &Path) {
     println!("cargo:rustc-link-search=native={}", folder.display());
     println!("cargo:rustc-link-lib=static=skvorzhan_before");
     println!("cargo:rustc-cfg=before");
+    // One from before arrivals has not this call, and its transactions have 4 bytes.
+    let name = b"skv_read_later";
+    let all = std::fs::read(before).expect("it's there");
+    if all.windows(name.len()).any(|part| part == name) {
+        println!("cargo:rustc-cfg=before_has_arrivals");
+    }
 }

@@ -5,6 +5,8 @@
 //! state changes" when it refuses: nothing is written until the last check has passed.
 
 #[cfg(test)]
+mod arrivals;
+#[cfg(test)]
 mod captures;
 #[cfg(test)]
 mod editions;
@@ -26,13 +28,14 @@ mod worked;
 mod wraps;
 
 pub use crate::capture::{read_capture_record, write_capture_record, CaptureRecord};
-pub use crate::records::{read_command, read_table, read_transaction};
-pub use crate::records::{write_command, write_group_table, write_table, write_transaction};
+pub use crate::records::write_transaction;
+pub use crate::records::{read_command, read_later, read_table, read_transaction};
+pub use crate::records::{write_command, write_group_table, write_later, write_table};
 pub use crate::records::{Command, GroupTable, Refusal, Table, Transaction};
 pub use crate::rules::{PatternVerdict, Verdict};
 pub use crate::scheduler::{Bank, Group, State as Controller, NEVER};
 
-use crate::records::EDITION;
+use crate::records::{EDITION, LATER, PLAIN};
 use crate::{capture, rules, scheduler};
 
 /// Numbers 1, 2 and 10, for every call that takes a table: "If they differ it's refused as number 10, position the table's edition,
@@ -64,8 +67,28 @@ pub fn read_transactions(
     bytes: &[u8],
     places: &mut [Transaction],
 ) -> Result<Decoded, Refusal> {
+    read_list(PLAIN, expected, table, bytes, places)
+}
+
+/// The same of records of 8 bytes.
+pub fn read_later_transactions(
+    expected: u16,
+    table: &[u8],
+    bytes: &[u8],
+    places: &mut [Transaction],
+) -> Result<Decoded, Refusal> {
+    read_list(LATER, expected, table, bytes, places)
+}
+
+fn read_list(
+    of_record: usize,
+    expected: u16,
+    table: &[u8],
+    bytes: &[u8],
+    places: &mut [Transaction],
+) -> Result<Decoded, Refusal> {
     let table = admit(expected, table)?;
-    let list = scheduler::decode(&table, bytes)?;
+    let list = scheduler::decode(&table, bytes, of_record)?;
     scheduler::check_list(&table, &list, places.len())?;
     places[..list.len()].copy_from_slice(&list);
     Ok(Decoded {
@@ -107,7 +130,19 @@ pub fn schedule_bytes(
     room: &mut [u8],
     finishes: &mut [u32],
 ) -> Result<Scheduled, Refusal> {
-    let list = scheduler::decode(&admit(expected, table)?, bytes)?;
+    let list = scheduler::decode(&admit(expected, table)?, bytes, PLAIN)?;
+    schedule(expected, table, &list, room, finishes)
+}
+
+/// The same from records of 8 bytes.
+pub fn schedule_later_bytes(
+    expected: u16,
+    table: &[u8],
+    bytes: &[u8],
+    room: &mut [u8],
+    finishes: &mut [u32],
+) -> Result<Scheduled, Refusal> {
+    let list = scheduler::decode(&admit(expected, table)?, bytes, LATER)?;
     schedule(expected, table, &list, room, finishes)
 }
 
@@ -184,7 +219,8 @@ pub struct Ran {
     pub cycles: u32,
 }
 
-/// Numbers 1, 2, 10, 3, 4, 5 and 9. "The host lends its running controller and has it stepped where it lies."
+/// Numbers 1, 2, 10, 3, 4, 5, 9 and 12. "The host lends its running controller and has it stepped where it lies"; "each run is lent the
+/// whole list so far".
 pub fn run(
     controller: &mut Controller,
     expected: u16,
@@ -213,7 +249,20 @@ pub fn run_bytes(
     count: u32,
     room: &mut [u8],
 ) -> Result<Ran, Refusal> {
-    let list = scheduler::decode(&admit(expected, table)?, bytes)?;
+    let list = scheduler::decode(&admit(expected, table)?, bytes, PLAIN)?;
+    run(controller, expected, table, &list, count, room)
+}
+
+/// The same from records of 8 bytes.
+pub fn run_later_bytes(
+    controller: &mut Controller,
+    expected: u16,
+    table: &[u8],
+    bytes: &[u8],
+    count: u32,
+    room: &mut [u8],
+) -> Result<Ran, Refusal> {
+    let list = scheduler::decode(&admit(expected, table)?, bytes, LATER)?;
     run(controller, expected, table, &list, count, room)
 }
 

@@ -1,6 +1,7 @@
-//! The example files: an expected edition, a table and transactions as the listing reads them, or a capture as the trace does, with a text
-//! beside each that says what it holds.
+//! The example files: an expected edition, a table and transactions as the listing reads them, or a capture as the trace does, or transactions
+//! that arrive later; with a text beside each that says what it holds.
 
+mod arrivals;
 mod captures;
 mod text;
 
@@ -168,7 +169,8 @@ fn files() -> Vec<(&'static str, Vec<u8>, String)> {
     let traced = captures::all()
         .into_iter()
         .map(|e| (e.name, e.bytes(), e.text()));
-    listed.chain(traced).collect()
+    let later = [(arrivals::NAME, arrivals::bytes(), arrivals::text())];
+    listed.chain(traced).chain(later).collect()
 }
 
 #[cfg(test)]

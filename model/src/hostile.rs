@@ -1,8 +1,8 @@
 //! The cases of the program `hostile`, and the line of each.
 //!
-//! A case is `[call][n][n bytes]`. Calls 1, 3 and 5 read a table, a transaction and a command from the bytes. Calls 2, 4, 6 and 7 write
-//! a table of 32 bytes, a transaction, a command and a table of 40 bytes: its values come first, in 32, 4, 8 or 40 bytes, and the rest is
-//! the buffer.
+//! A case is `[call][n][n bytes]`. Calls 1, 3, 5 and 8 read a table, a transaction of 4 bytes, a command and a transaction of 8 bytes from
+//! the bytes. Calls 2, 4, 6, 7 and 9 write a table of 32 bytes, a transaction of 4, a command, a table of 40 bytes and a transaction of 8:
+//! its values come first, in 32, 4, 8, 40 or 8 bytes, and the rest is the buffer.
 
 mod cases;
 mod tables;
@@ -19,6 +19,8 @@ const WRITE_TRANSACTION: u8 = 4;
 const READ_COMMAND: u8 = 5;
 const WRITE_COMMAND: u8 = 6;
 const WRITE_GROUP_TABLE: u8 = 7;
+const READ_LATER: u8 = 8;
+const WRITE_LATER: u8 = 9;
 
 /// The longest buffer that a case can have.
 const ROOM: usize = 64;
@@ -55,11 +57,18 @@ fn line(call: u8, bytes: &[u8]) -> Option<String> {
             read_table(bytes).map(|t| t.map(u32::from)),
         )),
         READ_TRANSACTION => {
-            let numbers = |x: Transaction| [x.kind, x.start, x.bi, x.bc].map(u32::from);
+            let numbers = |x: Transaction| x.four().map(u32::from);
             Some(reader(
                 "read_transaction",
                 read_transaction(bytes).map(numbers),
             ))
+        }
+        READ_LATER => {
+            let numbers = |x: Transaction| {
+                let [kind, start, bi, bc] = x.four().map(u32::from);
+                [kind, start, bi, bc, x.arrival]
+            };
+            Some(reader("read_later", read_later(bytes).map(numbers)))
         }
         READ_COMMAND => {
             let numbers =
@@ -80,8 +89,13 @@ fn line(call: u8, bytes: &[u8]) -> Option<String> {
         }
         WRITE_TRANSACTION => {
             let (v, mut room) = values_and_room(bytes, 4)?;
-            let answer = write_transaction(v[0], v[1], v[2], v[3], &mut room);
+            let answer = write_transaction(Transaction::of(v), &mut room);
             Some(writer("write_transaction", answer, &room))
+        }
+        WRITE_LATER => {
+            let (v, mut room) = values_and_room(bytes, 8)?;
+            let answer = write_later(Transaction::of(v), &mut room);
+            Some(writer("write_later", answer, &room))
         }
         WRITE_COMMAND => {
             let (v, mut room) = values_and_room(bytes, 8)?;

@@ -1,6 +1,6 @@
 //! The house tables, tables in which one number outgrows the others, and what else the cases are made from.
 
-use crate::desk::schedule_bytes;
+use crate::desk::{schedule_bytes, schedule_later_bytes, Transaction};
 use crate::records::{GroupTable, Table, BANKS, EDITION, REFRESH};
 use crate::rules::{ACT, RDA, WRA};
 pub use crate::records::{whole, B, GROUPS, LONGS, RFC};
@@ -132,22 +132,35 @@ pub fn split(bytes: &[u8], n: usize) -> Option<(&[u8], &[u8])> {
     (n <= bytes.len()).then(|| bytes.split_at(n))
 }
 
-/// What a transaction puts into each queue: its ACTs or its REF, and its data commands.
-pub fn queued(x: &[u8; 4]) -> [usize; 2] {
-    if x[0] == REFRESH {
+/// A record of 8 bytes.
+pub fn later(x: [u8; 4], arrival: u32) -> [u8; 8] {
+    Transaction::of(&x).arriving(arrival).eight()
+}
+
+/// Records of 8 bytes, each with its arrival.
+pub fn arriving(list: &[[u8; 4]], arrivals: &[u32]) -> Vec<[u8; 8]> {
+    let both = list.iter().zip(arrivals);
+    both.map(|(&x, &arrival)| later(x, arrival)).collect()
+}
+
+/// What a transaction, of a record of either size, puts into each queue: its ACTs or its REF, and its data commands.
+pub fn queued(x: &[u8]) -> [usize; 2] {
+    let x = Transaction::of(x);
+    if x.kind == REFRESH {
         return [1, 0];
     }
-    let [_, _, bi, bc] = x.map(usize::from);
+    let [bi, bc] = [x.bi, x.bc].map(usize::from);
     [bi, bi * bc]
 }
 
 /// The commands due.
-pub fn due(list: &[[u8; 4]]) -> usize {
-    list.iter().map(|x| queued(x).iter().sum::<usize>()).sum()
+pub fn due(list: &[impl AsRef<[u8]>]) -> usize {
+    let one = |x: &[u8]| queued(x).iter().sum::<usize>();
+    list.iter().map(|x| one(x.as_ref())).sum()
 }
 
 /// 8 bytes for each command.
-pub fn room_for(list: &[[u8; 4]]) -> usize {
+pub fn room_for(list: &[impl AsRef<[u8]>]) -> usize {
     8 * due(list)
 }
 
@@ -173,6 +186,16 @@ pub fn long_in_copy_2() -> [Vec<(u32, u8, u8)>; 4] {
     hidden_write.insert(3, (26, ACT, 1));
     hidden_write.push((49, WRA, 1));
     [act.to_vec(), hidden_act, write.to_vec(), hidden_write]
+}
+
+/// The same of records of 8 bytes.
+pub fn built_later(table: &[u16], list: &[[u8; 8]]) -> (Vec<u8>, Vec<u32>) {
+    let mut room = vec![0; room_for(list)];
+    let mut finishes = vec![0; list.len()];
+    let (edition, bytes) = (table[EDITION], list.concat());
+    schedule_later_bytes(edition, &bytes_of(table), &bytes, &mut room, &mut finishes)
+        .expect("the list is accepted");
+    (room, finishes)
 }
 
 /// A linear congruential generator, so that the cases are the same on every machine.

@@ -3,7 +3,8 @@
 
 use std::fmt::Write;
 
-use crate::desk::{read_command, schedule_bytes, Command, Refusal};
+use crate::desk::{read_command, schedule_bytes, schedule_later_bytes, Command, Refusal};
+use crate::records::PLAIN;
 use crate::scheduler::MOST_TRANSACTIONS;
 
 /// "64 KiB of command room", in bytes.
@@ -31,11 +32,12 @@ pub fn headed(input: &[u8]) -> Result<(u16, &[u8], &[u8]), Refusal> {
 
 fn lines(input: &[u8]) -> Result<String, Refusal> {
     let (expected, table, list) = headed(input)?;
-    schedule_lines(expected, table, list, ROOM, MOST_TRANSACTIONS)
+    schedule_lines(PLAIN, expected, table, list, ROOM, MOST_TRANSACTIONS)
 }
 
-/// The lines of a schedule built into so much room, with so many places for finishing cycles.
+/// The lines of a schedule of transactions of so many bytes, built into so much room, with so many places for finishing cycles.
 pub fn schedule_lines(
+    of_record: usize,
     expected: u16,
     table: &[u8],
     list: &[u8],
@@ -44,11 +46,15 @@ pub fn schedule_lines(
 ) -> Result<String, Refusal> {
     let mut commands = vec![0; room];
     let mut finishes = vec![0; slots];
-    let told = schedule_bytes(expected, table, list, &mut commands, &mut finishes)?;
+    let build = match of_record {
+        PLAIN => schedule_bytes,
+        _ => schedule_later_bytes,
+    };
+    let told = build(expected, table, list, &mut commands, &mut finishes)?;
     let (edition, count) = (told.edition, told.commands);
     let mut out = format!("edition {edition} commands {count}\n");
     out.push_str(&command_lines(&commands, count));
-    for (number, cycle) in finishes[..list.len() / 4].iter().enumerate() {
+    for (number, cycle) in finishes[..list.len() / of_record].iter().enumerate() {
         writeln!(out, "finish {number} {cycle}").expect("a string takes it");
     }
     Ok(out)

@@ -1,7 +1,12 @@
-//! The three records of document 01 and request 7's second table record: a reader and a writer of each, and the refusals.
+//! The three records of document 01, request 7's second table record and request 9's second transaction record: a reader and a writer of
+//! each, and the refusals.
 //!
 //! Numbers are little-endian. A writer checks the values as the reader would, and the room. The checks go in the order of their
 //! numbers, and a refused writer changes no byte.
+
+mod transactions;
+
+pub use transactions::*;
 
 use std::fmt;
 
@@ -120,80 +125,6 @@ fn write_numbers(numbers: &[u16], room: &mut [u8]) {
     for (number, pair) in numbers.iter().zip(room.chunks_exact_mut(2)) {
         pair.copy_from_slice(&number.to_le_bytes());
     }
-}
-
-#[derive(Debug, Clone, Copy, PartialEq, Eq)]
-pub struct Transaction {
-    /// The paper's type: 0 read, 1 write, 2 refresh.
-    pub kind: u8,
-    pub start: u8,
-    pub bi: u8,
-    pub bc: u8,
-}
-
-/// The type of a refresh.
-pub const REFRESH: u8 = 2;
-
-/// "Where no table is given, banks counts as 16", and a refresh is "accepted where no table is given".
-const WITHOUT_TABLE: (u16, bool) = (16, true);
-
-/// "BI and BC are 1 to 16", and as request 2 has it, "start must be below banks and BI at most banks". A refresh has "the other three
-/// bytes 0".
-fn in_range(x: &Transaction, (banks, refreshes): (u16, bool)) -> bool {
-    if x.kind == REFRESH {
-        return refreshes && [x.start, x.bi, x.bc] == [0; 3];
-    }
-    let counts = (1..=16).contains(&x.bi) && (1..=16).contains(&x.bc);
-    x.kind <= 1 && counts && u16::from(x.start) < banks && u16::from(x.bi) <= banks
-}
-
-/// A refresh is "refused by number 4 when RFC is 0", which means "that the table has no refresh".
-pub fn accepts(table: &GroupTable, x: &Transaction) -> bool {
-    in_range(x, (table[BANKS], table[RFC] != 0))
-}
-
-fn check_transaction(size: usize, x: &Transaction) -> Result<(), Refusal> {
-    if size != 4 {
-        return refused(3);
-    }
-    if !in_range(x, WITHOUT_TABLE) {
-        return refused(4);
-    }
-    Ok(())
-}
-
-pub fn read_transaction(bytes: &[u8]) -> Result<Transaction, Refusal> {
-    let [kind, start, bi, bc] = match *bytes {
-        [kind, start, bi, bc] => [kind, start, bi, bc],
-        _ => return refused(3),
-    };
-    let x = Transaction {
-        kind,
-        start,
-        bi,
-        bc,
-    };
-    check_transaction(bytes.len(), &x)?;
-    Ok(x)
-}
-
-/// Answers edition 0, since no table is given.
-pub fn write_transaction(
-    kind: u8,
-    start: u8,
-    bi: u8,
-    bc: u8,
-    room: &mut [u8],
-) -> Result<u16, Refusal> {
-    let x = Transaction {
-        kind,
-        start,
-        bi,
-        bc,
-    };
-    check_transaction(room.len(), &x)?;
-    room.copy_from_slice(&[kind, start, bi, bc]);
-    Ok(0)
 }
 
 #[derive(Debug, Clone, Copy, PartialEq, Eq)]

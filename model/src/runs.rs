@@ -1,13 +1,17 @@
 //! The cases of the program `runs`, and the lines of each.
 //!
 //! A case is `[call][expected: u16][t: u8]` and then, for call 1, a build, `[room: u16][slots: u16][n: u16][t bytes][n bytes]`; for call 2,
-//! a run, `[count: u32][room: u16][n: u16][state: 338 bytes][t bytes][n bytes]`; for call 3, a bound, `[BI][BC][t bytes]`. The t bytes are
-//! the table, the rooms are in bytes, the n bytes are the transactions. A state stands there with 16 bits of its edition and 8 of each
-//! bank's `opened`, the others being 0. A case of any other call has no end, so nothing after it is read.
+//! a run, `[count: u32][room: u16][n: u16][state: 342 bytes][t bytes][n bytes]`; for call 3, a bound, `[BI][BC][t bytes]`. The t bytes are
+//! the table, the rooms are in bytes, the n bytes are the transactions, of 4 bytes each; calls 4 and 5 are a build and a run of transactions
+//! of 8 bytes. A state stands there with 16 bits of its edition and 8 of each bank's `opened`, the others being 0. A case of any other call
+//! has no end, so nothing after it is read.
 
+mod arrivals;
 mod cases;
 mod editions;
 mod groups;
+mod pieces;
+mod put;
 mod refreshes;
 mod states;
 
@@ -18,10 +22,13 @@ use std::fmt::Write;
 use crate::desk::*;
 use crate::house::split;
 use crate::listing::{command_lines, schedule_lines};
+use crate::records::{LATER, PLAIN};
 
 const BUILD: u8 = 1;
 const RUN: u8 = 2;
 const BOUND: u8 = 3;
+const BUILD_LATER: u8 = 4;
+const RUN_LATER: u8 = 5;
 
 pub fn lines(input: &[u8]) -> String {
     let mut out = String::new();
@@ -87,6 +94,7 @@ impl<'a> Bytes<'a> {
             group.wr = self.u32()?;
         }
         state.refresh = self.u32()?;
+        state.lent = self.u32()?;
         Some(state)
     }
 }
@@ -100,11 +108,13 @@ struct Case<'a> {
 
 enum Asked<'a> {
     Build {
+        of_record: usize,
         room: usize,
         slots: usize,
         list: &'a [u8],
     },
     Run {
+        of_record: usize,
         count: u32,
         room: usize,
         state: Box<Controller>,
@@ -118,19 +128,30 @@ fn first_case<'a>(rest: &mut Bytes<'a>) -> Option<Case<'a>> {
     let call = rest.u8()?;
     let expected = rest.u16()?;
     let t = rest.u8()?.into();
+    let of_record = match call {
+        BUILD_LATER | RUN_LATER => LATER,
+        _ => PLAIN,
+    };
     let (table, asked) = match call {
-        BUILD => {
+        BUILD | BUILD_LATER => {
             let (room, slots) = (rest.u16()?.into(), rest.u16()?.into());
             let n = rest.u16()?.into();
             let (table, list) = (rest.take(t)?, rest.take(n)?);
-            (table, Asked::Build { room, slots, list })
+            let asked = Asked::Build {
+                of_record,
+                room,
+                slots,
+                list,
+            };
+            (table, asked)
         }
-        RUN => {
+        RUN | RUN_LATER => {
             let (count, room) = (rest.u32()?, rest.u16()?.into());
             let n = rest.u16()?.into();
             let state = Box::new(rest.state()?);
             let (table, list) = (rest.take(t)?, rest.take(n)?);
             let asked = Asked::Run {
+                of_record,
                 count,
                 room,
                 state,
@@ -155,19 +176,26 @@ fn first_case<'a>(rest: &mut Bytes<'a>) -> Option<Case<'a>> {
 fn told(case: &Case) -> (&'static str, Result<String, Refusal>) {
     let (expected, table) = (case.expected, case.table);
     match &case.asked {
-        Asked::Build { room, slots, list } => {
-            let lines = schedule_lines(expected, table, list, *room, *slots);
-            ("build", lines)
+        Asked::Build {
+            of_record,
+            room,
+            slots,
+            list,
+        } => {
+            let lines = schedule_lines(*of_record, expected, table, list, *room, *slots);
+            (plain_or(*of_record, "build", "build_later"), lines)
         }
         Asked::Run {
+            of_record,
             count,
             room,
             state,
             list,
         } => {
             let state = Controller::clone(state);
-            let lines = run_lines(state, expected, table, list, *count, *room);
-            ("run", lines)
+            let run = plain_or(*of_record, run_bytes as Run, run_later_bytes);
+            let lines = run_lines(run, state, expected, table, list, *count, *room);
+            (plain_or(*of_record, "run", "run_later"), lines)
         }
         Asked::Bound(bi, bc) => {
             let line = |(edition, cycles)| format!("edition {edition} {cycles}\n");
@@ -176,8 +204,18 @@ fn told(case: &Case) -> (&'static str, Result<String, Refusal>) {
     }
 }
 
+fn plain_or<T>(of_record: usize, plain: T, later: T) -> T {
+    match of_record {
+        PLAIN => plain,
+        _ => later,
+    }
+}
+
+type Run = fn(&mut Controller, u16, &[u8], &[u8], u32, &mut [u8]) -> Result<Ran, Refusal>;
+
 /// The controller's numbers stand in the last line, in the order of its bytes.
 fn run_lines(
+    run: Run,
     mut s: Controller,
     expected: u16,
     table: &[u8],
@@ -186,7 +224,7 @@ fn run_lines(
     room: usize,
 ) -> Result<String, Refusal> {
     let mut commands = vec![0; room];
-    let told = run_bytes(&mut s, expected, table, list, count, &mut commands)?;
+    let told = run(&mut s, expected, table, list, count, &mut commands)?;
     let (edition, count, cycles) = (told.edition, told.commands, told.cycles);
     let mut out = format!("edition {edition} commands {count} cycles {cycles}\n");
     out.push_str(&command_lines(&commands, count));
@@ -198,102 +236,10 @@ fn run_lines(
     for group in &s.groups {
         numbers.extend([group.act, group.rd, group.wr]);
     }
-    numbers.push(s.refresh);
+    numbers.extend([s.refresh, s.lent]);
     let words: Vec<String> = numbers.iter().map(u32::to_string).collect();
     Ok(out + &words.join(" ") + "\n")
 }
 
 #[cfg(test)]
-mod tests {
-    use super::*;
-    use crate::house::*;
-    use crate::records::EDITION;
-    use std::collections::{BTreeMap, BTreeSet};
-
-    /// What the paper prints for example 3, but for the last line, which request 4 gives.
-    #[test]
-    fn the_listing() {
-        let head = [
-            &[BUILD, 7, 0, 32][..],
-            &[32, 0, 2, 0, 8, 0],
-            &bytes_of(&TABLE_A),
-        ]
-        .concat();
-        let lists = lines(&[&head[..], &[1, 0, 1, 1, 0, 0, 1, 1]].concat());
-        let told = "build edition 7 commands 4\n0 ACT 0 0\n10 WRA 0 0\n44 ACT 0 1\n54 RDA 0 1\nfinish 0 10\nfinish 1 68\n";
-        assert_eq!(lists, told);
-        assert_eq!(lines(&head), "case\n");
-        assert_eq!(lines(&[&[4], &head[..]].concat()), "case\n");
-    }
-
-    /// Exactly where the table is accepted and its edition is not the expected one.
-    #[test]
-    fn number_10() {
-        let input = cases();
-        let mut rest = Bytes(&input);
-        let mut met: BTreeMap<&str, usize> = BTreeMap::new();
-        while let Some(case) = first_case(&mut rest) {
-            let (name, answer) = told(&case);
-            let edition = read_table(case.table).map_or(case.expected, |t| t[EDITION]);
-            let differ = edition != case.expected;
-            let refusal = Refusal {
-                number: 10,
-                position: edition.into(),
-                edition,
-            };
-            assert_eq!(answer == Err(refusal), differ);
-            *met.entry(name).or_default() += usize::from(differ);
-        }
-        assert!(met.len() == 3 && met.values().all(|&n| n > 10), "{met:?}");
-    }
-
-    /// All banks from every start are served, and a start or a BI one too great is refused, in builds and in runs.
-    #[test]
-    fn over_the_last_bank() {
-        let input = cases();
-        let mut rest = Bytes(&input);
-        let (mut served, mut refused) = (BTreeSet::new(), BTreeSet::new());
-        while let Some(case) = first_case(&mut rest) {
-            let (name, answer) = told(&case);
-            let list = match case.asked {
-                Asked::Build { list, .. } | Asked::Run { list, .. } => list,
-                Asked::Bound(..) => continue,
-            };
-            let banks = case.table.get(2).copied().unwrap_or(0);
-            let places = list.chunks_exact(4).map(|x| (name, banks, x[1], x[2]));
-            match answer {
-                Ok(_) => served.extend(places),
-                Err(r) if r.number == 4 => refused.extend(places.skip(r.position as usize).take(1)),
-                Err(_) => (),
-            }
-        }
-        for banks in [1, 2, 3, 5, 7, 8, 11, 13, 15, 16] {
-            for start in 0..banks {
-                assert!(served.contains(&("build", banks, start, banks)));
-            }
-            assert!(refused.contains(&("build", banks, banks, 1)));
-            assert!(refused.contains(&("build", banks, 0, banks + 1)));
-        }
-        assert!(served.contains(&("run", 8, 3, 8)));
-        assert!(refused.contains(&("run", 8, 8, 1)));
-        assert!(refused.contains(&("run", 8, 7, 9)));
-    }
-
-    #[test]
-    fn every_refusal() {
-        let input = cases();
-        assert!(input.len() < 131_072);
-        let told = lines(&input);
-        assert!(told.ends_with("\ncase\n"));
-        for (name, numbers) in [
-            ("build", &[1, 2, 3, 4, 5, 6, 10][..]),
-            ("run", &[1, 2, 3, 4, 5, 9, 10]),
-            ("bound", &[1, 2, 4, 10]),
-        ] {
-            for number in 1..=10 {
-                let start = format!("\n{name} refused {number} at ");
-                assert_eq!(told.contains(&start), numbers.contains(&number), "{start}");
-            }
-        }
-    }
-}
+mod tests;

@@ -20,26 +20,27 @@ fn refused<T>(table: &GroupTable, number: u8, position: u32) -> Result<T, Refusa
     })
 }
 
-/// Number 3 of bytes: "not a multiple of 4". What the records hold is not looked at yet.
-pub fn decode(table: &GroupTable, bytes: &[u8]) -> Result<Vec<Transaction>, Refusal> {
-    if bytes.len() % 4 != 0 {
+/// Number 3 of bytes: "not a multiple of 4", or for the record of 8 bytes "a multiple of 8". What the records hold is not looked at yet.
+pub fn decode(
+    table: &GroupTable,
+    bytes: &[u8],
+    of_record: usize,
+) -> Result<Vec<Transaction>, Refusal> {
+    if bytes.len() % of_record != 0 {
         return refused(table, 3, 0);
     }
-    let decoded = bytes.chunks_exact(4).map(|x| Transaction {
-        kind: x[0],
-        start: x[1],
-        bi: x[2],
-        bc: x[3],
-    });
-    Ok(decoded.collect())
+    Ok(bytes.chunks_exact(of_record).map(Transaction::of).collect())
 }
 
-/// Numbers 3 and 4 of a decoded list: "over 256 records", "too few places to decode into", and "a transaction out of range".
+/// Numbers 3 and 4 of a decoded list: "over 256 records", "too few places to decode into", "a transaction out of range", and an arrival
+/// that is "less than the one before it".
 pub fn check_list(table: &GroupTable, list: &[Transaction], places: usize) -> Result<(), Refusal> {
     if list.len() > MOST_TRANSACTIONS || list.len() > places {
         return refused(table, 3, 0);
     }
-    match list.iter().position(|x| !accepts(table, x)) {
+    let descends = |place: usize| place > 0 && list[place].arrival < list[place - 1].arrival;
+    let fault = |&place: &usize| !accepts(table, &list[place]) || descends(place);
+    match (0..list.len()).find(fault) {
         Some(place) => refused(table, 4, place as u32),
         None => Ok(()),
     }
@@ -53,9 +54,16 @@ struct Waiting {
     transaction: u16,
     /// The place of its bank's ACT in the ACT queue, or its own where it stands there.
     act: usize,
+    /// Its transaction's.
+    arrival: u32,
 }
 
 impl Waiting {
+    /// "Neither queue sees a transaction before its arrival."
+    fn is_seen(&self, cycle: u32) -> bool {
+        self.arrival <= cycle
+    }
+
     fn at(&self, cycle: u32) -> Command {
         Command {
             cycle,
@@ -91,6 +99,7 @@ impl Queues {
                     bank: 0,
                     transaction,
                     act: acts.len(),
+                    arrival: x.arrival,
                 });
                 continue;
             }
@@ -101,6 +110,7 @@ impl Queues {
                     bank,
                     transaction,
                     act: acts.len(),
+                    arrival: x.arrival,
                 };
                 datas.extend((1..x.bc).map(|_| waits(open)));
                 datas.push(waits(closing));
@@ -177,7 +187,8 @@ fn from_fresh_start(table: &GroupTable, queues: &Queues) -> Vec<Command> {
             kind: w.kind,
             bank: w.bank,
         };
-        let goes = |w: &&Waiting| first_broken(table, &gone, &as_record(w)).is_none();
+        let goes =
+            |w: &&Waiting| w.is_seen(cycle) && first_broken(table, &gone, &as_record(w)).is_none();
         let data = queues.datas.get(datas).filter(|w| w.act < acts);
         let next = data
             .filter(goes)

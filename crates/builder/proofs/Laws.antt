@@ -11,7 +11,7 @@ use Rattle.records.specs.declared.table.Table.{Table}
 use Rattle.records.specs.declared.transaction.Transaction.{Transaction}
 use Rattle.records.specs.declared.refusal.Refusal.{Refusal}
 use Rattle.records.specs.Told.{refusal, firstFailed}
-use Rattle.records.specs.Transaction.{transactionsFrom}
+use Rattle.records.specs.Transaction.{laterFrom}
 use Rattle.records.proofs.Laws.{passes}
 use Rattle.rules.specs.Queues.{actQueue, dataQueue}
 use Rattle.heads.proofs.Laws.{length-from}
@@ -26,7 +26,7 @@ numberOf acts datas room n places = firstFailed ((5, ltb room (8 * (acts + datas
 
 module _ (τ : Table) (bs : List ℕ) (n : ℕ) where
   abbrev list : List Transaction
-  list = transactionsFrom bs n 0
+  list = laterFrom bs n 0
 
   pub number-told : (acts datas room places z : ℕ) → acts ≡ length (actQueue τ list) → datas ≡ length (dataQueue τ list)
       → z ≡ numberOf acts datas room n places → z ≡ buildRefusal τ list room places

@@ -10,7 +10,7 @@ ghost use mathlib.Core.List.{[], _∷_};
 ghost use Prim.Native.Nat.{_+_, _*_};
 ghost use lib.Dec.{ltb};
 ghost use Rattle.records.specs.Told.{firstFailed};
-ghost use Rattle.records.specs.Transaction.{transactionsFrom};
+ghost use Rattle.records.specs.Transaction.{laterFrom};
 ghost use Rattle.heads.specs.Queue.{Listed};
 ghost use Rattle.builder.specs.Build.{LeavesBuild};
 
@@ -28,7 +28,7 @@ pub fn build_refusal(acts: u32, datas: u32, room: usize, n: usize, places: usize
     first_failed(5, room < bytes, 6, places < n)
 }
 
-// The list is n records that fit an accepted table. A refused build changes neither buffer.
+// The list is n records of 8 bytes that fit an accepted table. A refused build changes neither buffer.
 pub fn build_schedule(
     t: Table,
     list: &[u8],
@@ -37,7 +37,7 @@ pub fn build_schedule(
     finishes: &mut [u32],
 ) -> BuildAnswer
     requires { ⌜ Listed t (now list) n ⌝ }
-    ensures { λ r. ⌜ LeavesBuild t (transactionsFrom (now (list .entry)) n 0) (now (commands .entry)) (now (commands .exit)) (now (finishes .entry)) (now (finishes .exit)) r ⌝ }
+    ensures { λ r. ⌜ LeavesBuild t (laterFrom (now (list .entry)) n 0) (now (commands .entry)) (now (commands .exit)) (now (finishes .entry)) (now (finishes .exit)) r ⌝ }
 {
     let counts = due(t, list, n);
     let z = build_refusal(counts.acts, counts.datas, commands.len(), n, finishes.len());

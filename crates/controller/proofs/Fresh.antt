@@ -18,16 +18,18 @@ use Rattle.rules.specs.State.{fresh, after}
 use Rattle.rules.specs.Pattern.{onto}
 use Rattle.rules.specs.CycleRule.{goes, push, Built}
 use Rattle.rules.specs.Run.{served, stops, Ran as RanTo, run}
+use Rattle.rules.specs.Pieces.{lentRun}
 use Rattle.rules.specs.Promise.{nextCycle, Kept}
 use Rattle.rules.proofs.TestLaws.{true-false}
 use Rattle.rules.proofs.Count.{length-turn}
 use Rattle.rules.proofs.RunTo.{stopped, going, n-then-m}
+use Rattle.rules.proofs.Lent.{lendRan, run-lent}
 use Rattle.rules.proofs.Promises.{kept as promised}
 use Rattle.controller.specs.declared.run.RunReport.{RunReport}
 use Rattle.controller.specs.declared.run.RunAnswer.the-variants.{Ran}
 use Rattle.controller.specs.Controller.{tells, kept, freshController, Ranged}
 use Rattle.refusals.specs.Refused.{sound}
-use Rattle.controller.specs.Run.{RunLeft, runController}
+use Rattle.controller.specs.Run.{RunLeft, written, runController}
 use Rattle.refusals.proofs.SoundKept.{fresh-sound}
 use Rattle.controller.proofs.Halves.{ran}
 
@@ -95,8 +97,9 @@ fresh-ends τ acc l fit rs built n h b x e =
     let p = ran τ l (freshController τ) n b x e in
     let q = promised τ acc l fit rs built in
     let r = q .running n (serves-by τ l rs q n 100000000 (omega arith) h) in
-    let t = fresh-told τ in (
-      ap (λ (w : RunLeft). w .buffer) (p .1) ∙ rw (t, r .0),
-      p .2 ∙ (ap (λ (s : State). length (run n τ l s [] .history)) t ∙ (sym (length-turn (run n τ l (fresh τ) [] .history)) ∙ ap length (r .0))),
-      p .3 ∙ (ap (λ (s : State). run n τ l s [] .cycles) t ∙ r .1),
+    let t : lentRun n τ l (tells (freshController τ)) ≡ lendRan (length l) (run n τ l (fresh τ) []) =
+    ap (λ (s : State). lentRun n τ l s) (fresh-told τ) ∙ run-lent n (length l) τ l (fresh τ) [] in (
+      ap (λ (w : RunLeft). w .buffer) (p .1) ∙ (ap (λ (y : RanTo). over (written (y .history)) b) t ∙ ap (λ (y : List Command). over (bytesOfAll y) b) (r .0)),
+      p .2 ∙ (ap (λ (y : RanTo). length (y .history)) t ∙ (sym (length-turn (run n τ l (fresh τ) [] .history)) ∙ ap length (r .0))),
+      p .3 ∙ (ap (λ (y : RanTo). y .cycles) t ∙ r .1),
     )

@@ -18,9 +18,10 @@ use Rattle.rules.specs.declared.state.State.{State}
 use Rattle.rules.specs.State.{after}
 use Rattle.rules.specs.CycleRule.{goes}
 use Rattle.rules.specs.Run.{served, stops, Ran as RanTo, run}
+use Rattle.rules.specs.Pieces.{lend, lentRun}
 use Rattle.rules.proofs.TestLaws.{on-map}
 use Rattle.rules.proofs.Caps.{after-size, after-groups}
-use Rattle.rules.proofs.RunTo.{n-then-m}
+use Rattle.rules.proofs.Lent.{lent-kept}
 use Rattle.controller.specs.declared.controller.Controller.{Controller}
 use Rattle.controller.specs.declared.run.RunReport.{RunReport}
 use Rattle.controller.specs.declared.run.RunAnswer.the-variants.{Ran, Refused}
@@ -29,7 +30,7 @@ use Rattle.refusals.specs.Refused.{runRefusal}
 use Rattle.controller.specs.Run.{RunLeft, ranLeft, refusedLeft, runController}
 use Rattle.controller.specs.Promise.{Together}
 use Rattle.refusals.proofs.StoredKept.{stored-after, goes-now, next-cycle, run-keeps}
-use Rattle.controller.proofs.Inverse.{Held, tells-kept, told-held}
+use Rattle.controller.proofs.Inverse.{Held, held-lent, tells-kept, told-held}
 use Rattle.controller.proofs.Written.{written-append, written-at}
 
 -- a run that goes on is before cycle 100,000,000
@@ -53,16 +54,19 @@ module _ (τ : Table) (l : List Transaction) where
                 (on-map {P = λ c. c .cycle ≡ s .cycle} {Q = λ c. c .cycle < 4294967295} (goes τ l s) (λ c z. omega arith) (goes-now τ l s)) (q .stored);
           }
 
+  pub lent-held : (n : ℕ) (s : State) → Held s → Held (lentRun n τ l s .state)
+  lent-held n s q = run-held n (lend (length l) s) [] (held-lent (length l) s q)
+
   -- what an answer that is no refusal tells
   pub ran : (c : Controller) (n : ℕ) (b : List ℕ) (x : RunReport) → runController c τ l n b .told .answer ≡ Ran x
       → (runRefusal τ l (tells c) n (length b) ≡ 0)
-      × (runController c τ l n b ≡ ranLeft (τ .edition) (run n τ l (tells c) []) b)
-      × (x .commands ≡ length (run n τ l (tells c) [] .history))
-      × (x .cycles ≡ run n τ l (tells c) [] .cycles)
+      × (runController c τ l n b ≡ ranLeft (τ .edition) (lentRun n τ l (tells c)) b)
+      × (x .commands ≡ length (lentRun n τ l (tells c) .history))
+      × (x .cycles ≡ lentRun n τ l (tells c) .cycles)
   unfolding runController
   ran c n b x e =
       let z = runRefusal τ l (tells c) n (length b) in
-      let r = run n τ l (tells c) [] in
+      let r = lentRun n τ l (tells c) in
       let k = answered (λ (w : RunLeft). w .told .answer) z (ranLeft (τ .edition) r b) (refusedLeft (τ .edition) z c b) (Ran x) e
       (λ f. let y : _≡_ {A = ℕ} 0 1 = cc in absurd (omega arith)) in
       let j : Ran (record { edition = τ .edition; commands = length (r .history); cycles = r .cycles }) ≡ Ran x = k .1 in (
@@ -79,7 +83,7 @@ module _ (τ : Table) (l : List Transaction) where
   refused c n b x e = on (eqb (runRefusal τ l (tells c) n (length b)) 0) e
     where
       r : RunLeft
-      r = ranLeft (τ .edition) (run n τ l (tells c) []) b
+      r = ranLeft (τ .edition) (lentRun n τ l (tells c)) b
 
       z : RunLeft
       z = refusedLeft (τ .edition) (runRefusal τ l (tells c) n (length b)) c b
@@ -90,10 +94,10 @@ module _ (τ : Table) (l : List Transaction) where
 
   module _ (c : Controller) (rg : Ranged c) (n m : ℕ) (b₁ b₂ b : List ℕ) (x y z : RunReport) where
     abbrev r₁ : RanTo
-    r₁ = run n τ l (tells c) []
+    r₁ = lentRun n τ l (tells c)
 
     abbrev r₂ : RanTo
-    r₂ = run m τ l (r₁ .state) []
+    r₂ = lentRun m τ l (r₁ .state)
 
     pub together : runController c τ l n b₁ .told .answer ≡ Ran x
         → runController (runController c τ l n b₁ .told .controller) τ l m b₂ .told .answer ≡ Ran y
@@ -103,11 +107,11 @@ module _ (τ : Table) (l : List Transaction) where
         let p₁ = ran c n b₁ x e₁ in
         let mid : runController c τ l n b₁ .told .controller ≡ kept (r₁ .state) = ap (λ (w : RunLeft). w .told .controller) (p₁ .1) in
         let e₂' = subst (λ (d : Controller). runController d τ l m b₂ .told .answer ≡ Ran y) mid e₂ in
-        let p₂ = subst (λ (s : State). (runController (kept (r₁ .state)) τ l m b₂ ≡ ranLeft (τ .edition) (run m τ l s []) b₂) × (y .commands ≡ length (run m τ l s [] .history)) × (y .cycles ≡ run m τ l s [] .cycles))
-        (tells-kept (r₁ .state) (run-held n (tells c) [] (told-held c rg)))
+        let p₂ = subst (λ (s : State). (runController (kept (r₁ .state)) τ l m b₂ ≡ ranLeft (τ .edition) (lentRun m τ l s) b₂) × (y .commands ≡ length (lentRun m τ l s .history)) × (y .cycles ≡ lentRun m τ l s .cycles))
+        (tells-kept (r₁ .state) (lent-held n (tells c) (told-held c rg)))
         (let q = ran (kept (r₁ .state)) m b₂ y e₂' in (q .1, q .2, q .3)) in
         let p = ran c (n + m) b z e in
-        let s = n-then-m n m τ l (tells c) in
+        let s = lent-kept τ l .splits n m (tells c) in
         subst (λ (d : Controller). Together (runController c τ l n b₁) (runController d τ l m b₂) (runController c τ l (n + m) b) x y z b) (sym mid)
         (record {
           controller = ap (λ (w : RunLeft). w .told .controller) (p .1 ∙ ap (λ (r : RanTo). ranLeft (τ .edition) r b) s) ∙ sym (ap (λ (w : RunLeft). w .told .controller) (p₂ .0));

@@ -16,6 +16,7 @@ use Rattle.rules.specs.declared.state.Stamp.the-variants.{Never, At}
 use Rattle.rules.specs.declared.state.Bank.{Bank}
 use Rattle.rules.specs.declared.state.Group.{Group}
 use Rattle.rules.specs.declared.state.State.{State}
+use Rattle.rules.specs.Pieces.{lend}
 use Rattle.rules.proofs.TestLaws.{and-fst, and-snd, OnSome, every-at}
 use Rattle.controller.specs.declared.controller.HostBank.{HostBank}
 use Rattle.controller.specs.declared.controller.HostGroup.{HostGroup}
@@ -124,6 +125,16 @@ pub record Held (s : State) : Type 0 where
   pub places : length (s .banks) ≡ 16
   pub groupPlaces : length (s .groups) ≡ 8
   pub stored : Stored 4294967295 16 8 s
+
+-- whatever was lent to it
+pub held-lent : (n : ℕ) (s : State) → Held s → Held (lend n s)
+held-lent n s h =
+    record {
+      cycle = h .cycle;
+      places = h .places;
+      groupPlaces = h .groupPlaces;
+      stored = record { banks = h .stored .banks; groups = h .stored .groups; last = h .stored .last };
+    }
 
 pub tells-kept : (s : State) → Held s → tells (kept s) ≡ s
 unfolding tells kept

@@ -7,3 +7,4 @@ pub mod Halves
 pub mod PastBanks
 pub mod Fresh
 pub mod Unique
+pub mod Pieces

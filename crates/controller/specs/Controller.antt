@@ -42,7 +42,7 @@ groupKept g = record { act = numberOf (g .act); rd = numberOf (g .rd); wr = numb
 
 -- "A state tells: the edition it was started under; its cycle, the next to be tried; how many commands have left each queue; [the banks];
 -- the cycles of the last four ACTs"; "the latest read and write of each group .., in place of those of all, and the group's latest ACT" (document
--- 02, request 7); it "tells the last REF's cycle" (request 5).
+-- 02, request 7); it "tells the last REF's cycle" (request 5), and "how many of [the list] were lent before" (request 9).
 unfoldable pub tells : Controller → State
 tells c =
     record {
@@ -57,6 +57,7 @@ tells c =
       a4 = stampOf (getD (c .last) 3 0);
       groups = map groupTells (c .groups);
       refresh = stampOf (c .refresh);
+      lent = c .lent;
     }
 
 -- the controller that tells a state
@@ -71,6 +72,7 @@ kept s =
       last = numberOf (s .a1) ∷ numberOf (s .a2) ∷ numberOf (s .a3) ∷ numberOf (s .a4) ∷ [];
       groups = map groupKept (s .groups);
       refresh = numberOf (s .refresh);
+      lent = s .lent;
     }
 
 -- "A fresh state has the table's edition, cycle 0, all banks closed and "never" throughout."

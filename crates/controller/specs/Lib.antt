@@ -1,3 +1,4 @@
 pub mod Controller
 pub mod Run
 pub mod Promise
+pub mod Pieces

@@ -32,6 +32,8 @@ pub record Keeps (τ : Table) (l : List Transaction) (c d : Controller) : Type 0
   -- "nothing kept past the table's groups is .. changed" (document 02, request 7)
   pub pastGroups : drop (τ .groups) (d .groups) ≡ drop (τ .groups) (c .groups)
   pub groupPlaces : length (d .groups) ≡ length (c .groups)
+  -- "each run is lent the whole list so far", whatever its count (document 02, request 9)
+  pub lent : d .lent ≡ length l
 
 -- "nothing kept past them is read": two controllers that tell the same of the table's banks, of its groups and of all else
 pub record SameRuns (τ : Table) (v w : RunLeft) : Type 0 where

@@ -11,7 +11,8 @@ use Rattle.records.specs.declared.table.Table.{Table}
 use Rattle.records.specs.declared.transaction.Transaction.{Transaction}
 use Rattle.records.specs.declared.command.Command.{Command}
 use Rattle.rules.specs.Pattern.{onto}
-use Rattle.rules.specs.Run.{Ran as RanTo, run}
+use Rattle.rules.specs.Run.{Ran as RanTo}
+use Rattle.rules.specs.Pieces.{lentRun}
 use Rattle.controller.specs.declared.controller.Controller.{Controller}
 use Rattle.controller.specs.declared.run.RunTold.{RunTold}
 use Rattle.controller.specs.declared.run.RunAnswer.the-variants.{Ran, Refused}
@@ -41,9 +42,10 @@ refusedLeft e z c b = record { told = record { controller = c; answer = Refused 
 abbrev pub leftBy : ℕ → ℕ → RanTo → Controller → List ℕ → RunLeft
 leftBy z e r c b = pick (eqb z 0) (ranLeft e r b) (refusedLeft e z c b)
 
--- "From any state that isn't refused, the cycle rule goes on from what the state tells."
+-- "From any state that isn't refused, the cycle rule goes on from what the state tells"; the run "is lent the whole list so far" (document 02,
+-- request 9)
 unfoldable pub runController : Controller → Table → List Transaction → ℕ → List ℕ → RunLeft
-runController c τ l count b = leftBy (runRefusal τ l (tells c) count (length b)) (τ .edition) (run count τ l (tells c) []) c b
+runController c τ l count b = leftBy (runRefusal τ l (tells c) count (length b)) (τ .edition) (lentRun count τ l (tells c)) c b
 
 -- the promise of a run: r is what it tells, b what the buffer holds as it returns
 abbrev pub LeavesRun : RunLeft → RunTold → List ℕ → Type 0

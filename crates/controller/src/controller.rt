@@ -6,7 +6,8 @@ use timing::kept::KeptGroup;
 use timing::kept::kept_fresh;
 ghost use mathlib.Core.Path.{_≡_};
 ghost use mathlib.Core.List.{map};
-ghost use Prim.Native.Nat.{min};
+ghost use Prim.Native.Nat.{min, _≤_};
+ghost use Rattle.rules.specs.Pieces.{lend};
 ghost use Rattle.timing.specs.Kept.{stampOf as keptStamp, toldBank, toldGroup, told};
 ghost use Rattle.controller.specs.Controller.{stampOf, numberOf, bankTells, bankKept, groupTells, groupKept, tells, kept, freshController};
 
@@ -31,7 +32,7 @@ pub struct HostGroup {
 }
 
 // `cycle` is the next to be tried; `acts` and `datas` have left the two queues; `last` has the cycles of the last four ACTs, newest first;
-// `refresh` is that of the last REF.
+// `refresh` is that of the last REF. `lent` is how many transactions of the list were lent before.
 #[repr(C)]
 pub struct Controller {
     pub edition: u32,
@@ -42,6 +43,7 @@ pub struct Controller {
     pub last: [u32; 4],
     pub groups: [HostGroup; 8],
     pub refresh: u32,
+    pub lent: u32,
 }
 
 // A number as a run keeps it.
@@ -219,7 +221,18 @@ pub fn kept_in(c: Controller) -> Kept
         a4: a4,
         groups: groups,
         refresh: refresh,
+        lent: c.lent,
     }
+}
+
+// What a run keeps, once n transactions are lent to it.
+pub fn lend_to(s: Kept, n: usize) -> Kept
+    requires { ⌜ n ≤ 256 ⌝ }
+    ensures { λ r. ⌜ told r ≡ lend n (told s) ⌝ }
+{
+    let mut lent = s;
+    lent.lent = n as u32;
+    lent
 }
 
 // The controller that tells a state.
@@ -250,6 +263,7 @@ pub fn controller_of(s: Kept) -> Controller
         last: [n1, n2, n3, n4],
         groups: groups,
         refresh: last_ref,
+        lent: s.lent,
     }
 }
 

@@ -2,6 +2,7 @@
 use crate::controller::Controller;
 use crate::controller::controller_of;
 use crate::controller::kept_in;
+use crate::controller::lend_to;
 use engine::run::run;
 use heads::due::due;
 use records::refusal::Refusal;
@@ -10,7 +11,7 @@ use records::table::Table;
 use refusals::refused::refusal_of;
 ghost use Prim.Native.Nat.{_/_};
 ghost use lib.ListN.{length};
-ghost use Rattle.records.specs.Transaction.{transactionsIn};
+ghost use Rattle.records.specs.Transaction.{laterIn};
 ghost use Rattle.heads.specs.Queue.{Listed};
 ghost use Rattle.controller.specs.Run.{runController, LeavesRun};
 
@@ -32,12 +33,12 @@ pub struct RunTold {
     pub answer: RunAnswer,
 }
 
-// A run of at most `count` cycles, over a list that fits an accepted table. The commands go into `room`.
+// A run of at most `count` cycles, over a list of 8-byte records that fits an accepted table. The commands go into `room`.
 pub fn run_controller(c: Controller, t: Table, list: &[u8], count: u32, room: &mut [u8]) -> RunTold
-    requires { ⌜ Listed t (now list) (length (now list) / 4) ⌝ }
-    ensures { λ r. ⌜ LeavesRun (runController c t (transactionsIn (now (list .entry))) count (now (room .entry))) r (now (room .exit)) ⌝ }
+    requires { ⌜ Listed t (now list) (length (now list) / 8) ⌝ }
+    ensures { λ r. ⌜ LeavesRun (runController c t (laterIn (now (list .entry))) count (now (room .entry))) r (now (room .exit)) ⌝ }
 {
-    let n = list.len() / 4;
+    let n = list.len() / 8;
     let s = kept_in(c);
     let all = due(t, list, n);
     let z = refusal_of(t, list, n, all, s, count, room.len());
@@ -48,7 +49,8 @@ pub fn run_controller(c: Controller, t: Table, list: &[u8], count: u32, room: &m
             answer: RunAnswer::Refused(refusal),
         };
     }
-    let r = run(t, list, n, all, s, count, room);
+    let lent = lend_to(s, n);
+    let r = run(t, list, n, all, lent, count, room);
     let after = r.state;
     let controller = controller_of(after);
     let report = RunReport {

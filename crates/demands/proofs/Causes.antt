@@ -102,22 +102,22 @@ module _ (expected : ℕ) (table : List ℕ) (R : TableRead → Numbers → Type
 
 module _ (τ : Table) (R : Checked → Numbers → Type 0) (rest : List Row) (a : Numbers)
     (gives : (x : Refusal) → R (NotFine x) a → a ≡ refusing x) (goes-on : R Fine a → FirstRow rest a) where
-  by-range : (l : List Transaction) (k p : ℕ) → p ≡ k + lowestOut τ l → R (rangeFrom (τ .banks) (τ .rfc) (τ .edition) l k) a
-      → FirstRow (row 4 p (not (every (fits τ) l)) ∷ rest) a
+  by-range : (t : ℕ) (l : List Transaction) (k p : ℕ) → p ≡ k + lowestOut τ t l → R (rangeFrom τ t l k) a
+      → FirstRow (row 4 p (not (fitsFrom t τ l)) ∷ rest) a
   unfolding rangeFrom
-  by-range [] k p e r = goes-on r
-  by-range (x ∷ l) k p e r = on (fits τ x) e r (by-range l (k + 1) p)
+  by-range t [] k p e r = goes-on r
+  by-range t (x ∷ l) k p e r = on (fitsAfter t τ x) e r (by-range (x .arrival) l (k + 1) p)
     where
-      on : (b : Bool) → p ≡ k + pick b (suc (lowestOut τ l)) 0 → R (pick b (rangeFrom (τ .banks) (τ .rfc) (τ .edition) l (k + 1)) (NotFine (refusal 4 k (τ .edition)))) a
-          → (p ≡ k + 1 + lowestOut τ l → R (rangeFrom (τ .banks) (τ .rfc) (τ .edition) l (k + 1)) a → FirstRow (row 4 p (not (every (fits τ) l)) ∷ rest) a)
-          → FirstRow (row 4 p (not (b && every (fits τ) l)) ∷ rest) a
+      on : (b : Bool) → p ≡ k + pick b (suc (lowestOut τ (x .arrival) l)) 0 → R (pick b (rangeFrom τ (x .arrival) l (k + 1)) (NotFine (refusal 4 k (τ .edition)))) a
+          → (p ≡ k + 1 + lowestOut τ (x .arrival) l → R (rangeFrom τ (x .arrival) l (k + 1)) a → FirstRow (row 4 p (not (fitsFrom (x .arrival) τ l)) ∷ rest) a)
+          → FirstRow (row 4 p (not (b && fitsFrom (x .arrival) τ l)) ∷ rest) a
       on true e r ih = ih (omega arith) r
       on false e r ih =
           let w = tells-same a (refusing (refusal 4 k (τ .edition))) (gives (refusal 4 k (τ .edition)) r) in
           (w .0, omega (arith, w .1, e))
 
   by-list : (good : Bool) (l : List Transaction) (c : Checked) → c ≡ checkSized τ good l → R c a → FirstRow (listRows τ good l rest) a
-  by-list true l c e r = by-range l 0 (lowestOut τ l) (sym (zero-add (lowestOut τ l))) (subst (λ (d : Checked). R d a) e r)
+  by-list true l c e r = by-range 0 l 0 (lowestOut τ 0 l) (sym (zero-add (lowestOut τ 0 l))) (subst (λ (d : Checked). R d a) e r)
   by-list false l c e r =
       tells-same a (refusing (refusal 3 0 (τ .edition))) (gives (refusal 3 0 (τ .edition)) (subst (λ (d : Checked). R d a) e r))
 
@@ -126,13 +126,13 @@ list-sized : (τ : Table) (l : List Transaction) → checkList τ l ≡ checkSiz
 unfolding checkList
 list-sized τ l = refl
 
-bytes-sized : (τ : Table) (s : List ℕ) → checkBytes τ s ≡ checkSized τ (fewBytes s) (transactionsIn s)
+bytes-sized : (later : Bool) (τ : Table) (s : List ℕ) → checkBytes later τ s ≡ checkSized τ (fewBytes later s) (listOf later s)
 unfolding checkBytes
-bytes-sized τ s = refl
+bytes-sized later τ s = refl
 
-into-sized : (τ : Table) (s : List ℕ) (places : ℕ) → checkInto τ s places ≡ checkSized τ (fewInto s places) (transactionsIn s)
+into-sized : (later : Bool) (τ : Table) (s : List ℕ) (places : ℕ) → checkInto later τ s places ≡ checkSized τ (fewInto later s places) (listOf later s)
 unfolding checkInto
-into-sized τ s places = refl
+into-sized later τ s places = refl
 
 -- ---- of a table that is admitted
 

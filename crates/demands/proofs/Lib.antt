@@ -10,6 +10,7 @@ pub mod Judges
 pub mod Serves
 pub mod RunsOn
 pub mod NeverRuns
+pub mod Pieces
 pub mod CallLaws
 pub mod GroupCalls
 pub mod Calls

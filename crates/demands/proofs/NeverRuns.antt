@@ -2,7 +2,7 @@
 -- Assumes nothing.
 use Prim.Native.Nat.{ℕ, _+_, _*_, _≤_, min}
 use native.Mathlib.Omega.{arith}
-use mathlib.Core.Bool.{Bool, true, false, _&&_}
+use mathlib.Core.Bool.{Bool, true, false, not, _&&_}
 use mathlib.Core.Path.{_≡_, refl, sym, ap, _∙_, subst}
 use mathlib.Core.List.{List, [], _∷_}
 use lib.Dec.{leb, ltb, eqb}
@@ -19,6 +19,7 @@ use Rattle.records.proofs.Laws.{and-left}
 use Rattle.rules.specs.declared.state.State.{State}
 use Rattle.rules.specs.Queues.{actQueue, dataQueue}
 use Rattle.engine.specs.Run.{commandsLeft}
+use Rattle.rules.specs.Pieces.{overLent}
 use Rattle.refusals.specs.Refused.{banksBefore, groupsBefore, lastBefore, goneBacked, sound, runRefusal}
 use Rattle.lists.specs.declared.check.Checked.{Checked}
 use Rattle.controller.specs.Controller.{tells, kept}
@@ -55,7 +56,7 @@ module _ (τ : Table) (acc : Accepted τ) (l : List Transaction) where
   unfolding sound
   no-edition s e =
       second-false (ltb (s .cycle) 100000000) (eqb (s .edition) (τ .edition))
-      (allOf (banksBefore (s .cycle) (τ .banks) (s .banks) ∷ groupsBefore (s .cycle) (τ .groups) (s .groups) ∷ lastBefore (s .cycle) s ∷ leb (s .acts) (length (actQueue τ l)) ∷ goneBacked τ l (s .acts) (s .datas) ∷ []))
+      (allOf (banksBefore (s .cycle) (τ .banks) (s .banks) ∷ groupsBefore (s .cycle) (τ .groups) (s .groups) ∷ lastBefore (s .cycle) s ∷ leb (s .acts) (length (actQueue τ l)) ∷ goneBacked τ l (s .acts) (s .datas) ∷ not (overLent l s) ∷ []))
       (ne-eqb (s .edition) (τ .edition) (λ k. omega (arith, some-edition τ acc, e, k)))
 
   unsound : sound τ l (tells noController) ≡ false

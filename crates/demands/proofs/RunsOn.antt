@@ -1,7 +1,7 @@
 -- Runs of the public calls are the runs of the controller: n cycles and then m, and to the end.
 -- Assumes nothing.
 use Prim.Native.Nat.{ℕ, _%_}
-use mathlib.Core.Bool.{true}
+use mathlib.Core.Bool.{Bool, true}
 use mathlib.Core.Path.{_≡_, sym, ap, _∙_}
 use mathlib.Core.List.{List}
 use lib.ListN.{length}
@@ -9,7 +9,7 @@ use Rattle.records.specs.declared.table.Table.{Table}
 use Rattle.records.specs.declared.table.TableRead.{TableRead}
 use Rattle.records.specs.declared.table.TableRead.the-variants.{Read}
 use Rattle.records.specs.declared.transaction.Transaction.{Transaction}
-use Rattle.records.specs.Transaction.{transactionsIn, listFits}
+use Rattle.records.specs.Transaction.{recordSize, listOf, listFits}
 use Rattle.lists.specs.declared.check.Checked.{Checked}
 use Rattle.lists.specs.declared.check.Checked.the-variants.{Fine}
 use Rattle.lists.specs.Check.{checkList, checkBytes}
@@ -48,5 +48,6 @@ module _ (expected : ℕ) (table : List ℕ) (τ : Table) (read : admitted expec
   pub runs-on : (l : List Transaction) → listFits τ l ≡ true → RunsOn expected table τ (λ τ. checkList τ l) l
   runs-on l fit = by-check (λ τ. checkList τ l) l fit (fits-fine τ l fit)
 
-  pub runs-on-bytes : (s : List ℕ) → length s % 4 ≡ 0 → listFits τ (transactionsIn s) ≡ true → RunsOn expected table τ (λ τ. checkBytes τ s) (transactionsIn s)
-  runs-on-bytes s whole fit = by-check (λ τ. checkBytes τ s) (transactionsIn s) fit (bytes-list τ s whole ∙ fits-fine τ (transactionsIn s) fit)
+  pub runs-on-bytes : (later : Bool) (s : List ℕ) → length s % recordSize later ≡ 0 → listFits τ (listOf later s) ≡ true
+      → RunsOn expected table τ (λ τ. checkBytes later τ s) (listOf later s)
+  runs-on-bytes later s whole fit = by-check (λ τ. checkBytes later τ s) (listOf later s) fit (bytes-list later τ s whole ∙ fits-fine τ (listOf later s) fit)

@@ -9,9 +9,10 @@ use lib.ListN.{length}
 use Rattle.records.specs.declared.table.Table.{Table}
 use Rattle.records.specs.declared.transaction.Transaction.{Transaction}
 use Rattle.records.specs.declared.command.Command.{Command}
-use Rattle.records.specs.Tests.{pick, every, within}
+use Rattle.records.specs.Tests.{pick, within}
 use Rattle.records.specs.Table.{tableOf, groupTableOf, tableAt, inRange, tableSize, readTable, writeTable, writeGroupTable}
-use Rattle.records.specs.Transaction.{transactionAt, transactionsIn, fitsIn, fits, readTransaction, writeTransaction}
+use Rattle.records.specs.Transaction.{transactionAt, laterAt, recordSize, recordCount, listOf, fitsBy, fitsAfter, fitsFrom, readTransaction, writeTransaction, readLater, writeLater}
+use Rattle.rules.specs.Pieces.{isLate}
 use Rattle.records.specs.Command.{readCommand, writeCommand}
 use Rattle.rules.specs.Queues.{actQueue, dataQueue}
 use Rattle.judge.specs.declared.answer.PatternJudged.{PatternJudged}
@@ -60,21 +61,23 @@ readRows s rest = sizeRows (tableSize (length s)) (tableAt s) rest
 abbrev pub tableRows : ℕ → List ℕ → List Row → List Row
 tableRows expected s rest = readRows s (row 10 (tableAt s .edition) (not (eqb (tableAt s .edition) expected)) ∷ rest)
 
--- the number of the lowest transaction that is out of range
-abbrev pub lowestOut : Table → List Transaction → ℕ
-lowestOut τ [] = 0
-lowestOut τ (x ∷ l) = pick (fits τ x) (suc (lowestOut τ l)) 0
+-- the number of the lowest transaction that is out of range, or arrives before the one before it, which arrived at a
+abbrev pub lowestOut : Table → ℕ → List Transaction → ℕ
+lowestOut τ a [] = 0
+lowestOut τ a (x ∷ l) = pick (fitsAfter a τ x) (suc (lowestOut τ (x .arrival) l)) 0
 
--- 3, by whether the size is good; 4: "a transaction out of range", a refresh "when RFC is 0" among them, position "its number, the lowest"
+-- 3, by whether the size is good; 4: "a transaction out of range", a refresh "when RFC is 0" among them, position "its number, the lowest"; an arrival
+-- "at most 20,000,000 and never less than the one before it; otherwise number 4" (document 02, request 9)
 abbrev pub listRows : Table → Bool → List Transaction → List Row → List Row
-listRows τ good l rest = row 3 0 (not good) ∷ row 4 (lowestOut τ l) (not (every (fits τ) l)) ∷ rest
+listRows τ good l rest = row 3 0 (not good) ∷ row 4 (lowestOut τ 0 l) (not (fitsFrom 0 τ l)) ∷ rest
 
--- 3: "transaction bytes not a multiple of 4, or over 256 records, as bytes or decoded, or too few places to decode into"
-abbrev pub fewBytes : List ℕ → Bool
-fewBytes s = eqb (length s % 4) 0 && leb (length s / 4) 256
+-- 3: "transaction bytes not a multiple of 4, or over 256 records, as bytes or decoded, or too few places to decode into"; "for the new one number 3
+-- wants a multiple of 8", where `later`
+abbrev pub fewBytes : Bool → List ℕ → Bool
+fewBytes later s = eqb (length s % recordSize later) 0 && leb (recordCount later (length s)) 256
 
-abbrev pub fewInto : List ℕ → ℕ → Bool
-fewInto s places = eqb (length s % 4) 0 && (leb (length s / 4) 256 && leb (length s / 4) places)
+abbrev pub fewInto : Bool → List ℕ → ℕ → Bool
+fewInto later s places = eqb (length s % recordSize later) 0 && (leb (recordCount later (length s)) 256 && leb (recordCount later (length s)) places)
 
 -- 5: "command room under 8 × commands due"; 6: "finishing slice shorter than the list"
 abbrev pub buildRows : Table → List Transaction → ℕ → ℕ → List Row
@@ -82,11 +85,12 @@ buildRows τ l room places =
     row 5 0 (ltb room (8 * (length (actQueue τ l) + length (dataQueue τ l)))) ∷ row 6 0 (ltb places (length l)) ∷ []
 
 -- 5: "for a run, under 8 × the lesser of count and commands left, which are what each queue still holds, counted queue by queue and added"; 9, by
--- what the controller tells
+-- what the controller tells; 12, position 0: "the first new arrival is below the state's cycle" (document 02, request 9)
 abbrev pub runRows : Table → List Transaction → Controller → ℕ → ℕ → List Row
 runRows τ l c count room =
     row 5 0 (ltb room (8 * min count ((length (actQueue τ l) - c .acts) + (length (dataQueue τ l) - c .datas))))
     ∷ row 9 0 (not (sound τ l (tells c)))
+    ∷ row 12 0 (isLate l (tells c))
     ∷ []
 
 -- 7: "schedule bytes not a multiple of 8, or over 69,632 records"
@@ -113,21 +117,23 @@ pub record Causes (expected : ℕ) (table : List ℕ) : Type 0 where
   -- "the bound gives 4, position 0, for BI or BC outside 1 to 16 or BI above banks"
   pub bound : (bi bc : ℕ) → FirstRow (tableRows expected table (row 4 0 (not (within 1 16 bi && (within 1 16 bc && leb bi (tableAt table .banks)))) ∷ []))
       (boundNumbers (bounding (admitted expected table) bi bc))
-  pub readTransactions : (s : List ℕ) (l : List Transaction)
-      → FirstRow (tableRows expected table (listRows (tableAt table) (fewInto s (length l)) (transactionsIn s) [])) (readNumbers (reading (admitted expected table) s l .answer))
+  pub readTransactions : (later : Bool) (s : List ℕ) (l : List Transaction)
+      → FirstRow (tableRows expected table (listRows (tableAt table) (fewInto later s (length l)) (listOf later s) []))
+      (readNumbers (reading later (admitted expected table) s l .answer))
   pub schedule : (l : List Transaction) (b₀ b f₀ f : List ℕ) (r : BuildAnswer) → Schedules (λ τ. checkList τ l) (admitted expected table) l b₀ b f₀ f r
       → FirstRow (tableRows expected table (listRows (tableAt table) (leb (length l) 256) l (buildRows (tableAt table) l (length b₀) (length f₀)))) (buildNumbers r)
-  pub scheduleBytes : (s b₀ b f₀ f : List ℕ) (r : BuildAnswer) → Schedules (λ τ. checkBytes τ s) (admitted expected table) (transactionsIn s) b₀ b f₀ f r
-      → FirstRow (tableRows expected table (listRows (tableAt table) (fewBytes s) (transactionsIn s) (buildRows (tableAt table) (transactionsIn s) (length b₀) (length f₀))))
+  pub scheduleBytes : (later : Bool) (s b₀ b f₀ f : List ℕ) (r : BuildAnswer)
+      → Schedules (λ τ. checkBytes later τ s) (admitted expected table) (listOf later s) b₀ b f₀ f r
+      → FirstRow (tableRows expected table (listRows (tableAt table) (fewBytes later s) (listOf later s) (buildRows (tableAt table) (listOf later s) (length b₀) (length f₀))))
       (buildNumbers r)
   pub start : FirstRow (tableRows expected table []) (startNumbers (starting (admitted expected table) .answer))
   -- a step is a run of one cycle
   pub run : (c : Controller) (l : List Transaction) (n : ℕ) (b : List ℕ)
       → FirstRow (tableRows expected table (listRows (tableAt table) (leb (length l) 256) l (runRows (tableAt table) l c n (length b))))
       (runNumbers (running (λ τ. checkList τ l) (admitted expected table) c l n b .told .answer))
-  pub runBytes : (c : Controller) (s : List ℕ) (n : ℕ) (b : List ℕ)
-      → FirstRow (tableRows expected table (listRows (tableAt table) (fewBytes s) (transactionsIn s) (runRows (tableAt table) (transactionsIn s) c n (length b))))
-      (runNumbers (running (λ τ. checkBytes τ s) (admitted expected table) c (transactionsIn s) n b .told .answer))
+  pub runBytes : (later : Bool) (c : Controller) (s : List ℕ) (n : ℕ) (b : List ℕ)
+      → FirstRow (tableRows expected table (listRows (tableAt table) (fewBytes later s) (listOf later s) (runRows (tableAt table) (listOf later s) c n (length b))))
+      (runNumbers (running (λ τ. checkBytes later τ s) (admitted expected table) c (listOf later s) n b .told .answer))
 
 -- the calls on one record: s is the bytes read, or what the buffer held. "A call that writes a record checks the values as a reader would, and
 -- the room: number 1 for a table buffer that isn't 32 bytes, 3 for a transaction buffer that isn't 4, 5 for a command buffer under 8. A reader of
@@ -137,9 +143,13 @@ pub record RecordCauses (s : List ℕ) : Type 0 where
   pub tableRead : FirstRow (readRows s []) (tableNumbers (readTable s))
   pub tableWritten : (l : List ℕ) → FirstRow (sizeRows (eqb (length s) 32) (tableOf l) []) (writtenNumbers (writeTable l s .answer))
   pub groupTableWritten : (l : List ℕ) → FirstRow (sizeRows (eqb (length s) 40) (groupTableOf l) []) (writtenNumbers (writeGroupTable l s .answer))
-  pub transactionRead : FirstRow (row 3 0 (not (eqb (length s) 4)) ∷ row 4 0 (not (fitsIn 16 1 (transactionAt s 0))) ∷ []) (transactionNumbers (readTransaction s))
+  pub transactionRead : FirstRow (row 3 0 (not (eqb (length s) 4)) ∷ row 4 0 (not (fitsBy 0 16 1 (transactionAt s 0))) ∷ []) (transactionNumbers (readTransaction s))
   pub transactionWritten : (x : Transaction)
-      → FirstRow (row 3 0 (not (eqb (length s) 4)) ∷ row 4 0 (not (fitsIn 16 1 x)) ∷ []) (writtenNumbers (writeTransaction x s .answer))
+      → FirstRow (row 3 0 (not (eqb (length s) 4)) ∷ row 4 0 (not (fitsBy 0 16 1 x)) ∷ []) (writtenNumbers (writeTransaction x s .answer))
+  -- the record of 8 bytes, whose arrival is "at most 20,000,000; otherwise number 4" (document 02, request 9); that of 4 "is arrival 0"
+  pub laterRead : FirstRow (row 3 0 (not (eqb (length s) 8)) ∷ row 4 0 (not (fitsBy 20000000 16 1 (laterAt s 0))) ∷ []) (transactionNumbers (readLater s))
+  pub laterWritten : (x : Transaction)
+      → FirstRow (row 3 0 (not (eqb (length s) 8)) ∷ row 4 0 (not (fitsBy 20000000 16 1 x)) ∷ []) (writtenNumbers (writeLater x s .answer))
   pub commandRead : FirstRow (row 7 0 (not (eqb (length s) 8)) ∷ []) (commandNumbers (readCommand s))
   pub commandWritten : (c : Command) → FirstRow (row 5 0 (not (leb 8 (length s))) ∷ []) (writtenNumbers (writeCommand c s .answer))
   -- a capture record's as a command's, by its own size

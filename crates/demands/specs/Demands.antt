@@ -79,7 +79,8 @@ pub record Demand1 (expected : ℕ) (table : List ℕ) : Type 0 where
   pub causes : Causes expected table
   pub recordCauses : (s : List ℕ) → RecordCauses s
   -- no byte, no place of a run of records, and nothing of a controller changes; by either check of a list, of its records or of its bytes
-  pub unread : (s : List ℕ) (l : List Transaction) (x : Refusal) → reading (admitted expected table) s l .answer ≡ NotDone x → reading (admitted expected table) s l .list ≡ l
+  pub unread : (later : Bool) (s : List ℕ) (l : List Transaction) (x : Refusal) → reading later (admitted expected table) s l .answer ≡ NotDone x
+      → reading later (admitted expected table) s l .list ≡ l
   pub unbuilt : (check : Table → Checked) (l : List Transaction) (b₀ b f₀ f : List ℕ) (x : Refusal) → Schedules check (admitted expected table) l b₀ b f₀ f (NotBuilt x)
       → (b ≡ b₀) × (f ≡ f₀)
   pub unrun : (check : Table → Checked) (c : Controller) (l : List Transaction) (n : ℕ) (b : List ℕ) (x : Refusal)

@@ -99,6 +99,7 @@ refreshed e t acts datas c =
       last = replicate 4 4294967295;
       groups = replicate 8 (record { act = 4294967295; rd = 4294967295; wr = 4294967295 });
       refresh = c;
+      lent = 0;
     }
 
 -- and one that never had a REF
@@ -117,6 +118,7 @@ reached c g act rd wr =
       last = c .last;
       groups = set (c .groups) g (record { act = act; rd = rd; wr = wr });
       refresh = c .refresh;
+      lent = c .lent;
     }
 
 -- ---- what is told
@@ -143,7 +145,7 @@ abbrev pub bounds : ℕ → List ℕ → ℕ → ℕ → Numbers
 bounds e t bi bc = boundNumbers (bounding (admitted e t) bi bc)
 
 abbrev pub reads : ℕ → List ℕ → List ℕ → List Transaction → Numbers
-reads e t s l = readNumbers (reading (admitted e t) s l .answer)
+reads e t s l = readNumbers (reading false (admitted e t) s l .answer)
 
 -- whatever answer and buffers keep the promise, the answer tells these numbers and the buffers hold b and f
 abbrev pub Builds : ℕ → List ℕ → List Transaction → List ℕ → List ℕ → Numbers → List ℕ → List ℕ → Type 0
@@ -152,13 +154,13 @@ Builds e t l b₀ f₀ n b f =
 
 abbrev pub BuildsBytes : ℕ → List ℕ → List ℕ → List ℕ → List ℕ → Numbers → List ℕ → List ℕ → Type 0
 BuildsBytes e t s b₀ f₀ n b f =
-    (r : BuildAnswer) (b' f' : List ℕ) → Schedules (λ τ. checkBytes τ s) (admitted e t) (transactionsIn s) b₀ b' f₀ f' r → (buildNumbers r ≡ n) × (b' ≡ b) × (f' ≡ f)
+    (r : BuildAnswer) (b' f' : List ℕ) → Schedules (λ τ. checkBytes false τ s) (admitted e t) (transactionsIn s) b₀ b' f₀ f' r → (buildNumbers r ≡ n) × (b' ≡ b) × (f' ≡ f)
 
 abbrev pub runs : ℕ → List ℕ → Controller → List Transaction → ℕ → ℕ → Numbers
 runs e t c l n room = runNumbers (running (λ τ. checkList τ l) (admitted e t) c l n (replicate room 9) .told .answer)
 
 abbrev pub runsBytes : ℕ → List ℕ → Controller → List ℕ → ℕ → ℕ → Numbers
-runsBytes e t c s n room = runNumbers (running (λ τ. checkBytes τ s) (admitted e t) c (transactionsIn s) n (replicate room 9) .told .answer)
+runsBytes e t c s n room = runNumbers (running (λ τ. checkBytes false τ s) (admitted e t) c (transactionsIn s) n (replicate room 9) .told .answer)
 
 abbrev pub Writes : Wrote → Numbers → List ℕ → Type 0
 Writes w n b = (writtenNumbers (w .answer) ≡ n) × (w .buffer ≡ b)

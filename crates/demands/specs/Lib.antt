@@ -1,6 +1,7 @@
 pub mod Causes
 pub mod Demands
 pub mod Runs
+pub mod Pieces
 pub mod Traces
 pub mod Handed
 pub mod GroupCalls

@@ -1,12 +1,12 @@
 -- What the calls below ask for, of a table that is admitted and a list that is checked; and each definition, by what the checks find.
 -- Assumes nothing.
-use Prim.Native.Nat.{ℕ, _/_, _≤_, _<_}
+use Prim.Native.Nat.{ℕ, _*_, _/_, _≤_, _<_}
 use mathlib.Core.Bool.{Bool, true, false, not}
 use mathlib.Core.Path.{_≡_, refl, sym, ap, _∙_, subst}
 use mathlib.Core.List.{List, [], _∷_}
 use native.Mathlib.Omega.{arith}
 use lib.Dec.{eqb}
-use lib.ListN.{length}
+use lib.ListN.{length, take}
 use borrow.Author.Tests.{not-false, eqb-true, eq-eqb, ne-eqb, le-leb, lt-leb}
 use Rattle.records.specs.declared.table.Table.{Table}
 use Rattle.records.specs.declared.table.TableRead.{TableRead}
@@ -16,7 +16,7 @@ use Rattle.records.specs.declared.refusal.Refusal.{Refusal}
 use Rattle.records.specs.Tests.{pick}
 use Rattle.records.specs.Told.{refusal}
 use Rattle.records.specs.Table.{tableAt, inRange, tableSize, tableRefusal, readTable, Accepted}
-use Rattle.records.specs.Transaction.{transactionsIn}
+use Rattle.records.specs.Transaction.{transactionsIn, laterIn, recordCount, listOf, listFits}
 use Rattle.records.proofs.Laws.{passes, read-was}
 use Rattle.rules.specs.State.{Held}
 use Rattle.rules.proofs.Ranges.{ranges, held}
@@ -24,7 +24,9 @@ use Rattle.heads.specs.Queue.{Listed}
 use Rattle.lists.specs.declared.check.Checked.{Checked}
 use Rattle.lists.specs.declared.check.Checked.the-variants.{Fine}
 use Rattle.lists.specs.Check.{checkBytes}
-use Rattle.lists.proofs.Checks.{into-256, into-list, fine-fits}
+use Rattle.lists.proofs.Checks.{fine-sized, into-256, into-list, fine-fits}
+use Rattle.lists.specs.Packed.{packed, held as holding}
+use Rattle.lists.proofs.Packing.{length-packed, lent-held, widened}
 use Rattle.builder.specs.declared.build.BuildAnswer.{BuildAnswer}
 use Rattle.controller.specs.declared.controller.Controller.{Controller}
 use Rattle.desk.specs.Admit.{expects, expecting, admitted, noWay, byLength}
@@ -99,12 +101,31 @@ by-admitted P w s a b e t p = subst P (sym t ∙ e) p
 
 -- ---- the list
 
-pub fine-listed : (τ : Table) (s : List ℕ) (d : Checked) → Accepted τ → d ≡ checkBytes τ s → d ≡ Fine → Listed τ s (length s / 4)
-fine-listed τ s d a e f =
-    record { table = a; bytes = omega arith; fit = fine-fits τ (transactionsIn s) (into-list τ s 256 (into-256 τ s ∙ sym e ∙ f)) }
+-- the bytes of which the check found nothing to refuse
+module _ (τ : Table) (later : Bool) (s : List ℕ) (a : Accepted τ × (checkBytes later τ s ≡ Fine)) where
+  fine-list : listFits τ (listOf later s) ≡ true
+  fine-list = fine-fits τ (listOf later s) (into-list later τ s 256 (into-256 later τ s ∙ a .1))
 
-pub by-checked : (P : Checked → Type 0) (τ : Table) (s : List ℕ) (d b : Checked) → d ≡ checkBytes τ s → d ≡ b → P b → P (checkBytes τ s)
-by-checked P τ s d b e t p = subst P (sym t ∙ e) p
+  -- of records of 8
+  pub fine-listed : later ≡ true → Listed τ s (length s / 8)
+  fine-listed t = record { table = a .0; bytes = omega arith; fit = subst (λ (b : Bool). listFits τ (listOf b s) ≡ true) t fine-list }
+
+  -- and of 4, which are widened
+  pub few-plain : later ≡ false → length s / 4 ≤ 256
+  few-plain f = subst (λ (b : Bool). recordCount b (length s) ≤ 256) f (fine-sized later τ s 256 (into-256 later τ s ∙ a .1) .few)
+
+  module _ (f : later ≡ false) (w : List ℕ) (e : w ≡ packed (length s / 4) (transactionsIn s)) where
+    pub wide-room : 8 * (length s / 4) ≤ length w
+    wide-room = omega (arith, few-plain f, ap length e ∙ length-packed (transactionsIn s) (length s / 4) (few-plain f))
+
+    pub wide-list : laterIn (take (8 * (length s / 4)) w) ≡ listOf later s
+    wide-list = lent-held (length s / 4) w wide-room ∙ (ap (holding (length s / 4)) e ∙ (widened s ∙ ap (λ (b : Bool). listOf b s) (sym f)))
+
+    pub wide-listed : Listed τ (take (8 * (length s / 4)) w) (length (take (8 * (length s / 4)) w) / 8)
+    wide-listed = record { table = a .0; bytes = omega arith; fit = subst (λ (l : List Transaction). listFits τ l ≡ true) (sym wide-list) fine-list }
+
+pub by-checked : (P : Checked → Type 0) (τ : Table) (later : Bool) (s : List ℕ) (d b : Checked) → d ≡ checkBytes later τ s → d ≡ b → P b → P (checkBytes later τ s)
+by-checked P τ later s d b e t p = subst P (sym t ∙ e) p
 
 -- ---- two checks that find the same, of the same list
 

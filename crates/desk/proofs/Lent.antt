@@ -1,9 +1,9 @@
 -- Laws of a lent run of records: gathered, it is scheduled and run as the run itself would be, and what is planned for it is what is read into it.
 -- Assumes nothing.
-use Prim.Native.Nat.{ℕ, _*_, _≤_}
+use Prim.Native.Nat.{ℕ, _≤_}
 use mathlib.Core.Bool.{Bool, true, false, not}
 use mathlib.Core.Path.{_≡_, refl, sym, ap, _∙_, subst}
-use mathlib.Core.List.{List, []}
+use mathlib.Core.List.{List}
 use native.Mathlib.Omega.{arith}
 use lib.Dec.{T, leb, eqb}
 use lib.ListN.{length}
@@ -13,8 +13,10 @@ use Rattle.records.specs.declared.table.TableRead.{TableRead}
 use Rattle.records.specs.declared.table.TableRead.the-variants.{Read, Refused}
 use Rattle.records.specs.declared.transaction.Transaction.{Transaction}
 use Rattle.records.specs.Tests.{pick}
+use Rattle.records.specs.Transaction.{recordCount, listOf}
 use Rattle.records.specs.Told.{refusal}
-use Rattle.rules.specs.Run.{Ran as RanTo, run}
+use Rattle.rules.specs.Run.{Ran as RanTo}
+use Rattle.rules.specs.Pieces.{lentRun}
 use Rattle.lists.specs.declared.check.Checked.{Checked}
 use Rattle.lists.specs.declared.check.Checked.the-variants.{Fine, Refused as NotFine}
 use Rattle.lists.specs.Check.{checkList}
@@ -130,7 +132,7 @@ not-run check a c l n b r z h refused = sym (ap (λ (t : RunTold). t .controller
         on false h = refl
 
     checked : (τ : Table) (d : Checked) → hasRun (runsChecked d c τ l n b .told .answer) ≡ false → runsChecked d c τ l n b .told .controller ≡ c
-    checked τ Fine h = by-number (τ .edition) (run n τ l (tells c) []) (runRefusal τ l (tells c) n (length b)) h
+    checked τ Fine h = by-number (τ .edition) (lentRun n τ l (tells c)) (runRefusal τ l (tells c) n (length b)) h
     checked τ (NotFine x) h = refl
 
     kept : (check : Table → Checked) (a : TableRead) → hasRun (running check a c l n b .told .answer) ≡ false → running check a c l n b .told .controller ≡ c
@@ -140,13 +142,14 @@ not-run check a c l n b r z h refused = sym (ap (λ (t : RunTold). t .controller
 -- ---- what is planned, and read
 
 -- there are bytes, and places, for what is stored
-pub reading-room : (a : TableRead) (s : List ℕ) (places : ℕ) → (4 * readingPlan a s places .n ≤ length s) × (readingPlan a s places .n ≤ places)
+pub reading-room : (later : Bool) (a : TableRead) (s : List ℕ) (places : ℕ)
+    → (readingPlan later a s places .n ≤ recordCount later (length s)) × (readingPlan later a s places .n ≤ places)
 unfolding readingPlan
-reading-room (Read τ) s places = plan-room τ s places
-reading-room (Refused x) s places = (omega arith, omega arith)
+reading-room later (Read τ) s places = plan-room later τ s places
+reading-room later (Refused x) s places = (omega arith, omega arith)
 
-pub reading-planned : (a : TableRead) (s : List ℕ) (l : List Transaction)
-    → (readingPlan a s (length l) .answer ≡ reading a s l .answer) × (stored s (readingPlan a s (length l) .n) l ≡ reading a s l .list)
+pub reading-planned : (later : Bool) (a : TableRead) (s : List ℕ) (l : List Transaction)
+    → (readingPlan later a s (length l) .answer ≡ reading later a s l .answer) × (stored (listOf later s) (readingPlan later a s (length l) .n) l ≡ reading later a s l .list)
 unfolding readingPlan reading
-reading-planned (Read τ) s l = plan-decodes τ s l
-reading-planned (Refused x) s l = (refl, sym (stored-none s l))
+reading-planned later (Read τ) s l = plan-decodes later τ s l
+reading-planned later (Refused x) s l = (refl, sym (stored-none (listOf later s) l))

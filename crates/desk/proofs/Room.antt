@@ -1,9 +1,9 @@
 -- What a call answers stands in the buffers that it was lent.
 -- Assumes nothing.
-use Prim.Native.Nat.{ℕ, _*_, _/_, _≤_}
+use Prim.Native.Nat.{ℕ, _*_, _≤_}
 use mathlib.Core.Bool.{Bool, true, false}
 use mathlib.Core.Path.{_≡_, refl, sym, ap, _∙_, subst}
-use mathlib.Core.List.{List, []}
+use mathlib.Core.List.{List}
 use native.Mathlib.Omega.{arith}
 use lib.Dec.{eqb}
 use lib.ListN.{length, drop, length-append}
@@ -14,10 +14,11 @@ use Rattle.records.specs.declared.transaction.Transaction.{Transaction}
 use Rattle.records.specs.declared.refusal.Refusal.{Refusal}
 use Rattle.records.specs.Tests.{pick}
 use Rattle.records.specs.Told.{over}
-use Rattle.records.specs.Transaction.{transactionsIn}
+use Rattle.records.specs.Transaction.{recordCount, listOf}
 use Rattle.records.specs.Command.{bytesOfAll}
-use Rattle.rules.specs.Run.{Ran as RanTo, run}
-use Rattle.heads.proofs.Laws.{length-from}
+use Rattle.rules.specs.Run.{Ran as RanTo}
+use Rattle.rules.specs.Pieces.{lentRun}
+use Rattle.records.proofs.Listed.{length-list}
 use Rattle.engine.specs.Build.{finishesFrom}
 use Rattle.records.proofs.Written.{length-bytes}
 use Rattle.engine.proofs.Schedule.{finishes-length}
@@ -67,12 +68,12 @@ module _ (l : List Transaction) (b₀ b f₀ f : List ℕ) (e n : ℕ) where
   fits check (Read τ) h = checked (check τ) τ h
   fits check (Refused x) h = nothing x h
 
-pub built-room : (w : ℕ) (t s b₀ b f₀ f : List ℕ) (r : BuildAnswer) (e n : ℕ)
-    → Schedules (λ τ. checkBytes τ s) (admitted w t) (transactionsIn s) b₀ b f₀ f r → r ≡ Built e n → (8 * n ≤ length b) × (length s / 4 ≤ length f)
-built-room w t s b₀ b f₀ f r e n h p =
-    let z = fits (transactionsIn s) b₀ b f₀ f e n (λ τ. checkBytes τ s) (admitted w t)
-    (subst (λ (a : BuildAnswer). Schedules (λ τ. checkBytes τ s) (admitted w t) (transactionsIn s) b₀ b f₀ f a) p h) in
-    (z .0, omega (arith, z .1, length-from s (length s / 4) 0))
+pub built-room : (w : ℕ) (t : List ℕ) (later : Bool) (s b₀ b f₀ f : List ℕ) (r : BuildAnswer) (e n : ℕ)
+    → Schedules (λ τ. checkBytes later τ s) (admitted w t) (listOf later s) b₀ b f₀ f r → r ≡ Built e n → (8 * n ≤ length b) × (recordCount later (length s) ≤ length f)
+built-room w t later s b₀ b f₀ f r e n h p =
+    let z = fits (listOf later s) b₀ b f₀ f e n (λ τ. checkBytes later τ s) (admitted w t)
+    (subst (λ (a : BuildAnswer). Schedules (λ τ. checkBytes later τ s) (admitted w t) (listOf later s) b₀ b f₀ f a) p h) in
+    (z .0, omega (arith, z .1, length-list s later))
 
 -- ---- a run
 
@@ -92,7 +93,7 @@ module _ (c : Controller) (l : List Transaction) (count : ℕ) (b₀ : List ℕ)
       z = runRefusal τ l (tells c) count (length b₀)
 
       R : RanTo
-      R = run count τ l (tells c) []
+      R = lentRun count τ l (tells c)
 
       on : (t : Bool) → Holds (pick t (ranLeft (τ .edition) R b₀) (refusedLeft (τ .edition) z c b₀))
       on true e =

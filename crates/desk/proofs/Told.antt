@@ -1,6 +1,7 @@
 -- Each call's definition, by what `admit` answered: a, of the expected edition w and the table's bytes s.
 -- Assumes nothing.
 use Prim.Native.Nat.{ℕ, _*_, _≤_}
+use mathlib.Core.Bool.{Bool, true}
 use mathlib.Core.Path.{_≡_, refl, sym, subst}
 use mathlib.Core.List.{List}
 use lib.ListN.{length, take, replicate}
@@ -10,7 +11,7 @@ use Rattle.records.specs.declared.table.TableRead.the-variants.{Read, Refused}
 use Rattle.records.specs.declared.transaction.Transaction.{Transaction}
 use Rattle.records.specs.declared.refusal.Refusal.{Refusal}
 use Rattle.records.specs.Table.{tableOf}
-use Rattle.records.specs.Transaction.{transactionsIn}
+use Rattle.records.specs.Transaction.{laterIn}
 use Rattle.judge.specs.declared.answer.Judged.{Judged}
 use Rattle.judge.specs.declared.answer.Judged.the-variants.{Refused as NotJudged}
 use Rattle.judge.specs.declared.answer.PatternJudged.{PatternJudged}
@@ -67,9 +68,9 @@ module _ (w : ℕ) (s : List ℕ) (a : TableRead) (e : a ≡ admitted w s) where
     unfolding bounding
     bound-read bi bc r h = by-admitted (λ (z : TableRead). r ≡ bounding z bi bc) w s a (Read τ) e t h
 
-    pub plan-read : (b : List ℕ) (places : ℕ) (r : Plan) → r ≡ plan τ b places → r ≡ readingPlan (admitted w s) b places
+    pub plan-read : (later : Bool) (b : List ℕ) (places : ℕ) (r : Plan) → r ≡ plan later τ b places → r ≡ readingPlan later (admitted w s) b places
     unfolding readingPlan
-    plan-read b places r h = by-admitted (λ (z : TableRead). r ≡ readingPlan z b places) w s a (Read τ) e t h
+    plan-read later b places r h = by-admitted (λ (z : TableRead). r ≡ readingPlan later z b places) w s a (Read τ) e t h
 
     pub way-read : (n : ℕ) (r : WayIn) → r ≡ byLength n τ → r ≡ wayIn n (admitted w s)
     way-read n r h = by-admitted (λ (z : TableRead). r ≡ wayIn n z) w s a (Read τ) e t h
@@ -105,9 +106,9 @@ module _ (w : ℕ) (s : List ℕ) (a : TableRead) (e : a ≡ admitted w s) where
     unfolding bounding
     bound-refused bi bc = by-admitted (λ (z : TableRead). NoBound x ≡ bounding z bi bc) w s a (Refused x) e t refl
 
-    pub plan-refused : (b : List ℕ) (places : ℕ) → record { n = 0; answer = NotDone x } ≡ readingPlan (admitted w s) b places
+    pub plan-refused : (later : Bool) (b : List ℕ) (places : ℕ) → record { n = 0; answer = NotDone x } ≡ readingPlan later (admitted w s) b places
     unfolding readingPlan
-    plan-refused b places = by-admitted (λ (z : TableRead). record { n = 0; answer = NotDone x } ≡ readingPlan z b places) w s a (Refused x) e t refl
+    plan-refused later b places = by-admitted (λ (z : TableRead). record { n = 0; answer = NotDone x } ≡ readingPlan later z b places) w s a (Refused x) e t refl
 
     pub way-refused : (n : ℕ) → noWay x ≡ wayIn n (admitted w s)
     way-refused n = by-admitted (λ (z : TableRead). noWay x ≡ wayIn n z) w s a (Refused x) e t refl
@@ -126,44 +127,49 @@ module _ (w : ℕ) (s : List ℕ) (a : TableRead) (e : a ≡ admitted w s) where
     run-refused check c l count b =
         by-admitted (λ (z : TableRead). LeavesRun (running check z c l count b) (record { controller = c; answer = NotRun x }) b) w s a (Refused x) e t (refl, refl)
 
--- by what `check_bytes` answered: d, of the list's bytes s
-module _ (τ : Table) (s : List ℕ) (d : Checked) (e : d ≡ checkBytes τ s) where
-  pub build-fine : d ≡ Fine → (l : List Transaction) (b₀ b f₀ f : List ℕ) (r : BuildAnswer) → LeavesBuild τ l b₀ b f₀ f r → BuildsChecked (checkBytes τ s) τ l b₀ b f₀ f r
-  unfolding BuildsChecked
-  build-fine t l b₀ b f₀ f r h = by-checked (λ (z : Checked). BuildsChecked z τ l b₀ b f₀ f r) τ s d Fine e t h
+-- two names of one list
+pub same-ran : (c : Controller) (τ : Table) (l m : List Transaction) → l ≡ m → (count : ℕ) (b₀ b : List ℕ) (r : RunTold)
+    → LeavesRun (runController c τ l count b₀) r b → LeavesRun (runController c τ m count b₀) r b
+same-ran c τ l m e count b₀ b r h = subst (λ (k : List Transaction). LeavesRun (runController c τ k count b₀) r b) e h
 
-  pub build-refused : (x : Refusal) → d ≡ NotFine x → (l : List Transaction) (b f : List ℕ) → BuildsChecked (checkBytes τ s) τ l b b f f (NotBuilt x)
+-- by what `check_bytes` answered: d, of the list's bytes s
+module _ (τ : Table) (later : Bool) (s : List ℕ) (d : Checked) (e : d ≡ checkBytes later τ s) where
+  pub build-fine : d ≡ Fine → (l : List Transaction) (b₀ b f₀ f : List ℕ) (r : BuildAnswer) → LeavesBuild τ l b₀ b f₀ f r → BuildsChecked (checkBytes later τ s) τ l b₀ b f₀ f r
   unfolding BuildsChecked
-  build-refused x t l b f = by-checked (λ (z : Checked). BuildsChecked z τ l b b f f (NotBuilt x)) τ s d (NotFine x) e t (refl, refl, refl)
+  build-fine t l b₀ b f₀ f r h = by-checked (λ (z : Checked). BuildsChecked z τ l b₀ b f₀ f r) τ later s d Fine e t h
+
+  pub build-refused : (x : Refusal) → d ≡ NotFine x → (l : List Transaction) (b f : List ℕ) → BuildsChecked (checkBytes later τ s) τ l b b f f (NotBuilt x)
+  unfolding BuildsChecked
+  build-refused x t l b f = by-checked (λ (z : Checked). BuildsChecked z τ l b b f f (NotBuilt x)) τ later s d (NotFine x) e t (refl, refl, refl)
 
   pub ran-fine : d ≡ Fine → (c : Controller) (l : List Transaction) (count : ℕ) (b₀ b : List ℕ) (r : RunTold)
-      → LeavesRun (runController c τ l count b₀) r b → LeavesRun (runsChecked (checkBytes τ s) c τ l count b₀) r b
+      → LeavesRun (runController c τ l count b₀) r b → LeavesRun (runsChecked (checkBytes later τ s) c τ l count b₀) r b
   unfolding runsChecked
-  ran-fine t c l count b₀ b r h = by-checked (λ (z : Checked). LeavesRun (runsChecked z c τ l count b₀) r b) τ s d Fine e t h
+  ran-fine t c l count b₀ b r h = by-checked (λ (z : Checked). LeavesRun (runsChecked z c τ l count b₀) r b) τ later s d Fine e t h
 
   pub ran-refused : (x : Refusal) → d ≡ NotFine x → (c : Controller) (l : List Transaction) (count : ℕ) (b : List ℕ)
-      → LeavesRun (runsChecked (checkBytes τ s) c τ l count b) (record { controller = c; answer = NotRun x }) b
+      → LeavesRun (runsChecked (checkBytes later τ s) c τ l count b) (record { controller = c; answer = NotRun x }) b
   unfolding runsChecked
   ran-refused x t c l count b =
-      by-checked (λ (z : Checked). LeavesRun (runsChecked z c τ l count b) (record { controller = c; answer = NotRun x }) b) τ s d (NotFine x) e t (refl, refl)
+      by-checked (λ (z : Checked). LeavesRun (runsChecked z c τ l count b) (record { controller = c; answer = NotRun x }) b) τ later s d (NotFine x) e t (refl, refl)
 
 -- by what the way in found: a, of the n records that the bytes s hold, which are lent on
-module _ (n : ℕ) (s : List ℕ) (inside : 4 * n ≤ length s) (a : TableRead) where
+module _ (n : ℕ) (s : List ℕ) (inside : 8 * n ≤ length s) (a : TableRead) where
   module _ (τ : Table) (t : a ≡ Read τ) where
-    pub held-built : (b₀ b f₀ f : List ℕ) (r : BuildAnswer) → BuildsChecked (checkBytes τ (take (4 * n) s)) τ (transactionsIn (take (4 * n) s)) b₀ b f₀ f r
+    pub held-built : (b₀ b f₀ f : List ℕ) (r : BuildAnswer) → BuildsChecked (checkBytes true τ (take (8 * n) s)) τ (laterIn (take (8 * n) s)) b₀ b f₀ f r
         → Schedules (λ τ. checkList τ (held n s)) a (held n s) b₀ b f₀ f r
     unfolding Schedules
     held-built b₀ b f₀ f r h =
-        schedules-same (λ τ. checkBytes τ (take (4 * n) s)) (λ τ. checkList τ (held n s)) a (transactionsIn (take (4 * n) s)) (held n s) b₀ b f₀ f r (lent-check n s inside) (lent-held n s inside)
-        (subst (λ (z : TableRead). Schedules (λ τ. checkBytes τ (take (4 * n) s)) z (transactionsIn (take (4 * n) s)) b₀ b f₀ f r) (sym t) h)
+        schedules-same (λ τ. checkBytes true τ (take (8 * n) s)) (λ τ. checkList τ (held n s)) a (laterIn (take (8 * n) s)) (held n s) b₀ b f₀ f r (lent-check n s inside) (lent-held n s inside)
+        (subst (λ (z : TableRead). Schedules (λ τ. checkBytes true τ (take (8 * n) s)) z (laterIn (take (8 * n) s)) b₀ b f₀ f r) (sym t) h)
 
-    pub held-ran : (c : Controller) (count : ℕ) (b₀ b : List ℕ) (r : RunTold) → LeavesRun (runsChecked (checkBytes τ (take (4 * n) s)) c τ (transactionsIn (take (4 * n) s)) count b₀) r b
+    pub held-ran : (c : Controller) (count : ℕ) (b₀ b : List ℕ) (r : RunTold) → LeavesRun (runsChecked (checkBytes true τ (take (8 * n) s)) c τ (laterIn (take (8 * n) s)) count b₀) r b
         → LeavesRun (running (λ τ. checkList τ (held n s)) a c (held n s) count b₀) r b
     unfolding running
     held-ran c count b₀ b r h =
         subst (λ (w : RunLeft). LeavesRun w r b)
-        (running-same (λ τ. checkBytes τ (take (4 * n) s)) (λ τ. checkList τ (held n s)) a c (transactionsIn (take (4 * n) s)) (held n s) count b₀ (lent-check n s inside) (lent-held n s inside))
-        (subst (λ (z : TableRead). LeavesRun (running (λ τ. checkBytes τ (take (4 * n) s)) z c (transactionsIn (take (4 * n) s)) count b₀) r b) (sym t) h)
+        (running-same (λ τ. checkBytes true τ (take (8 * n) s)) (λ τ. checkList τ (held n s)) a c (laterIn (take (8 * n) s)) (held n s) count b₀ (lent-check n s inside) (lent-held n s inside))
+        (subst (λ (z : TableRead). LeavesRun (running (λ τ. checkBytes true τ (take (8 * n) s)) z c (laterIn (take (8 * n) s)) count b₀) r b) (sym t) h)
 
 -- and where it refused
 module _ (check : Table → Checked) (a : TableRead) (x : Refusal) (t : a ≡ Refused x) (l : List Transaction) where

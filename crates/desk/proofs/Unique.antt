@@ -1,7 +1,7 @@
 -- Each public call's promise leaves one possible result and one possible content of each buffer it was lent, refused or not.
 -- Assumes nothing.
 use Prim.Native.Nat.{ℕ}
-use mathlib.Core.Bool.{true}
+use mathlib.Core.Bool.{Bool, true}
 use mathlib.Core.Path.{_≡_, refl, _∙_}
 use mathlib.Core.List.{List}
 use Rattle.records.specs.declared.table.Table.{Table}
@@ -10,7 +10,7 @@ use Rattle.records.specs.declared.table.TableRead.the-variants.{Read, Refused}
 use Rattle.records.specs.declared.transaction.Transaction.{Transaction}
 use Rattle.records.specs.declared.refusal.Refusal.{Refusal}
 use Rattle.records.specs.Table.{Accepted}
-use Rattle.records.specs.Transaction.{transactionsIn, listFits}
+use Rattle.records.specs.Transaction.{listOf, listFits}
 use Rattle.records.proofs.Unique.{one-answer}
 use Rattle.judge.specs.declared.answer.PatternJudged.{PatternJudged}
 use Rattle.judge.specs.declared.answer.PatternJudged.the-variants.{Refused as PatternNotJudged}
@@ -68,21 +68,21 @@ only expected table =
       judgePattern = pattern-only (admitted expected table);
       judgeCapture = λ s b₀. one-captured (capturing (admitted expected table) s b₀);
       bound = λ bi bc. one-answer (bounding (admitted expected table) bi bc);
-      readTransactions = λ s l x y b d p q.
-          let w = reading (admitted expected table) s l in
+      readTransactions = λ later s l x y b d p q.
+          let w = reading later (admitted expected table) s l in
           (one-answer (w .answer) x y (p .0) (q .0), one-answer (w .list) b d (p .1) (q .1));
       schedule = λ l b₀ f₀ x y b d f g.
           schedules-only l b₀ f₀ x y b d f g (λ τ. checkList τ l) (λ τ. fine-fits τ l) (admitted expected table) (read-accepted expected table);
-      scheduleBytes = λ s b₀ f₀ x y b d f g.
-          schedules-only (transactionsIn s) b₀ f₀ x y b d f g (λ τ. checkBytes τ s) (bytes-fit s) (admitted expected table) (read-accepted expected table);
+      scheduleBytes = λ later s b₀ f₀ x y b d f g.
+          schedules-only (listOf later s) b₀ f₀ x y b d f g (λ τ. checkBytes later τ s) (bytes-fit later s) (admitted expected table) (read-accepted expected table);
       start = one-answer (starting (admitted expected table));
       run = λ c₀ l n b₀ x y c e b d p q.
           let w = running (λ τ. checkList τ l) (admitted expected table) c₀ l n b₀ in
           (one-answer (w .told .answer) x y (p .0) (q .0), one-answer (w .told .controller) c e (p .1) (q .1), one-answer (w .buffer) b d (p .2) (q .2));
-      runBytes = λ c₀ s n b₀ x y b d p q.
-          let w = running (λ τ. checkBytes τ s) (admitted expected table) c₀ (transactionsIn s) n b₀ in
+      runBytes = λ later c₀ s n b₀ x y b d p q.
+          let w = running (λ τ. checkBytes later τ s) (admitted expected table) c₀ (listOf later s) n b₀ in
           (one-answer (w .told) x y (p .0) (q .0), one-answer (w .buffer) b d (p .1) (q .1));
     }
   where
-    bytes-fit : (s : List ℕ) (τ : Table) → checkBytes τ s ≡ Fine → listFits τ (transactionsIn s) ≡ true
-    bytes-fit s τ e = fine-fits τ (transactionsIn s) (into-list τ s 256 (into-256 τ s ∙ e))
+    bytes-fit : (later : Bool) (s : List ℕ) (τ : Table) → checkBytes later τ s ≡ Fine → listFits τ (listOf later s) ≡ true
+    bytes-fit later s τ e = fine-fits τ (listOf later s) (into-list later τ s 256 (into-256 later τ s ∙ e))

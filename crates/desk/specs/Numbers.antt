@@ -79,9 +79,9 @@ abbrev pub tableNumbers : TableRead → Numbers
 tableNumbers (TableIs τ) = telling (τ .edition) (groupNumbersOf τ)
 tableNumbers (NoTable x) = refusing x
 
--- a transaction read: type, start bank, BI, BC. No table is given: edition 0
+-- a transaction read, of either size: type, start bank, BI, BC, arrival, which of 4 bytes is 0. No table is given: edition 0
 abbrev pub transactionNumbers : TransactionRead → Numbers
-transactionNumbers (TransactionIs t) = telling 0 (t .kind ∷ t .start ∷ t .bi ∷ t .bc ∷ [])
+transactionNumbers (TransactionIs t) = telling 0 (t .kind ∷ t .start ∷ t .bi ∷ t .bc ∷ t .arrival ∷ [])
 transactionNumbers (NoTransaction x) = refusing x
 
 -- a command read: cycle, kind, bank, transaction number

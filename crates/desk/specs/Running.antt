@@ -33,7 +33,7 @@ starting (Refused x) = record { controller = noController; answer = NotStarted x
 abbrev pub nothingRun : Refusal → Controller → List ℕ → RunLeft
 nothingRun x c b = record { told = record { controller = c; answer = NotRun x }; buffer = b }
 
--- by what the check of the list, numbers 3 and 4, finds; then numbers 5 and 9, and the run of so many cycles
+-- by what the check of the list, numbers 3 and 4, finds; then numbers 5, 9 and 12, and the run of so many cycles
 unfoldable pub runsChecked : Checked → Controller → Table → List Transaction → ℕ → List ℕ → RunLeft
 runsChecked Fine c τ l count b = runController c τ l count b
 runsChecked (NotFine x) c τ l count b = nothingRun x c b

@@ -31,7 +31,7 @@ use Rattle.timing.specs.declared.kept.KeptGroup.{KeptGroup}
 use Rattle.timing.specs.declared.kept.Kept.{Kept}
 use Rattle.timing.specs.Kept.{isClosing, stampOf, toldBank, toldGroup, told, shutKept, quietKept, keptOpened, keptAfter, groupOpened, groupMoved}
 use Rattle.timing.proofs.Telling.{told-at, told-group, actKept, told-act, dataKept, told-data, refKept, told-ref}
-use Rattle.engine.specs.Choose.{commandOf, dataFree, actFree}
+use Rattle.engine.specs.Choose.{commandOf, seenAt, dataFree, actFree}
 use Rattle.engine.proofs.Laws.{all-data, all-act, goes-data, data-head-kind, goes-act, act-head-kind, goes-ref}
 use Rattle.engine.proofs.Going.{Going, early, stops-is, idles, Moving, note-asked, moves}
 
@@ -80,10 +80,10 @@ ref-queues (Other n) e = e
 
 -- the two tests, by every rule: of the data queue's head, and of the ACT queue's
 abbrev pub data? : Table → Kept → Head → Bool
-data? τ s d = d .there && (ltb (d .act) (s .acts) && breaksNone τ (told s) (commandOf d (s .cycle)))
+data? τ s d = seenAt (s .cycle) d && (ltb (d .act) (s .acts) && breaksNone τ (told s) (commandOf d (s .cycle)))
 
 abbrev pub act? : Table → Kept → Head → Bool
-act? τ s a = a .there && breaksNone τ (told s) (commandOf a (s .cycle))
+act? τ s a = seenAt (s .cycle) a && breaksNone τ (told s) (commandOf a (s .cycle))
 
 -- what goes, and its kind
 module _ (τ : Table) (bs : List ℕ) (n : ℕ) (s : Kept) (q : Queues) (h : BothStand τ bs n (told s .acts) (told s .datas) q) where
@@ -96,14 +96,14 @@ module _ (τ : Table) (bs : List ℕ) (n : ℕ) (s : Kept) (q : Queues) (h : Bot
   -- the two tests as code made them: x by the own group, g, z whether the other groups were asked, y what was found of them, v both
   module _ (g : ℕ) (own : KeptGroup) (kept : own ≡ getD (s .groups) g quietKept) (x z y v : Bool) where
     pub kept-moves : (g ≡ groupOf τ (d .bank)) × (g < τ .groups)
-        → x ≡ (d .there && (ltb (d .act) (s .acts) && dataFree τ (toldBank (getD (s .banks) (d .bank) shutKept)) (toldGroup own) (commandOf d (s .cycle))))
+        → x ≡ (seenAt (s .cycle) d && (ltb (d .act) (s .acts) && dataFree τ (toldBank (getD (s .banks) (d .bank) shutKept)) (toldGroup own) (commandOf d (s .cycle))))
         → z ≡ (x && not (eqb (τ .groups) 1)) → ((z ≡ true) × (y ≡ dataFar τ (map toldGroup (s .groups)) g (isWr (d .kind)) (s .cycle))) ⊎ ((z ≡ false) × (y ≡ true))
         → v ≡ (x && y) → v ≡ data? τ s d
     unfolding told
     kept-moves e p o r w = w ∙ all-data τ bs n (told s) q h g x y e (rw (told-at s (d .bank), told-group s g, ← kept) p) (rw o at r)
 
     pub kept-opens : isRef (a .kind) ≡ false → (g ≡ groupOf τ (a .bank)) × (g < τ .groups)
-        → x ≡ (a .there && actFree τ (toldBank (getD (s .banks) (a .bank) shutKept)) (toldGroup own) (stampOf (s .a4)) (stampOf (s .refresh)) (commandOf a (s .cycle)))
+        → x ≡ (seenAt (s .cycle) a && actFree τ (toldBank (getD (s .banks) (a .bank) shutKept)) (toldGroup own) (stampOf (s .a4)) (stampOf (s .refresh)) (commandOf a (s .cycle)))
         → z ≡ (x && not (eqb (τ .groups) 1)) → ((z ≡ true) × (y ≡ actsFar τ (map toldGroup (s .groups)) g (s .cycle))) ⊎ ((z ≡ false) × (y ≡ true))
         → v ≡ (x && y) → v ≡ act? τ s a
     unfolding told
@@ -125,7 +125,7 @@ module _ (τ : Table) (bs : List ℕ) (n : ℕ) (s : Kept) (q : Queues) (h : Bot
         kept-act-kind v = act-head-kind τ bs n (told s) q h x p e z r (sym is-ref ∙ w) v
 
       -- a REF that keeps rule 12 goes or not, as the banks are at rest or not; one that does not keep it does not go
-      module _ (w : k ≡ true) (r : z ≡ (a .there && past (stampOf (s .refresh)) (τ .rfc) (s .cycle))) where
+      module _ (w : k ≡ true) (r : z ≡ (seenAt (s .cycle) a && past (stampOf (s .refresh)) (τ .rfc) (s .cycle))) where
         by-rest : (y : Bool) → y ≡ rule11 τ (told s) (s .cycle) → goes τ (first bs n) (told s) ≡ pick (z && y) (some (commandOf a (s .cycle))) none
         unfolding told
         by-rest y v = goes-ref τ bs n (told s) q h x p e (sym is-ref ∙ w) z r y v
@@ -151,6 +151,7 @@ atCycle s c =
       a4 = s .a4;
       groups = s .groups;
       refresh = s .refresh;
+      lent = s .lent;
     }
 
 -- the state after a data command, and after an ACT, whose parts are given
@@ -168,6 +169,7 @@ stored s next b kb g kg =
       a4 = s .a4;
       groups = set (s .groups) g kg;
       refresh = s .refresh;
+      lent = s .lent;
     }
 
 abbrev pub opened : Kept → ℕ → ℕ → ℕ → KeptGroup → Kept
@@ -184,6 +186,7 @@ opened s next b g kg =
       a4 = s .a3;
       groups = set (s .groups) g kg;
       refresh = s .refresh;
+      lent = s .lent;
     }
 
 told-idle : (s : Kept) → idle (told s) ≡ told (atCycle s (s .cycle + 1))

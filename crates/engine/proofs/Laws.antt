@@ -6,7 +6,7 @@ use mathlib.Core.Path.{_≡_, refl, sym, ap, _∙_, subst}
 use mathlib.Core.Bool.{Bool, true, false, not, _&&_}
 use mathlib.Core.Option.{Option, none, some, Option·map}
 use mathlib.Core.List.{List}
-use lib.Dec.{ltb, eqb}
+use lib.Dec.{ltb, leb, eqb}
 use Rattle.records.specs.Tests.{pick}
 use Rattle.records.specs.declared.table.Table.{Table}
 use Rattle.records.specs.declared.transaction.Transaction.{Transaction}
@@ -19,7 +19,7 @@ use Rattle.rules.specs.Kinds.{isAct, isWr, isRef, isData, inActQueue}
 use Rattle.rules.specs.Square.{groupOf}
 use Rattle.rules.specs.State.{bankOf, groupAt, actsFar, dataFar, rule11, rule12, breaksNone}
 use Rattle.rules.specs.Queues.{Due, actCount, actQueue, dataQueue, headAfter}
-use Rattle.rules.specs.CycleRule.{hadAct, legalAt, otherwise, goes}
+use Rattle.rules.specs.CycleRule.{seen, hadAct, legalAt, otherwise, goes}
 use Rattle.rules.proofs.TestLaws.{and-fst, OnSome}
 use Rattle.rules.proofs.Ranges.{ranges}
 use Rattle.rules.proofs.Fit.{AllFit, Inside, place-at, act-bank, data-bank}
@@ -31,47 +31,51 @@ use Rattle.heads.specs.declared.queue.Queues.{Queues}
 use Rattle.heads.specs.Head.{dueOf}
 use Rattle.heads.specs.Queue.{Listed, BothStand}
 use Rattle.heads.proofs.Laws.{first, first-fits}
-use Rattle.engine.specs.Choose.{commandOf, dataFree, actFree}
+use Rattle.engine.specs.Choose.{commandOf, seenAt, dataFree, actFree}
 use Rattle.engine.proofs.Tried.{Asked, apart, ref-rules, data-all, act-all}
 
 -- ---- a head that is tried
 
+-- what a head stands for, where one does
+abbrev here : Head → Due
+here h = record { kind = h .kind; bank = h .bank; number = h .number; act = h .act; arrival = h .arrival }
+
 module _ (f : Command → Bool) (t : ℕ) (h : Head) where
-  pub tried-act : legalAt f t (dueOf h) ≡ pick (h .there && f (commandOf h t)) (some (commandOf h t)) none
-  tried-act = on (h .there)
+  is-seen : seen t (dueOf h) ≡ pick (seenAt t h) (some (here h)) none
+  is-seen = on (h .there)
     where
-      on : (x : Bool) → legalAt f t (pick x (some (record { kind = h .kind; bank = h .bank; number = h .number; act = h .act })) none)
-          ≡ pick (x && f (commandOf h t)) (some (commandOf h t)) none
+      on : (x : Bool) → seen t (pick x (some (here h)) none) ≡ pick (x && leb (h .arrival) t) (some (here h)) none
       on true = refl
       on false = refl
 
-  pub tried-data : (acts : ℕ) → legalAt f t (hadAct acts (dueOf h)) ≡ pick (h .there && (ltb (h .act) acts && f (commandOf h t))) (some (commandOf h t)) none
-  tried-data acts = on (h .there)
-    where
-      had : (y : Bool) → legalAt f t (pick y (some (record { kind = h .kind; bank = h .bank; number = h .number; act = h .act })) none)
-          ≡ pick (y && f (commandOf h t)) (some (commandOf h t)) none
-      had true = refl
-      had false = refl
+  legal : (x : Bool) → legalAt f t (pick x (some (here h)) none) ≡ pick (x && f (commandOf h t)) (some (commandOf h t)) none
+  legal true = refl
+  legal false = refl
 
-      on : (x : Bool) → legalAt f t (hadAct acts (pick x (some (record { kind = h .kind; bank = h .bank; number = h .number; act = h .act })) none))
-          ≡ pick (x && (ltb (h .act) acts && f (commandOf h t))) (some (commandOf h t)) none
-      on true = had (ltb (h .act) acts)
+  pub tried-act : legalAt f t (seen t (dueOf h)) ≡ pick (seenAt t h && f (commandOf h t)) (some (commandOf h t)) none
+  tried-act = ap (legalAt f t) is-seen ∙ legal (seenAt t h)
+
+  pub tried-data : (acts : ℕ) → legalAt f t (hadAct acts (seen t (dueOf h))) ≡ pick (seenAt t h && (ltb (h .act) acts && f (commandOf h t))) (some (commandOf h t)) none
+  tried-data acts = ap (λ (o : Option Due). legalAt f t (hadAct acts o)) is-seen ∙ on (seenAt t h)
+    where
+      on : (x : Bool) → legalAt f t (hadAct acts (pick x (some (here h)) none)) ≡ pick (x && (ltb (h .act) acts && f (commandOf h t))) (some (commandOf h t)) none
+      on true = legal (ltb (h .act) acts)
       on false = refl
 
 -- the cycle rule for the heads a and d, at cycle t, when `acts` have left the ACT queue; f tests a head
 abbrev chosen : (Command → Bool) → Head → Head → ℕ → ℕ → Option Command
-chosen f a d acts t = otherwise (legalAt f t (hadAct acts (dueOf d))) (legalAt f t (dueOf a))
+chosen f a d acts t = otherwise (legalAt f t (hadAct acts (seen t (dueOf d)))) (legalAt f t (seen t (dueOf a)))
 
 -- what is chosen, by the two tests in the order of the code
-module _ (f : Command → Bool) (a d : Head) (acts t : ℕ) (x : Bool) (p : x ≡ (d .there && (ltb (d .act) acts && f (commandOf d t)))) where
+module _ (f : Command → Bool) (a d : Head) (acts t : ℕ) (x : Bool) (p : x ≡ (seenAt t d && (ltb (d .act) acts && f (commandOf d t)))) where
   chosen-data : x ≡ true → some (commandOf d t) ≡ chosen f a d acts t
   chosen-data q =
-      sym (ap (λ (o : Option Command). otherwise o (legalAt f t (dueOf a)))
+      sym (ap (λ (o : Option Command). otherwise o (legalAt f t (seen t (dueOf a))))
       (tried-data f t d acts ∙ ap (λ (y : Bool). pick y (some (commandOf d t)) none) (sym p ∙ q)))
 
-  chosen-act : x ≡ false → (z : Bool) → z ≡ (a .there && f (commandOf a t)) → pick z (some (commandOf a t)) none ≡ chosen f a d acts t
+  chosen-act : x ≡ false → (z : Bool) → z ≡ (seenAt t a && f (commandOf a t)) → pick z (some (commandOf a t)) none ≡ chosen f a d acts t
   chosen-act q z r =
-      sym (ap (λ (o : Option Command). otherwise o (legalAt f t (dueOf a)))
+      sym (ap (λ (o : Option Command). otherwise o (legalAt f t (seen t (dueOf a))))
       (tried-data f t d acts ∙ ap (λ (y : Bool). pick y (some (commandOf d t)) none) (sym p ∙ q))
       ∙ (tried-act f t a ∙ ap (λ (y : Bool). pick y (some (commandOf a t)) none) (sym r)))
 
@@ -100,8 +104,8 @@ act-kind Ref e f = sym f
 act-kind (Other n) e f = e
 
 -- of a head that stands there
-there : (P : Due → Type 0) (h : Head) → h .there ≡ true → OnSome P (dueOf h) → P (record { kind = h .kind; bank = h .bank; number = h .number; act = h .act })
-there P h e u = subst (λ (b : Bool). OnSome P (pick b (some (record { kind = h .kind; bank = h .bank; number = h .number; act = h .act })) none)) e u
+there : (P : Due → Type 0) (h : Head) → h .there ≡ true → OnSome P (dueOf h) → P (here h)
+there P h e u = subst (λ (b : Bool). OnSome P (pick b (some (here h)) none)) e u
 
 module _ (τ : Table) (bs : List ℕ) (n : ℕ) (s : State) where
   -- what is chosen of the heads of the queues is what goes
@@ -147,28 +151,28 @@ module _ (τ : Table) (bs : List ℕ) (n : ℕ) (s : State) where
     d = q .datas .head
 
     -- what stands at the head of the ACT queue is a command of that queue
-    queued : a .there ≡ true → inActQueue (a .kind) ≡ true
-    queued e = there (λ k. inActQueue (k .kind) ≡ true) a e (rw (h .ofActs .head) (act-kinds τ (first bs n) (s .acts)))
+    queued : seenAt (s .cycle) a ≡ true → inActQueue (a .kind) ≡ true
+    queued e = there (λ k. inActQueue (k .kind) ≡ true) a (and-fst (a .there) (leb (a .arrival) (s .cycle)) e) (rw (h .ofActs .head) (act-kinds τ (first bs n) (s .acts)))
 
     -- and at that of the data queue a data command
-    moved : d .there ≡ true → isData (d .kind) ≡ true
-    moved e = there (λ k. isData (k .kind) ≡ true) d e (rw (h .ofDatas .head) (data-kinds τ (first bs n) (s .datas)))
+    moved : seenAt (s .cycle) d ≡ true → isData (d .kind) ≡ true
+    moved e = there (λ k. isData (k .kind) ≡ true) d (and-fst (d .there) (leb (d .arrival) (s .cycle)) e) (rw (h .ofDatas .head) (data-kinds τ (first bs n) (s .datas)))
 
     -- the two tests: all rules, asked of the own group first
     abbrev pub data? : Bool
-    data? = d .there && (ltb (d .act) (s .acts) && breaksNone τ s (commandOf d (s .cycle)))
+    data? = seenAt (s .cycle) d && (ltb (d .act) (s .acts) && breaksNone τ s (commandOf d (s .cycle)))
 
     abbrev pub act? : Bool
-    act? = a .there && breaksNone τ s (commandOf a (s .cycle))
+    act? = seenAt (s .cycle) a && breaksNone τ s (commandOf a (s .cycle))
 
     module _ (g : ℕ) (x y : Bool) where
       pub all-data : (g ≡ groupOf τ (d .bank)) × (g < τ .groups)
-          → x ≡ (d .there && (ltb (d .act) (s .acts) && dataFree τ (bankOf s (d .bank)) (groupAt s g) (commandOf d (s .cycle))))
+          → x ≡ (seenAt (s .cycle) d && (ltb (d .act) (s .acts) && dataFree τ (bankOf s (d .bank)) (groupAt s g) (commandOf d (s .cycle))))
           → Asked (τ .groups) x y (dataFar τ (s .groups) g (isWr (d .kind)) (s .cycle)) → (x && y) ≡ data?
       all-data e = data-all τ s (s .cycle) d g (e .0) (e .1) x y (s .acts) moved
 
       pub all-act : isRef (a .kind) ≡ false → (g ≡ groupOf τ (a .bank)) × (g < τ .groups)
-          → x ≡ (a .there && actFree τ (bankOf s (a .bank)) (groupAt s g) (s .a4) (s .refresh) (commandOf a (s .cycle)))
+          → x ≡ (seenAt (s .cycle) a && actFree τ (bankOf s (a .bank)) (groupAt s g) (s .a4) (s .refresh) (commandOf a (s .cycle)))
           → Asked (τ .groups) x y (actsFar τ (s .groups) g (s .cycle)) → (x && y) ≡ act?
       all-act f e = act-all τ s (s .cycle) a g (e .0) (e .1) x y queued f
 
@@ -177,7 +181,7 @@ module _ (τ : Table) (bs : List ℕ) (n : ℕ) (s : State) where
       goes-data e = sym (chosen-data (breaksNone τ s) a d (s .acts) (s .cycle) x p e ∙ goes-chosen q h)
 
       pub data-head-kind : x ≡ true → isData (d .kind) ≡ true
-      data-head-kind e = moved (and-fst (d .there) _ (sym p ∙ e))
+      data-head-kind e = moved (and-fst (seenAt (s .cycle) d) _ (sym p ∙ e))
 
       module _ (e : x ≡ false) where
         -- the head of the ACT queue, as a test z of it comes out
@@ -187,12 +191,12 @@ module _ (τ : Table) (bs : List ℕ) (n : ℕ) (s : State) where
 
           -- it is no REF: an ACT, or nothing
           pub act-head-kind : isRef (a .kind) ≡ false → z ≡ true → isAct (a .kind) ≡ true
-          act-head-kind w v = act-kind (a .kind) (queued (and-fst (a .there) _ (sym r ∙ v))) w
+          act-head-kind w v = act-kind (a .kind) (queued (and-fst (seenAt (s .cycle) a) _ (sym r ∙ v))) w
 
         -- it is a REF, which keeps rule 12 or not; y tells of rule 11
-        module _ (w : isRef (a .kind) ≡ true) (z : Bool) (r : z ≡ (a .there && rule12 τ s (s .cycle))) where
+        module _ (w : isRef (a .kind) ≡ true) (z : Bool) (r : z ≡ (seenAt (s .cycle) a && rule12 τ s (s .cycle))) where
           pub goes-ref : (y : Bool) → y ≡ rule11 τ s (s .cycle) → goes τ (first bs n) s ≡ pick (z && y) (some (commandOf a (s .cycle))) none
           goes-ref y v =
-              goes-act (z && y) (ap (λ (b : Bool). b && y) r ∙ (ap (λ (b : Bool). (a .there && rule12 τ s (s .cycle)) && b) v
-              ∙ (apart (a .there) (rule12 τ s (s .cycle)) (rule11 τ s (s .cycle))
-              ∙ ap (λ (b : Bool). a .there && b) (ref-rules τ s (s .cycle) (a .kind) (a .bank) (a .number) w))))
+              goes-act (z && y) (ap (λ (b : Bool). b && y) r ∙ (ap (λ (b : Bool). (seenAt (s .cycle) a && rule12 τ s (s .cycle)) && b) v
+              ∙ (apart (seenAt (s .cycle) a) (rule12 τ s (s .cycle)) (rule11 τ s (s .cycle))
+              ∙ ap (λ (b : Bool). seenAt (s .cycle) a && b) (ref-rules τ s (s .cycle) (a .kind) (a .bank) (a .number) w))))

@@ -17,7 +17,7 @@ use Rattle.records.specs.Told.{over}
 use Rattle.records.specs.declared.table.Table.{Table}
 use Rattle.records.specs.declared.transaction.Transaction.{Transaction}
 use Rattle.records.specs.declared.command.Command.{Command}
-use Rattle.records.specs.Transaction.{transactionAt, transactionsFrom, isWrite}
+use Rattle.records.specs.Transaction.{laterAt, laterFrom, isWrite}
 use Rattle.records.specs.Command.{commandsFrom, bytesOfAll}
 use Rattle.records.proofs.Bytes.{length-over}
 use Rattle.records.proofs.Written.{length-bytes, Each, Readable, read-back}
@@ -120,10 +120,10 @@ finish-at τ (y ∷ l) k rs (suc j) x e =
     (w .0 ∙ ap (λ (i : ℕ). cycleOf (finish τ x i rs)) z, omega (arith, w .1))
 
 -- transaction k of the bytes
-kth : (bs : List ℕ) (n k : ℕ) → k < n → getElem? (first bs n) k ≡ some (transactionAt bs (4 * k))
+kth : (bs : List ℕ) (n k : ℕ) → k < n → getElem? (first bs n) k ≡ some (laterAt bs (8 * k))
 kth bs n k h =
     ap (λ (l : List Transaction). getElem? l k) (whole bs n k h)
-    ∙ after (first bs k) (transactionAt bs (4 * k)) (transactionsFrom bs (n - (k + 1)) (4 * k + 4)) k (length-from bs k 0)
+    ∙ after (first bs k) (laterAt bs (8 * k)) (laterFrom bs (n - (k + 1)) (8 * k + 8)) k (length-from bs k 0)
   where
     after : (p : List Transaction) (x : Transaction) (q : List Transaction) (k : ℕ) → length p ≡ k → getElem? (p ++ x ∷ q) k ≡ some x
     after [] x q k e = rw (← e)
@@ -147,7 +147,7 @@ module _ (τ : Table) (bs : List ℕ) (n : ℕ) (rs : List Command) (f₀ f g : 
 
       within : (k : ℕ) → k < n → getD g k 0 ≡ getD (over (finishesFrom τ (first bs n) 0 rs) f₀) k 0
       within k z =
-          let x = transactionAt bs (4 * k) in
+          let x = laterAt bs (8 * k) in
           o .each k z
           ∙ (ap (finishOf τ x) (marked-at k z)
           ∙ (sym (finish-at τ (first bs n) 0 rs k x (kth bs n k z) .0
@@ -218,7 +218,7 @@ module _ (τ : Table) (bs : List ℕ) (n : ℕ) (h : Listed τ bs n) (b₀ f₀ 
       marked : Marked rs f₀ f
       marked = subst (λ (cs : List Command). Marked cs f₀ f) read m
 
-      pub finish-asked : (4 * n ≤ length bs) × (n ≤ length f) × ((k : ℕ) → k < n → getD f k 0 < 100000000)
+      pub finish-asked : (8 * n ≤ length bs) × (n ≤ length f) × ((k : ℕ) → k < n → getD f k 0 < 100000000)
       finish-asked = (
         h .bytes,
         omega (arith, m .size, places),

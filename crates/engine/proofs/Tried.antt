@@ -18,7 +18,7 @@ use Rattle.rules.specs.State.{bankOf, groupAt, actsFar, dataFar, rule7, rule11,
 use Rattle.rules.proofs.TestLaws.{true-false}
 use Rattle.heads.specs.declared.head.Head.{Head}
 use Rattle.timing.proofs.Grouped.{Rest, act-rest, data-rest}
-use Rattle.engine.specs.Choose.{commandOf, dataFree, actFree}
+use Rattle.engine.specs.Choose.{commandOf, seenAt, dataFree, actFree}
 
 -- what code found of the groups, y: it asked them all where the own group lets the command go, x, and the table has more than one
 abbrev pub Asked : ℕ → Bool → Bool → Bool → Type 0
@@ -77,29 +77,29 @@ module _ (τ : Table) (s : State) (t : ℕ) where
 
   -- a head that is tried by its own group g, and then by all groups, is tried by every rule
   module _ (h : Head) (g : ℕ) (e : g ≡ groupOf τ (h .bank)) (l : g < τ .groups) (x y : Bool) where
-    pub data-all : (acts : ℕ) → (h .there ≡ true → isData (h .kind) ≡ true)
-        → x ≡ (h .there && (ltb (h .act) acts && dataFree τ (bankOf s (h .bank)) (groupAt s g) (commandOf h t)))
+    pub data-all : (acts : ℕ) → (seenAt t h ≡ true → isData (h .kind) ≡ true)
+        → x ≡ (seenAt t h && (ltb (h .act) acts && dataFree τ (bankOf s (h .bank)) (groupAt s g) (commandOf h t)))
         → Asked (τ .groups) x y (dataFar τ (s .groups) g (isWr (h .kind)) t)
-        → (x && y) ≡ (h .there && (ltb (h .act) acts && breaksNone τ s (commandOf h t)))
+        → (x && y) ≡ (seenAt t h && (ltb (h .act) acts && breaksNone τ s (commandOf h t)))
     data-all acts k p r =
-        asked-all (τ .groups) x y (dataFar τ (s .groups) g (isWr (h .kind)) t) (h .there && ltb (h .act) acts)
+        asked-all (τ .groups) x y (dataFar τ (s .groups) g (isWr (h .kind)) t) (seenAt t h && ltb (h .act) acts)
         (dataFree τ (bankOf s (h .bank)) (groupAt s g) (commandOf h t)) (full g)
-        (p ∙ sym (apart (h .there) (ltb (h .act) acts) (dataFree τ (bankOf s (h .bank)) (groupAt s g) (commandOf h t))))
+        (p ∙ sym (apart (seenAt t h) (ltb (h .act) acts) (dataFree τ (bankOf s (h .bank)) (groupAt s g) (commandOf h t))))
         (λ v. data-rest τ (s .groups) g t l v (bankOf s (h .bank)) (isWr (h .kind))) r
-        ∙ (apart (h .there) (ltb (h .act) acts) (full g)
-        ∙ there-same (h .there) (ltb (h .act) acts && full g) (ltb (h .act) acts && breaksNone τ s (commandOf h t))
+        ∙ (apart (seenAt t h) (ltb (h .act) acts) (full g)
+        ∙ there-same (seenAt t h) (ltb (h .act) acts && full g) (ltb (h .act) acts && breaksNone τ s (commandOf h t))
         (λ w. ap (λ (b : Bool). ltb (h .act) acts && b) (ap full e ∙ sym (ap allOf (data-rules (h .kind) (h .bank) (k w))))))
       where
         full : ℕ → Bool
         full i = allOf (dataTestsOf τ (bankOf s (h .bank)) (dataFar τ (s .groups) i (isWr (h .kind)) t) t)
 
-    pub act-all : (h .there ≡ true → inActQueue (h .kind) ≡ true) → isRef (h .kind) ≡ false
-        → x ≡ (h .there && actFree τ (bankOf s (h .bank)) (groupAt s g) (s .a4) (s .refresh) (commandOf h t)) → Asked (τ .groups) x y (actsFar τ (s .groups) g t)
-        → (x && y) ≡ (h .there && breaksNone τ s (commandOf h t))
+    pub act-all : (seenAt t h ≡ true → inActQueue (h .kind) ≡ true) → isRef (h .kind) ≡ false
+        → x ≡ (seenAt t h && actFree τ (bankOf s (h .bank)) (groupAt s g) (s .a4) (s .refresh) (commandOf h t)) → Asked (τ .groups) x y (actsFar τ (s .groups) g t)
+        → (x && y) ≡ (seenAt t h && breaksNone τ s (commandOf h t))
     act-all k f p r =
-        asked-all (τ .groups) x y (actsFar τ (s .groups) g t) (h .there) (actFree τ (bankOf s (h .bank)) (groupAt s g) (s .a4) (s .refresh) (commandOf h t)) (full g) p
+        asked-all (τ .groups) x y (actsFar τ (s .groups) g t) (seenAt t h) (actFree τ (bankOf s (h .bank)) (groupAt s g) (s .a4) (s .refresh) (commandOf h t)) (full g) p
         (λ v. act-rest τ (s .groups) g t l v (bankOf s (h .bank)) (rule7 τ s t) (rule12 τ s t)) r
-        ∙ there-same (h .there) (full g) (breaksNone τ s (commandOf h t)) (λ w. ap full e ∙ sym (ap allOf (act-rules (h .kind) (h .bank) (k w) f)))
+        ∙ there-same (seenAt t h) (full g) (breaksNone τ s (commandOf h t)) (λ w. ap full e ∙ sym (ap allOf (act-rules (h .kind) (h .bank) (k w) f)))
       where
         full : ℕ → Bool
         full i = allOf (actTestsOf τ (bankOf s (h .bank)) (actsFar τ (s .groups) i t) (rule7 τ s t) (rule12 τ s t) t)

@@ -7,7 +7,7 @@ use Rattle.records.specs.Told.{over}
 use Rattle.records.specs.declared.table.Table.{Table}
 use Rattle.records.specs.declared.transaction.Transaction.{Transaction}
 use Rattle.records.specs.declared.command.Command.{Command}
-use Rattle.records.specs.Transaction.{transactionAt}
+use Rattle.records.specs.Transaction.{laterAt}
 use Rattle.records.specs.Command.{bytesOfAll}
 use Rattle.rules.specs.declared.state.Stamp.{Stamp}
 use Rattle.rules.specs.declared.state.Stamp.the-variants.{Never, At}
@@ -35,7 +35,7 @@ pub record Marked (cs : List Command) (f₀ f : List ℕ) : Type 0 where
 -- the cycles f of last commands became g: finishing cycles, for the first n transactions of the bytes s, and all beyond as it stood
 pub record Finished (τ : Table) (s : List ℕ) (n : ℕ) (f g : List ℕ) : Type 0 where
   pub size : length g ≡ length f
-  pub each : (k : ℕ) → k < n → getD g k 0 ≡ finishOf τ (transactionAt s (4 * k)) (getD f k 0)
+  pub each : (k : ℕ) → k < n → getD g k 0 ≡ finishOf τ (laterAt s (8 * k)) (getD f k 0)
   pub beyond : (k : ℕ) → n ≤ k → getD g k 0 ≡ getD f k 0
 
 -- r is the answer, b and f what the two buffers hold after they were b₀ and f₀: the built schedule from the start of the one, its finishing

@@ -1,6 +1,7 @@
 -- What is tried of a head, by the bank, the bank's group and the stamps that the rules read. The other groups are asked after it.
 use Prim.Native.Nat.{ℕ}
-use mathlib.Core.Bool.{Bool, true}
+use mathlib.Core.Bool.{Bool, true, _&&_}
+use lib.Dec.{leb}
 use Rattle.records.specs.Tests.{allOf}
 use Rattle.records.specs.declared.table.Table.{Table}
 use Rattle.records.specs.declared.command.Command.{Command}
@@ -16,6 +17,10 @@ use Rattle.heads.specs.declared.head.Head.{Head}
 -- the command of a head, at cycle t
 abbrev pub commandOf : Head → ℕ → Command
 commandOf h t = command t (h .kind) (h .bank) (h .number)
+
+-- a head that is seen at cycle t: "Neither queue sees a transaction before its arrival" (document 02, request 9)
+abbrev pub seenAt : ℕ → Head → Bool
+seenAt t h = h .there && leb (h .arrival) t
 
 -- a data command to bank k of the group g breaks no rule, by that group's latest RD and WR
 abbrev pub dataFree : Table → Bank → Group → Command → Bool

@@ -6,7 +6,7 @@ use lib.ListN.{length}
 use Rattle.records.specs.Told.{over}
 use Rattle.records.specs.declared.table.Table.{Table}
 use Rattle.records.specs.declared.transaction.Transaction.{Transaction}
-use Rattle.records.specs.Transaction.{transactionsFrom}
+use Rattle.records.specs.Transaction.{laterFrom}
 use Rattle.records.specs.Command.{bytesOfAll}
 use Rattle.rules.specs.declared.state.State.{State}
 use Rattle.rules.specs.Pattern.{onto}
@@ -23,9 +23,9 @@ commandsLeft τ l s = (length (actQueue τ l) - s .acts) + (length (dataQueue τ
 -- a list that fits its table, a state whose counts are not past the queues' ends, and room
 pub record Ready (τ : Table) (bs : List ℕ) (n : ℕ) (s : State) (count room : ℕ) : Type 0 where
   pub list : Listed τ bs n
-  pub acts : s .acts ≤ length (actQueue τ (transactionsFrom bs n 0))
-  pub datas : s .datas ≤ length (dataQueue τ (transactionsFrom bs n 0))
-  pub fits : 8 * min count (commandsLeft τ (transactionsFrom bs n 0) s) ≤ room
+  pub acts : s .acts ≤ length (actQueue τ (laterFrom bs n 0))
+  pub datas : s .datas ≤ length (dataQueue τ (laterFrom bs n 0))
+  pub fits : 8 * min count (commandsLeft τ (laterFrom bs n 0) s) ≤ room
 
 -- r is the answer, and b what the buffer holds after it was b₀: the commands, oldest first, and all beyond as it stood
 pub record Runs (o : Ran) (b₀ b : List ℕ) (r : Answer.Ran) : Type 0 where

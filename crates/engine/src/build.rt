@@ -8,7 +8,7 @@ use timing::kept::kept_fresh;
 ghost use mathlib.Core.Path.{_≡_};
 ghost use Prim.Native.Nat.{_+_, _*_, _≤_};
 ghost use lib.ListN.{length};
-ghost use Rattle.records.specs.Transaction.{transactionsFrom};
+ghost use Rattle.records.specs.Transaction.{laterFrom};
 ghost use Rattle.rules.specs.Queues.{actQueue, dataQueue};
 ghost use Rattle.heads.specs.Queue.{Listed};
 ghost use Rattle.engine.specs.Build.{Builds};
@@ -27,8 +27,8 @@ pub fn enough() -> u32
 }
 
 pub fn build(t: Table, list: &[u8], n: usize, buffer: &mut [u8], finishes: &mut [u32]) -> Schedule
-    requires { ⌜ Listed t (now list) n × (8 * (length (actQueue t (transactionsFrom (now list) n 0)) + length (dataQueue t (transactionsFrom (now list) n 0))) ≤ length (now buffer)) × (n ≤ length (now finishes)) ⌝ }
-    ensures { λ r. ⌜ Builds t (transactionsFrom (now (list .entry)) n 0) (now (buffer .entry)) (now (buffer .exit)) (now (finishes .entry)) (now (finishes .exit)) r ⌝ }
+    requires { ⌜ Listed t (now list) n × (8 * (length (actQueue t (laterFrom (now list) n 0)) + length (dataQueue t (laterFrom (now list) n 0))) ≤ length (now buffer)) × (n ≤ length (now finishes)) ⌝ }
+    ensures { λ r. ⌜ Builds t (laterFrom (now (list .entry)) n 0) (now (buffer .entry)) (now (buffer .exit)) (now (finishes .entry)) (now (finishes .exit)) r ⌝ }
 {
     let all = due(t, list, n);
     let start = kept_fresh(t.edition);

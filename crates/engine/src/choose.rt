@@ -14,11 +14,11 @@ use timing::square::wide;
 ghost use mathlib.Core.Path.{_≡_};
 ghost use mathlib.Core.Bool.{true, _&&_};
 ghost use Prim.Native.Nat.{_<_};
-ghost use lib.Dec.{ltb};
+ghost use lib.Dec.{ltb, leb};
 ghost use Rattle.rules.specs.Square.{square};
 ghost use Rattle.rules.specs.State.{past};
 ghost use Rattle.timing.specs.Kept.{stampOf, toldBank, toldGroup};
-ghost use Rattle.engine.specs.Choose.{commandOf, dataFree, actFree};
+ghost use Rattle.engine.specs.Choose.{commandOf, seenAt, dataFree, actFree};
 
 // The command of a head, at cycle c.
 pub fn command_of(h: Head, c: u64) -> Command
@@ -34,7 +34,14 @@ pub fn command_of(h: Head, c: u64) -> Command
     }
 }
 
-// The data queue's head has had its ACT and breaks no rule at cycle c by its own group.
+// A head that stands there and arrived at cycle c or before: "Neither queue sees a transaction before its arrival" (document 02, request 9).
+pub fn seen_at(there: bool, arrival: u32, c: u64) -> bool
+    ensures { λ r. ⌜ r ≡ (there && leb arrival c) ⌝ }
+{
+    both_of(there, arrival as u64 <= c)
+}
+
+// The data queue's head is seen, has had its ACT and breaks no rule at cycle c by its own group.
 pub fn data_goes(
     t: Table,
     near: [[u32; 2]; 2],
@@ -45,9 +52,9 @@ pub fn data_goes(
     c: u64,
 ) -> bool
     requires { ⌜ near ≡ square t true ⌝ }
-    ensures { λ r. ⌜ r ≡ (d .there && (ltb (d .act) acts && dataFree t (toldBank k) (toldGroup own) (commandOf d c))) ⌝ }
+    ensures { λ r. ⌜ r ≡ (seenAt c d && (ltb (d .act) acts && dataFree t (toldBank k) (toldGroup own) (commandOf d c))) ⌝ }
 {
-    if d.there {
+    if seen_at(d.there, d.arrival, c) {
         if d.act < acts {
             let kind = d.kind;
             return kept_data_free(t, near, k, own.rd, own.wr, is_wr(kind), c);
@@ -57,7 +64,7 @@ pub fn data_goes(
     false
 }
 
-// The ACT queue's head, an ACT, breaks no rule at cycle c by its own group.
+// The ACT queue's head, an ACT, is seen and breaks no rule at cycle c by its own group.
 pub fn act_goes(
     t: Table,
     a: Head,
@@ -67,17 +74,18 @@ pub fn act_goes(
     refresh: u64,
     c: u64,
 ) -> bool
-    ensures { λ r. ⌜ r ≡ (a .there && actFree t (toldBank k) (toldGroup own) (stampOf a4) (stampOf refresh) (commandOf a c)) ⌝ }
+    ensures { λ r. ⌜ r ≡ (seenAt c a && actFree t (toldBank k) (toldGroup own) (stampOf a4) (stampOf refresh) (commandOf a c)) ⌝ }
 {
-    if a.there {
+    if seen_at(a.there, a.arrival, c) {
         return kept_act_free(t, k, own.act, a4, refresh, c);
     }
     false
 }
 
-// The ACT queue's head, a REF, keeps rule 12 at cycle c. Rule 11 is asked of it after that alone, since it goes over all banks.
+// The ACT queue's head, a REF, is seen and keeps rule 12 at cycle c. Rule 11 is asked of it after that alone, since it goes over all banks.
 pub fn ref_waited(t: Table, a: Head, refresh: u64, c: u64) -> bool
-    ensures { λ r. ⌜ r ≡ (a .there && past (stampOf refresh) (t .rfc) c) ⌝ }
+    ensures { λ r. ⌜ r ≡ (seenAt c a && past (stampOf refresh) (t .rfc) c) ⌝ }
 {
-    both_of(a.there, since(refresh, wide(t.rfc), c))
+    let sees = seen_at(a.there, a.arrival, c);
+    both_of(sees, since(refresh, wide(t.rfc), c))
 }

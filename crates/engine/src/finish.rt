@@ -1,7 +1,7 @@
 // The finishing cycles: a pass over the commands for each transaction's last command, and one over the transactions for where it finishes.
 use commands::command::command_at;
+use records::later::later_at;
 use records::table::Table;
-use records::transaction::transaction_at;
 use timing::kinds::can_end;
 ghost use mathlib.Core.Path.{_≡_};
 ghost use mathlib.Core.Bool.{true};
@@ -46,12 +46,12 @@ pub fn finish_of(refresh: bool, write: bool, c: u32, rl: u16, b: u16, rfc: u16) 
 
 // For each of the first n transactions the cycle of its last command becomes its finishing cycle.
 pub fn finish_all(t: Table, list: &[u8], n: usize, finishes: &mut [u32])
-    requires { ⌜ (4 * n ≤ length (now list)) × (n ≤ length (now finishes)) × ((k : ℕ) → k < n → getD (now finishes) k 0 < 100000000) ⌝ }
+    requires { ⌜ (8 * n ≤ length (now list)) × (n ≤ length (now finishes)) × ((k : ℕ) → k < n → getD (now finishes) k 0 < 100000000) ⌝ }
     ensures { λ r. ⌜ Finished t (now (list .entry)) n (now (finishes .entry)) (now (finishes .exit)) ⌝ }
 {
     let mut k: usize = 0;
     while k < n {
-        let x = transaction_at(list, 4 * k);
+        let x = later_at(list, 8 * k);
         let refresh = x.kind == 2;
         let write = x.kind == 1;
         let c = finishes[k];

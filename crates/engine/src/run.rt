@@ -28,7 +28,7 @@ ghost use mathlib.Core.Bool.{_&&_, _||_};
 ghost use mathlib.Core.List.{[]};
 ghost use lib.Dec.{leb};
 ghost use lib.ListN.{length};
-ghost use Rattle.records.specs.Transaction.{transactionsFrom};
+ghost use Rattle.records.specs.Transaction.{laterFrom};
 ghost use Rattle.rules.specs.Run.{run as runOf};
 ghost use Rattle.heads.specs.Queue.{Counted};
 ghost use Rattle.timing.specs.Kept.{told};
@@ -67,7 +67,7 @@ pub fn run(
     buffer: &mut [u8],
 ) -> Ran
     requires { ⌜ Ready t (now list) n (told start) count (length (now buffer)) × Counted t (now list) n all ⌝ }
-    ensures { λ r. ⌜ Runs (runOf count t (transactionsFrom (now (list .entry)) n 0) (told start) []) (now (buffer .entry)) (now (buffer .exit)) r ⌝ }
+    ensures { λ r. ⌜ Runs (runOf count t (laterFrom (now (list .entry)) n 0) (told start) []) (now (buffer .entry)) (now (buffer .exit)) r ⌝ }
 {
     let near = distances(t, true);
     let away = distances(t, false);

@@ -8,13 +8,12 @@ use mathlib.Core.Logic.{inl, inr}
 use mathlib.Core.Bool.{Bool, true, false}
 use mathlib.Core.Option.{none, some, Option·map}
 use mathlib.Core.List.{List, [], _∷_, _++_}
-use lib.Dec.{leb}
 use lib.ListN.{length}
-use borrow.Author.Tests.{leb-true}
 use Rattle.records.specs.Tests.{pick, every}
 use Rattle.records.specs.declared.table.Table.{Table}
 use Rattle.records.specs.declared.transaction.Transaction.{Transaction}
-use Rattle.records.specs.Transaction.{transactionAt, transactionsFrom, fits}
+use Rattle.records.specs.Transaction.{laterAt, laterFrom, fits}
+use Rattle.records.proofs.Arrivals.{few-listed, each-listed}
 use Rattle.rules.specs.Queues.{Due, actCount, actQueue, dataQueue, headAfter}
 use Rattle.rules.proofs.Ranges.{ranges}
 use Rattle.rules.proofs.TestLaws.{and-fst, and-snd}
@@ -24,44 +23,44 @@ use Rattle.heads.specs.Queue.{Listed, queueOf, Placed, Found}
 
 -- the first k transactions
 abbrev pub first : List ℕ → ℕ → List Transaction
-first bs k = transactionsFrom bs k 0
+first bs k = laterFrom bs k 0
 
-from-split : (s : List ℕ) (a b at : ℕ) → transactionsFrom s (a + b) at ≡ transactionsFrom s a at ++ transactionsFrom s b (at + 4 * a)
-unfolding transactionsFrom
-from-split s zero b at = let e : 0 + b ≡ b = omega arith in let f : at + 4 * 0 ≡ at = omega arith in rw (e, f)
+from-split : (s : List ℕ) (a b at : ℕ) → laterFrom s (a + b) at ≡ laterFrom s a at ++ laterFrom s b (at + 8 * a)
+unfolding laterFrom
+from-split s zero b at = let e : 0 + b ≡ b = omega arith in let f : at + 8 * 0 ≡ at = omega arith in rw (e, f)
 from-split s (suc a) b at =
     let e : suc a + b ≡ suc (a + b) = omega arith in
-    let f : at + 4 + 4 * a ≡ at + 4 * suc a = omega arith in
-    rw (e, ← f) (ap (λ (l : List Transaction). transactionAt s at ∷ l) (from-split s a b (at + 4)))
+    let f : at + 8 + 8 * a ≡ at + 8 * suc a = omega arith in
+    rw (e, ← f) (ap (λ (l : List Transaction). laterAt s at ∷ l) (from-split s a b (at + 8)))
 
-pub length-from : (s : List ℕ) (n at : ℕ) → length (transactionsFrom s n at) ≡ n
-unfolding transactionsFrom
+pub length-from : (s : List ℕ) (n at : ℕ) → length (laterFrom s n at) ≡ n
+unfolding laterFrom
 length-from s zero at = refl
-length-from s (suc n) at = ap suc (length-from s n (at + 4))
+length-from s (suc n) at = ap suc (length-from s n (at + 8))
 
-one-from : (s : List ℕ) (n m at : ℕ) → n ≡ suc m → transactionsFrom s n at ≡ transactionAt s at ∷ transactionsFrom s m (at + 4)
-unfolding transactionsFrom
+one-from : (s : List ℕ) (n m at : ℕ) → n ≡ suc m → laterFrom s n at ≡ laterAt s at ∷ laterFrom s m (at + 8)
+unfolding laterFrom
 one-from s n m at e = rw e
 
-none-from : (s : List ℕ) (at : ℕ) → transactionsFrom s 0 at ≡ []
-unfolding transactionsFrom
+none-from : (s : List ℕ) (at : ℕ) → laterFrom s 0 at ≡ []
+unfolding laterFrom
 none-from s at = refl
 
 -- the list, where it has a transaction k
-pub whole : (s : List ℕ) (n k : ℕ) → k < n → first s n ≡ first s k ++ transactionAt s (4 * k) ∷ transactionsFrom s (n - (k + 1)) (4 * k + 4)
+pub whole : (s : List ℕ) (n k : ℕ) → k < n → first s n ≡ first s k ++ laterAt s (8 * k) ∷ laterFrom s (n - (k + 1)) (8 * k + 8)
 whole s n k h =
     let e : n ≡ k + (n - k) = omega arith in
-    let f : 0 + 4 * k ≡ 4 * k = omega arith in
-    ap (first s) e ∙ (from-split s k (n - k) 0 ∙ ap (λ (l : List Transaction). first s k ++ l) (ap (transactionsFrom s (n - k)) f ∙ one-from s (n - k) (n - (k + 1)) (4 * k) (omega arith)))
+    let f : 0 + 8 * k ≡ 8 * k = omega arith in
+    ap (first s) e ∙ (from-split s k (n - k) 0 ∙ ap (λ (l : List Transaction). first s k ++ l) (ap (laterFrom s (n - k)) f ∙ one-from s (n - k) (n - (k + 1)) (8 * k) (omega arith)))
 
-pub one-more : (s : List ℕ) (k : ℕ) → first s (k + 1) ≡ first s k ++ (transactionAt s (4 * k) ∷ [])
+pub one-more : (s : List ℕ) (k : ℕ) → first s (k + 1) ≡ first s k ++ (laterAt s (8 * k) ∷ [])
 one-more s k =
     whole s (k + 1) k (omega arith)
-    ∙ ap (λ (l : List Transaction). first s k ++ transactionAt s (4 * k) ∷ l) (ap (λ (m : ℕ). transactionsFrom s m (4 * k + 4)) (omega arith) ∙ none-from s (4 * k + 4))
+    ∙ ap (λ (l : List Transaction). first s k ++ laterAt s (8 * k) ∷ l) (ap (λ (m : ℕ). laterFrom s m (8 * k + 8)) (omega arith) ∙ none-from s (8 * k + 8))
 
-pub sum-more : (f : Transaction → ℕ) (s : List ℕ) (k : ℕ) → sum f (first s (k + 1)) ≡ sum f (first s k) + f (transactionAt s (4 * k))
+pub sum-more : (f : Transaction → ℕ) (s : List ℕ) (k : ℕ) → sum f (first s (k + 1)) ≡ sum f (first s k) + f (laterAt s (8 * k))
 sum-more f s k =
-    ap (sum f) (one-more s k) ∙ (sum-append f (first s k) (transactionAt s (4 * k) ∷ []) ∙ omega arith)
+    ap (sum f) (one-more s k) ∙ (sum-append f (first s k) (laterAt s (8 * k) ∷ []) ∙ omega arith)
 
 pub sum-none : (f : Transaction → ℕ) (s : List ℕ) → sum f (first s 0) ≡ 0
 sum-none f s = ap (sum f) (none-from s 0)
@@ -94,26 +93,26 @@ datas-most τ (x ∷ l) v = omega (arith, size-most τ x (v .0), datas-most τ l
 
 module _ {τ : Table} {bs : List ℕ} {n : ℕ} (h : Listed τ bs n) where
   each : every (fits τ) (first bs n) ≡ true
-  each = and-snd (leb (length (first bs n)) 256) (every (fits τ) (first bs n)) (h .fit)
+  each = each-listed τ (first bs n) (h .fit)
 
   pub few : n ≤ 256
-  few = omega (arith, leb-true (length (first bs n)) 256 (and-fst (leb (length (first bs n)) 256) (every (fits τ) (first bs n)) (h .fit)), length-from bs n 0)
+  few = omega (arith, few-listed τ (first bs n) (h .fit), length-from bs n 0)
 
-  pub fits-at : (k : ℕ) → k < n → fits τ (transactionAt bs (4 * k)) ≡ true
+  pub fits-at : (k : ℕ) → k < n → fits τ (laterAt bs (8 * k)) ≡ true
   fits-at k p =
-      let r = transactionAt bs (4 * k) ∷ transactionsFrom bs (n - (k + 1)) (4 * k + 4) in
-      and-fst (fits τ (transactionAt bs (4 * k))) _ (every-back (fits τ) (first bs k) r (rw (whole bs n k p) at each))
+      let r = laterAt bs (8 * k) ∷ laterFrom bs (n - (k + 1)) (8 * k + 8) in
+      and-fst (fits τ (laterAt bs (8 * k))) _ (every-back (fits τ) (first bs k) r (rw (whole bs n k p) at each))
 
   one : 1 ≤ τ .banks
   one = ranges τ (h .table) .banks .least
 
-  pub fit-at : (k : ℕ) → k < n → Fits τ (transactionAt bs (4 * k))
-  fit-at k p = is-fit τ one (transactionAt bs (4 * k)) (fits-at k p)
+  pub fit-at : (k : ℕ) → k < n → Fits τ (laterAt bs (8 * k))
+  fit-at k p = is-fit τ one (laterAt bs (8 * k)) (fits-at k p)
 
   pub first-fits : (k : ℕ) → k ≤ n → AllFit τ (first bs k)
   first-fits k p =
       let e : n ≡ k + (n - k) = omega arith in
-      all-fit τ one (first bs k) (every-front (fits τ) (first bs k) (transactionsFrom bs (n - k) (0 + 4 * k)) (rw (ap (first bs) e ∙ from-split bs k (n - k) 0) at each))
+      all-fit τ one (first bs k) (every-front (fits τ) (first bs k) (laterFrom bs (n - k) (0 + 8 * k)) (rw (ap (first bs) e ∙ from-split bs k (n - k) 0) at each))
 
   pub acts-few : (k : ℕ) → k ≤ n → sum actCount (first bs k) ≤ 16 * k
   acts-few k p = omega (arith, acts-most τ (first bs k) (first-fits k p), length-from bs k 0)
@@ -151,19 +150,19 @@ head-in true τ l n = data-head τ l n
 head-in false τ l n = act-head τ l n
 
 -- what stands in a queue m commands after the first of transaction k
-pub head-here : (b : Bool) (τ : Table) (bs : List ℕ) (n k m : ℕ) → k < n → m < countIn b (transactionAt bs (4 * k))
+pub head-here : (b : Bool) (τ : Table) (bs : List ℕ) (n k m : ℕ) → k < n → m < countIn b (laterAt bs (8 * k))
     → headAfter (queueOf b τ (first bs n)) (length (queueOf b τ (first bs k)) + m)
-    ≡ some (dueIn b τ (placeOf (transactionAt bs (4 * k)) k (length (actQueue τ (first bs k))) m))
+    ≡ some (dueIn b τ (placeOf (laterAt bs (8 * k)) k (length (actQueue τ (first bs k))) m))
 head-here b τ bs n k m h p =
     head-in b τ (first bs n) (length (queueOf b τ (first bs k)) + m) ∙ ap (Option·map (dueIn b τ)) there
   where
     x : Transaction
-    x = transactionAt bs (4 * k)
+    x = laterAt bs (8 * k)
 
     there : find (countIn b) (first bs n) 0 0 (length (queueOf b τ (first bs k)) + m) ≡ some (placeOf x k (length (actQueue τ (first bs k))) m)
     there =
         rw (queue-sum b τ (first bs k), whole bs n k h, act-length τ (first bs k))
-        (at-own (countIn b) x (transactionsFrom bs (n - (k + 1)) (4 * k + 4)) (first bs k) m p
+        (at-own (countIn b) x (laterFrom bs (n - (k + 1)) (8 * k + 8)) (first bs k) m p
         ∙ ap (λ (i : ℕ). some (placeOf x i (actSum (first bs k)) m)) (length-from bs k 0))
 
 pub head-past : (b : Bool) (τ : Table) (l : List Transaction) (m : ℕ) → headAfter (queueOf b τ l) (length (queueOf b τ l) + m) ≡ none
@@ -180,7 +179,7 @@ pub record Sought (bs : List ℕ) (n : ℕ) (b : Bool) (k₀ off₀ a₀ k off a
   pub before : a + sum actCount (first bs k₀) ≡ a₀ + sum actCount (first bs k)
 
 module _ {bs : List ℕ} {n : ℕ} {b : Bool} {k₀ off₀ a₀ k off a : ℕ} (h : Sought bs n b k₀ off₀ a₀ k off a) where
-  pub sought-on : k < n → (x : Transaction) → x ≡ transactionAt bs (4 * k) → (m w : ℕ) → m ≡ pick b (x .bi * x .bc) (actCount x) → w ≡ actCount x → m ≤ off
+  pub sought-on : k < n → (x : Transaction) → x ≡ laterAt bs (8 * k) → (m w : ℕ) → m ≡ pick b (x .bi * x .bc) (actCount x) → w ≡ actCount x → m ≤ off
       → Sought bs n b k₀ off₀ a₀ (k + 1) (off - m) (a + w)
   sought-on p x e m w f g q =
       record {
@@ -193,7 +192,7 @@ module _ {bs : List ℕ} {n : ℕ} {b : Bool} {k₀ off₀ a₀ k off a : ℕ} (
     pub before-is : a ≡ sum actCount (first bs k)
     before-is = omega (arith, h .before, placed .before, act-length τ (first bs k₀))
 
-    pub sought : (k < n → off < pick b (transactionAt bs (4 * k) .bi * transactionAt bs (4 * k) .bc) (actCount (transactionAt bs (4 * k))))
+    pub sought : (k < n → off < pick b (laterAt bs (8 * k) .bi * laterAt bs (8 * k) .bc) (actCount (laterAt bs (8 * k))))
         → Found τ bs n b (length (queueOf b τ (first bs k₀)) + off₀) (record { number = k; offset = off; before = a })
     sought i =
         record {
@@ -203,6 +202,6 @@ module _ {bs : List ℕ} {n : ℕ} {b : Bool} {k₀ off₀ a₀ k off a : ℕ} (
         }
 
 -- a count of what the first transactions put into a queue, with transaction k
-pub count-on : (b : Bool) (bs : List ℕ) (k : ℕ) (x : Transaction) → x ≡ transactionAt bs (4 * k) → (a m : ℕ) → a ≡ sum (countIn b) (first bs k)
+pub count-on : (b : Bool) (bs : List ℕ) (k : ℕ) (x : Transaction) → x ≡ laterAt bs (8 * k) → (a m : ℕ) → a ≡ sum (countIn b) (first bs k)
     → m ≡ pick b (x .bi * x .bc) (actCount x) → a + m ≡ sum (countIn b) (first bs (k + 1))
 count-on b bs k x e a m p q = omega (arith, p, q, size-is b x, ap (countIn b) e, sum-more (countIn b) bs k)

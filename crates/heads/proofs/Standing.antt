@@ -14,7 +14,7 @@ use Rattle.records.specs.Tests.{pick}
 use Rattle.records.specs.declared.table.Table.{Table}
 use Rattle.records.specs.declared.transaction.Transaction.{Transaction}
 use Rattle.records.specs.Table.{Accepted}
-use Rattle.records.specs.Transaction.{transactionAt, fits}
+use Rattle.records.specs.Transaction.{laterAt, fits}
 use Rattle.rules.specs.Queues.{bankAt, actCount, actQueue, headAfter}
 use Rattle.rules.proofs.Numbers.{round}
 use Rattle.rules.proofs.Ranges.{ranges}
@@ -47,7 +47,7 @@ due-bank false τ p k = act-bank τ p k
 
 module _ {τ : Table} {bs : List ℕ} {n : ℕ} (h : Listed τ bs n) {b : Bool} {p : Place} (f : Found τ bs n b (leftAt τ bs b p) p) where
   -- what the functions that make a head ask for
-  pub asked : (x : Transaction) → x ≡ transactionAt bs (4 * p .number) → p .number < n → (b' : Bool) → b ≡ b'
+  pub asked : (x : Transaction) → x ≡ laterAt bs (8 * p .number) → p .number < n → (b' : Bool) → b ≡ b'
       → Accepted τ × (fits τ x ≡ true) × (p .offset < pick b' (x .bi * x .bc) (actCount x)) × (p .number < 256) × (p .before ≤ 16 * p .number)
   asked x e k b' d = (
     h .table,
@@ -58,17 +58,17 @@ module _ {τ : Table} {bs : List ℕ} {n : ℕ} (h : Listed τ bs n) {b : Bool} 
   )
 
   -- and what they make
-  pub stands-here : (x : Transaction) → x ≡ transactionAt bs (4 * p .number) → p .number < n → (r : Head) → r ≡ headOf (dueIn b τ (placeOf x (p .number) (p .before) (p .offset)))
+  pub stands-here : (x : Transaction) → x ≡ laterAt bs (8 * p .number) → p .number < n → (r : Head) → r ≡ headOf (dueIn b τ (placeOf x (p .number) (p .before) (p .offset)))
       → (dueOf r ≡ headAfter (queueOf b τ (first bs n)) (leftAt τ bs b p)) × (r .bank < 16)
   stands-here x e k r q = (
     ap dueOf q ∙ sym (head-here b τ bs n (p .number) (p .offset) k inside ∙ same),
     omega (arith, ap (λ (y : Head). y .bank) q, due-bank b τ (placeOf x (p .number) (p .before) (p .offset)) (record { fit = rw e (fit-at h (p .number) k); inside = rw e inside }), ranges τ (h .table) .banks .most),
   )
     where
-      inside : p .offset < countIn b (transactionAt bs (4 * p .number))
-      inside = subst (λ (m : ℕ). p .offset < m) (size-is b (transactionAt bs (4 * p .number))) (f .inside k)
+      inside : p .offset < countIn b (laterAt bs (8 * p .number))
+      inside = subst (λ (m : ℕ). p .offset < m) (size-is b (laterAt bs (8 * p .number))) (f .inside k)
 
-      same : some (dueIn b τ (placeOf (transactionAt bs (4 * p .number)) (p .number) (length (actQueue τ (first bs (p .number)))) (p .offset)))
+      same : some (dueIn b τ (placeOf (laterAt bs (8 * p .number)) (p .number) (length (actQueue τ (first bs (p .number)))) (p .offset)))
           ≡ some (dueIn b τ (placeOf x (p .number) (p .before) (p .offset)))
       same = rw (← f .placed .before, ← e)
 

@@ -7,11 +7,11 @@ use Rattle.rules.specs.Queues.{Due}
 use Rattle.heads.specs.declared.head.Head.{Head}
 
 abbrev pub noHead : Head
-noHead = record { there = false; kind = Act; bank = 0; number = 0; act = 0 }
+noHead = record { there = false; kind = Act; bank = 0; number = 0; act = 0; arrival = 0 }
 
 abbrev pub headOf : Due → Head
-headOf d = record { there = true; kind = d .kind; bank = d .bank; number = d .number; act = d .act }
+headOf d = record { there = true; kind = d .kind; bank = d .bank; number = d .number; act = d .act; arrival = d .arrival }
 
 -- the head of a queue, as the definitions have it
 abbrev pub dueOf : Head → Option Due
-dueOf h = pick (h .there) (some (record { kind = h .kind; bank = h .bank; number = h .number; act = h .act })) none
+dueOf h = pick (h .there) (some (record { kind = h .kind; bank = h .bank; number = h .number; act = h .act; arrival = h .arrival })) none

@@ -8,7 +8,7 @@ use Rattle.records.specs.Tests.{pick}
 use Rattle.records.specs.declared.table.Table.{Table}
 use Rattle.records.specs.declared.transaction.Transaction.{Transaction}
 use Rattle.records.specs.Table.{Accepted}
-use Rattle.records.specs.Transaction.{transactionAt, transactionsFrom, listFits}
+use Rattle.records.specs.Transaction.{laterAt, laterFrom, listFits}
 use Rattle.rules.specs.Queues.{Due, actCount, actQueue, dataQueue, headAfter}
 use Rattle.heads.specs.declared.due.Counts.{Counts}
 use Rattle.heads.specs.declared.queue.Place.{Place}
@@ -16,11 +16,11 @@ use Rattle.heads.specs.declared.queue.Queue.{Queue}
 use Rattle.heads.specs.declared.queue.Queues.{Queues}
 use Rattle.heads.specs.Head.{dueOf}
 
--- what is asked of the bytes of a list of n transactions: that they are there and fit the table
+-- what is asked of the bytes of a list of n transactions, of 8 bytes each: that they are there and fit the table
 pub record Listed (τ : Table) (bs : List ℕ) (n : ℕ) : Type 0 where
   pub table : Accepted τ
-  pub bytes : 4 * n ≤ length bs
-  pub fit : listFits τ (transactionsFrom bs n 0) ≡ true
+  pub bytes : 8 * n ≤ length bs
+  pub fit : listFits τ (laterFrom bs n 0) ≡ true
 
 -- one of the two queues: the data queue, or the ACT queue
 abbrev pub queueOf : Bool → Table → List Transaction → List Due
@@ -29,28 +29,28 @@ queueOf false τ l = actQueue τ l
 
 -- how many commands the list puts into each
 abbrev pub Counted : Table → List ℕ → ℕ → Counts → Type 0
-Counted τ bs n c = (c .acts ≡ length (actQueue τ (transactionsFrom bs n 0))) × (c .datas ≡ length (dataQueue τ (transactionsFrom bs n 0)))
+Counted τ bs n c = (c .acts ≡ length (actQueue τ (laterFrom bs n 0))) × (c .datas ≡ length (dataQueue τ (laterFrom bs n 0)))
 
 -- how many commands have left a queue that stands at a place
 abbrev pub leftAt : Table → List ℕ → Bool → Place → ℕ
-leftAt τ bs b p = length (queueOf b τ (transactionsFrom bs (p .number) 0)) + p .offset
+leftAt τ bs b p = length (queueOf b τ (laterFrom bs (p .number) 0)) + p .offset
 
 -- a place counts the commands of the ACT queue of the transactions before its own
 pub record Placed (τ : Table) (bs : List ℕ) (n : ℕ) (p : Place) : Type 0 where
   pub within : p .number ≤ n
-  pub before : p .before ≡ length (actQueue τ (transactionsFrom bs (p .number) 0))
+  pub before : p .before ≡ length (actQueue τ (laterFrom bs (p .number) 0))
 
 -- a place inside the transaction that it names, or past the last
 pub record Found (τ : Table) (bs : List ℕ) (n : ℕ) (b : Bool) (count : ℕ) (p : Place) : Type 0 where
   pub placed : Placed τ bs n p
   pub left : leftAt τ bs b p ≡ count
-  pub inside : p .number < n → p .offset < pick b (transactionAt bs (4 * p .number) .bi * transactionAt bs (4 * p .number) .bc) (actCount (transactionAt bs (4 * p .number)))
+  pub inside : p .number < n → p .offset < pick b (laterAt bs (8 * p .number) .bi * laterAt bs (8 * p .number) .bc) (actCount (laterAt bs (8 * p .number)))
 
 -- a queue that `count` commands have left, and its head
 pub record Stands (τ : Table) (bs : List ℕ) (n : ℕ) (b : Bool) (count : ℕ) (q : Queue) : Type 0 where
   pub placed : Placed τ bs n (q .place)
   pub left : leftAt τ bs b (q .place) ≡ count
-  pub head : dueOf (q .head) ≡ headAfter (queueOf b τ (transactionsFrom bs n 0)) count
+  pub head : dueOf (q .head) ≡ headAfter (queueOf b τ (laterFrom bs n 0)) count
   pub bank : q .head .bank < 16
 
 -- both queues

@@ -1,7 +1,7 @@
 // How many commands the list puts into the two queues.
 use crate::queue::size_in;
+use records::later::later_at;
 use records::table::Table;
-use records::transaction::transaction_at;
 ghost use Rattle.heads.specs.Queue.{Listed, Counted};
 
 pub struct Counts {
@@ -17,7 +17,7 @@ pub fn due(t: Table, list: &[u8], n: usize) -> Counts
     let mut acts: u32 = 0;
     let mut datas: u32 = 0;
     while k < n {
-        let x = transaction_at(list, 4 * k);
+        let x = later_at(list, 8 * k);
         acts = acts + size_in(false, x.kind, x.bi, x.bc);
         datas = datas + size_in(true, x.kind, x.bi, x.bc);
         k = k + 1;

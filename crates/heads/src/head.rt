@@ -12,13 +12,14 @@ ghost use Rattle.rules.specs.Queues.{bankAt, actCount};
 ghost use Rattle.rules.proofs.Queue.{placeOf, actDue, dataDue};
 ghost use Rattle.heads.specs.Head.{headOf, noHead};
 
-// The command that stands there, if any does; `act` is the place in the ACT queue of the ACT of its bank.
+// The command that stands there, if any does; `act` is the place in the ACT queue of the ACT of its bank, `arrival` its transaction's.
 pub struct Head {
     pub there: bool,
     pub kind: Kind,
     pub bank: u8,
     pub number: u16,
     pub act: u32,
+    pub arrival: u32,
 }
 
 pub fn no_head() -> Head
@@ -30,6 +31,7 @@ pub fn no_head() -> Head
         bank: 0,
         number: 0,
         act: 0,
+        arrival: 0,
     }
 }
 
@@ -59,6 +61,7 @@ pub fn act_head(t: Table, x: Transaction, i: usize, before: u32, offset: u32) ->
             bank: 0,
             number: i as u16,
             act: before + offset,
+            arrival: x.arrival,
         };
     }
     let bank = bank_at(t, x, offset);
@@ -68,6 +71,7 @@ pub fn act_head(t: Table, x: Transaction, i: usize, before: u32, offset: u32) ->
         bank: bank,
         number: i as u16,
         act: before + offset,
+        arrival: x.arrival,
     }
 }
 
@@ -87,5 +91,6 @@ pub fn data_head(t: Table, x: Transaction, i: usize, before: u32, offset: u32) -
         bank: bank,
         number: i as u16,
         act: before + k,
+        arrival: x.arrival,
     }
 }

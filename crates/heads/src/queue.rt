@@ -4,14 +4,14 @@ use crate::head::Head;
 use crate::head::act_head;
 use crate::head::data_head;
 use crate::head::no_head;
+use records::later::later_at;
 use records::table::Table;
-use records::transaction::transaction_at;
 ghost use mathlib.Core.Path.{_≡_};
 ghost use mathlib.Core.Bool.{true, false};
 ghost use Prim.Native.Nat.{_+_, _*_, _≤_, _<_};
 ghost use lib.Dec.{eqb};
 ghost use Rattle.records.specs.Tests.{pick};
-ghost use Rattle.records.specs.Transaction.{transactionsFrom};
+ghost use Rattle.records.specs.Transaction.{laterFrom};
 ghost use Rattle.rules.specs.Queues.{headAfter};
 ghost use Rattle.heads.specs.Head.{dueOf};
 ghost use Rattle.heads.specs.Queue.{Listed, queueOf, leftAt, Placed, Found, Stands, BothStand};
@@ -61,7 +61,7 @@ pub fn seek(t: Table, list: &[u8], n: usize, datas: bool, from: Place) -> Place
     let mut offset = from.offset;
     let mut before = from.before;
     while k < n {
-        let x = transaction_at(list, 4 * k);
+        let x = later_at(list, 8 * k);
         let size = size_in(datas, x.kind, x.bi, x.bc);
         if offset < size {
             return Place {
@@ -84,13 +84,13 @@ pub fn seek(t: Table, list: &[u8], n: usize, datas: bool, from: Place) -> Place
 // What stands at a place that was found.
 pub fn head_at(t: Table, list: &[u8], n: usize, datas: bool, p: Place) -> Head
     requires { ⌜ Listed t (now list) n × Found t (now list) n datas (leftAt t (now list) datas p) p ⌝ }
-    ensures { λ r. ⌜ (dueOf r ≡ headAfter (queueOf datas t (transactionsFrom (now (list .entry)) n 0)) (leftAt t (now (list .entry)) datas p)) × (r .bank < 16) ⌝ }
+    ensures { λ r. ⌜ (dueOf r ≡ headAfter (queueOf datas t (laterFrom (now (list .entry)) n 0)) (leftAt t (now (list .entry)) datas p)) × (r .bank < 16) ⌝ }
 {
     let i = p.number;
     if n <= i {
         return no_head();
     }
-    let x = transaction_at(list, 4 * i);
+    let x = later_at(list, 8 * i);
     if datas {
         return data_head(t, x, i, p.before, p.offset);
     }

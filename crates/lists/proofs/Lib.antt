@@ -1,5 +1,4 @@
 -- The laws and theorems about lists of transactions.
-pub mod Runs
 pub mod Checks
 pub mod Packing
 pub mod Storing

@@ -1,11 +1,12 @@
--- Decoding a list's bytes into a lent run of records.
-use Prim.Native.Nat.{ℕ, _/_}
+-- Decoding a list's bytes, records of 8 where `later`, else of 4, into a lent run of records.
+use Prim.Native.Nat.{ℕ}
+use mathlib.Core.Bool.{Bool}
 use mathlib.Core.Path.{_≡_}
 use mathlib.Core.List.{List, _++_}
-use lib.ListN.{length, drop}
+use lib.ListN.{length, take, drop}
 use Rattle.records.specs.declared.table.Table.{Table}
 use Rattle.records.specs.declared.transaction.Transaction.{Transaction}
-use Rattle.records.specs.Transaction.{transactionsFrom}
+use Rattle.records.specs.Transaction.{recordCount, listOf}
 use Rattle.lists.specs.declared.check.Checked.{Checked}
 use Rattle.lists.specs.declared.check.Checked.the-variants.{Fine, Refused}
 use Rattle.lists.specs.declared.decode.Decoded.{Decoded}
@@ -13,9 +14,9 @@ use Rattle.lists.specs.declared.decode.Decoded.the-variants.{Done, Refus
 use Rattle.lists.specs.declared.decode.Plan.{Plan}
 use Rattle.lists.specs.Check.{checkInto}
 
--- "Success writes each result from its buffer's start and leaves all beyond as it stood": the first n transactions of s
-abbrev pub stored : List ℕ → ℕ → List Transaction → List Transaction
-stored s n l = transactionsFrom s n 0 ++ drop n l
+-- "Success writes each result from its buffer's start and leaves all beyond as it stood": the first n of xs
+abbrev pub stored : List Transaction → ℕ → List Transaction → List Transaction
+stored xs n l = take n xs ++ drop n l
 
 -- what a decoding leaves: its answer, and the list
 pub record Decoding : Type 0 where
@@ -23,21 +24,25 @@ pub record Decoding : Type 0 where
   pub list : List Transaction
 
 -- by what the check finds; where it refuses, "no buffer or state changes"
-abbrev pub decodedBy : Checked → Table → List ℕ → List Transaction → Decoding
-decodedBy Fine τ s l = record { answer = Done (τ .edition) (length s / 4); list = stored s (length s / 4) l }
-decodedBy (Refused r) τ s l = record { answer = NotDone r; list = l }
+abbrev pub decodedBy : Checked → Bool → Table → List ℕ → List Transaction → Decoding
+decodedBy Fine later τ s l =
+    record {
+      answer = Done (τ .edition) (recordCount later (length s));
+      list = stored (listOf later s) (recordCount later (length s)) l;
+    }
+decodedBy (Refused r) later τ s l = record { answer = NotDone r; list = l }
 
-unfoldable pub decoding : Table → List ℕ → List Transaction → Decoding
-decoding τ s l = decodedBy (checkInto τ s (length l)) τ s l
+unfoldable pub decoding : Bool → Table → List ℕ → List Transaction → Decoding
+decoding later τ s l = decodedBy (checkInto later τ s (length l)) later τ s l
 
 -- the promise of the call: r is its answer, l what the list holds as it returns
 abbrev pub Decodes : Decoding → Decoded → List Transaction → Type 0
 Decodes d r l = (r ≡ d .answer) × (l ≡ d .list)
 
 -- how many are stored, and the answer, for so many places
-abbrev pub planBy : Checked → Table → List ℕ → Plan
-planBy Fine τ s = record { n = length s / 4; answer = Done (τ .edition) (length s / 4) }
-planBy (Refused r) τ s = record { n = 0; answer = NotDone r }
+abbrev pub planBy : Checked → Bool → Table → List ℕ → Plan
+planBy Fine later τ s = record { n = recordCount later (length s); answer = Done (τ .edition) (recordCount later (length s)) }
+planBy (Refused r) later τ s = record { n = 0; answer = NotDone r }
 
-unfoldable pub plan : Table → List ℕ → ℕ → Plan
-plan τ s places = planBy (checkInto τ s places) τ s
+unfoldable pub plan : Bool → Table → List ℕ → ℕ → Plan
+plan later τ s places = planBy (checkInto later τ s places) later τ s

@@ -1,13 +1,15 @@
 // Decoding into a lent run of records.
 use crate::check::Checked;
 use crate::check::check_into;
+use crate::record::count_of;
+use crate::record::kth;
 use records::refusal::Refusal;
 use records::table::Table;
 use records::transaction::Transaction;
-use records::transaction::transaction_at;
 ghost use mathlib.Core.Path.{_≡_};
-ghost use Prim.Native.Nat.{_*_, _≤_};
+ghost use Prim.Native.Nat.{_≤_};
 ghost use lib.ListN.{length};
+ghost use Rattle.records.specs.Transaction.{recordCount, listOf};
 ghost use Rattle.lists.specs.Decode.{plan, stored};
 
 // The table's edition, and how many transactions were stored; or the refusal.
@@ -22,13 +24,13 @@ pub struct Plan {
     pub answer: Decoded,
 }
 
-pub fn planned(t: Table, bytes: &[u8], places: usize) -> Plan
-    ensures { λ r. ⌜ r ≡ plan t (now (bytes .entry)) places ⌝ }
+pub fn planned(t: Table, later: bool, bytes: &[u8], places: usize) -> Plan
+    ensures { λ r. ⌜ r ≡ plan later t (now (bytes .entry)) places ⌝ }
 {
-    let c = check_into(t, bytes, places);
+    let n = count_of(later, bytes.len());
+    let c = check_into(t, later, bytes, places);
     match c {
         Checked::Fine => {
-            let n = bytes.len() / 4;
             let answer = Decoded::Done(t.edition, n as u32);
             Plan { n, answer }
         }
@@ -40,13 +42,13 @@ pub fn planned(t: Table, bytes: &[u8], places: usize) -> Plan
 }
 
 // Stores the first n transactions of the bytes from the slice's start.
-pub fn store(bytes: &[u8], n: usize, list: &mut [Transaction])
-    requires { ⌜ (4 * n ≤ length (now bytes)) × (n ≤ length (now list)) ⌝ }
-    ensures { λ _. ⌜ now (list .exit) ≡ stored (now (bytes .entry)) n (now (list .entry)) ⌝ }
+pub fn store(later: bool, bytes: &[u8], n: usize, list: &mut [Transaction])
+    requires { ⌜ (n ≤ recordCount later (length (now bytes))) × (n ≤ length (now list)) ⌝ }
+    ensures { λ _. ⌜ now (list .exit) ≡ stored (listOf later (now (bytes .entry))) n (now (list .entry)) ⌝ }
 {
     let mut k = 0;
     while k < n {
-        list[k] = transaction_at(bytes, 4 * k);
+        list[k] = kth(later, bytes, k);
         k += 1;
     }
 }

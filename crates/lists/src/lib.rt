@@ -2,3 +2,4 @@
 pub mod check;
 pub mod decode;
 pub mod packed;
+pub mod record;

@@ -37,6 +37,16 @@ pub over-more : (new more s : List ℕ) → putAt (over new s) (length new) more
 over-more new more s =
     rw (take-append-seam new (drop (length new) s), drop-append-add new (drop (length new) s) (length more), drop-drop (length more) (length new) s, length-append new more)
 
+-- a number of 32 bits after what was written
+pub put-32 : (s : List ℕ) (at x : ℕ) → at + 4 ≤ length s → put32 s at x ≡ putAt s at (bytes32 x)
+put-32 s at x h = as-sets ∙ put-sets (bytes32 x) s at h
+  where
+    as-sets : put32 s at x ≡ sets s at (bytes32 x)
+    as-sets = simp towards-suc
+
+pub over-32 : (new s : List ℕ) (x : ℕ) → length new + 4 ≤ length s → put32 (over new s) (length new) x ≡ over (new ++ bytes32 x) s
+over-32 new s x h = put-32 (over new s) (length new) x (omega (arith, length-over new s (omega arith))) ∙ over-more new (bytes32 x) s
+
 pub length-16 : (l : List ℕ) → length (bytes16 l) ≡ 2 * length l
 length-16 [] = refl
 length-16 (x ∷ l) = omega (arith, length-16 l)

@@ -24,8 +24,8 @@ Bytes s = (i : ℕ) → getD s i 0 < 256
 pub le16-of : (x : ℕ) → le16 (x % 256) (x / 256) ≡ x
 le16-of x = omega arith
 
-pub le32-of : (x : ℕ) → x < 4294967296 → le32 (x % 256) (x / 256 % 256) (x / 65536 % 256) (x / 16777216) ≡ x
-le32-of x h = omega arith
+pub le32-of : (x : ℕ) → le32 (x % 256) (x / 256 % 256) (x / 65536 % 256) (x / 16777216) ≡ x
+le32-of x = omega arith
 
 pub of-le16 : (a b : ℕ) → a < 256 → b < 256 → bytes16 (le16 a b ∷ []) ≡ a ∷ b ∷ []
 of-le16 a b h k =

@@ -5,9 +5,9 @@ use mathlib.Core.Bool.{Bool, true, false, not, _&&_, _||_}
 use mathlib.Core.Path.{_≡_, refl, sym, ap, _∙_}
 use native.Mathlib.Omega.{arith}
 use mathlib.Core.List.{List, [], _∷_}
-use lib.Dec.{eqb}
+use lib.Dec.{eqb, leb}
 use lib.ListN.{length}
-use borrow.Author.Tests.{eq-eqb, ne-eqb, eqb-true, not-false}
+use borrow.Author.Tests.{eq-eqb, ne-eqb, eqb-true, leb-true, not-false}
 use Rattle.records.specs.declared.refusal.Refusal.{Refusal}
 use Rattle.records.specs.declared.refusal.Written.the-variants.{Done, Refused}
 use Rattle.records.specs.Tests.{pick}
@@ -15,7 +15,7 @@ use Rattle.records.specs.Told.{refusal, firstFailed, Wrote}
 use Rattle.records.specs.declared.table.Table.{Table}
 use Rattle.records.specs.declared.transaction.Transaction.{Transaction}
 use Rattle.records.specs.Table.{tableRefusalBy, tableSize, tableRefusal, inRange}
-use Rattle.records.specs.Transaction.{transactionRefusal, fitsIn}
+use Rattle.records.specs.Transaction.{refusalBy, transactionRefusal, laterRefusal, fitsIn, fitsBy}
 
 module _ {A : Type 0} (z y : ℕ) (e : z ≡ y) where
   -- z is not 0: the answer is f of it
@@ -78,9 +78,21 @@ size-room size e = on (eqb size 32) refl (eqb size 40) refl e
 pub table-size : (size : ℕ) (τ : Table) → tableRefusal size τ ≡ 0 → tableSize size ≡ true
 table-size size τ e = refusal-right (tableSize size) τ e
 
+-- a transaction that is not refused has its record's size, and an arrival that the record holds
+pub need-size : (need latest size : ℕ) (x : Transaction) → refusalBy need latest size x ≡ 0 → size ≡ need
+need-size need latest size x e =
+    eqb-true size need (not-false _ (passes 3 (not (eqb size need)) ((4, not (fitsBy latest 16 1 x)) ∷ []) (λ k. omega arith) e .0))
+
 pub transaction-size : (size : ℕ) (x : Transaction) → transactionRefusal size x ≡ 0 → size ≡ 4
-transaction-size size x e =
-    eqb-true size 4 (not-false _ (passes 3 (not (eqb size 4)) ((4, not (fitsIn 16 1 x)) ∷ []) (λ k. omega arith) e .0))
+transaction-size size x e = need-size 4 0 size x e
+
+pub later-size : (size : ℕ) (x : Transaction) → laterRefusal size x ≡ 0 → size ≡ 8
+later-size size x e = need-size 8 20000000 size x e
+
+pub arrives-by : (need latest size : ℕ) (x : Transaction) → refusalBy need latest size x ≡ 0 → x .arrival ≤ latest
+arrives-by need latest size x e =
+    leb-true (x .arrival) latest (and-left (leb (x .arrival) latest) (fitsIn 16 1 x) (not-false _ (passes 4 (not (fitsBy latest 16 1 x)) [] (λ k. omega arith)
+    (passes 3 (not (eqb size need)) ((4, not (fitsBy latest 16 1 x)) ∷ []) (λ k. omega arith) e .1) .0)))
 
 -- what a call answers tells whether it refused
 pub answered : {A B : Type 0} (f : A → B) (z : ℕ) (a b : A) (c : B) → f (pick (eqb z 0) a b) ≡ c → (f b ≡ c → ⊥) → (z ≡ 0) × (f a ≡ c)

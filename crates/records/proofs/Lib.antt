@@ -6,3 +6,5 @@ pub mod HouseTables
 pub mod Inverse
 pub mod Round
 pub mod Written
+pub mod Arrivals
+pub mod Listed

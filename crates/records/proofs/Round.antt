@@ -21,11 +21,11 @@ use Rattle.records.specs.Tests.{pick}
 use Rattle.records.specs.Told.{refusal, over, Wrote}
 use Rattle.records.specs.Little.{num, bytes16}
 use Rattle.records.specs.Table.{tableOf, groupTableOf, plainTableAt, tableAt, numbersOf, groupNumbersOf, tableSize, tableRefusalBy, tableRefusal, readTable, writeTable, writeGroupTable}
-use Rattle.records.specs.Transaction.{transactionAt, transactionRefusal, readTransaction, writeTransaction}
+use Rattle.records.specs.Transaction.{arriving, transactionAt, laterAt, laterBytes, transactionRefusal, laterRefusal, readTransaction, writeTransaction, readLater, writeLater}
 use Rattle.records.specs.Transaction as Transactions
 use Rattle.records.specs.Command.{kindOf, kindNumber, command, commandAt, commandRefusal, roomRefusal, readCommand, writeCommand}
 use Rattle.records.specs.Command as Commands
-use Rattle.records.proofs.Laws.{read-is, read-was, write-is, write-was, passes, refusal-right, refusal-size, table-size, transaction-size}
+use Rattle.records.proofs.Laws.{read-is, read-was, write-is, write-was, passes, refusal-right, refusal-size, table-size, transaction-size, later-size, arrives-by}
 use Rattle.records.proofs.Bytes.{length-16, length-over}
 use Rattle.records.proofs.Inverse.{Bytes, le16-of, le32-of, of-le16, of-le32, plain-16, group-20, plain-at, group-at, bytes-from, elements-from, kind-number}
 
@@ -142,11 +142,14 @@ pub transaction-written-read : (x : Transaction) (s : List ℕ) (e : ℕ) → wr
 unfolding readTransaction writeTransaction
 transaction-written-read x s e d =
     ap (λ (w : Wrote). readTransaction (w .buffer)) (write-is (transactionRefusal (length s) x) (transactionDone x s) s z)
-    ∙ read-is transactionRefusal firstTransaction TransactionIs (λ n. NoTransaction (refusal n 0 0)) (over (Transactions.bytesOf x) s) x refl
+    ∙ read-is transactionRefusal firstTransaction TransactionIs (λ n. NoTransaction (refusal n 0 0)) (over (Transactions.bytesOf x) s) x (ap (arriving x) (sym none-later))
     (ap (λ (k : ℕ). transactionRefusal k x) (length-over (Transactions.bytesOf x) s (omega (arith, transaction-size (length s) x z))) ∙ z)
   where
     z : transactionRefusal (length s) x ≡ 0
     z = write-was (transactionRefusal (length s) x) (transactionDone x s) s e d
+
+    none-later : x .arrival ≡ 0
+    none-later = omega (arith, arrives-by 4 0 (length s) x z)
 
 pub transaction-read-written : (s b : List ℕ) (x : Transaction) → length b ≡ 4 → readTransaction s ≡ TransactionIs x
     → writeTransaction x b ≡ record { answer = Done 0; buffer = s }
@@ -173,6 +176,52 @@ transaction-read-written s b x n r =
     bytes : over (Transactions.bytesOf x) b ≡ s
     bytes = ap (λ (t : Transaction). over (Transactions.bytesOf t) b) (sym e) ∙ over-all (Transactions.bytesOf (transactionAt s 0)) b (omega (arith, n)) ∙ four s size
 
+-- ---- the transaction that arrives later
+
+abbrev laterDone : Transaction → List ℕ → Wrote
+laterDone x s = record { answer = Done 0; buffer = over (laterBytes x) s }
+
+abbrev firstLater : List ℕ → Transaction
+firstLater s = laterAt s 0
+
+pub later-written-read : (x : Transaction) (s : List ℕ) (e : ℕ) → writeLater x s .answer ≡ Done e → readLater (writeLater x s .buffer) ≡ TransactionIs x
+unfolding readLater writeLater
+later-written-read x s e d =
+    ap (λ (w : Wrote). readLater (w .buffer)) (write-is (laterRefusal (length s) x) (laterDone x s) s z)
+    ∙ read-is laterRefusal firstLater TransactionIs (λ n. NoTransaction (refusal n 0 0)) (over (laterBytes x) s) x
+    (ap (arriving x) (le32-of (x .arrival)))
+    (ap (λ (k : ℕ). laterRefusal k x) (length-over (laterBytes x) s (omega (arith, later-size (length s) x z))) ∙ z)
+  where
+    z : laterRefusal (length s) x ≡ 0
+    z = write-was (laterRefusal (length s) x) (laterDone x s) s e d
+
+pub later-read-written : (s b : List ℕ) (x : Transaction) → Bytes s → length b ≡ 8 → readLater s ≡ TransactionIs x
+    → writeLater x b ≡ record { answer = Done 0; buffer = s }
+unfolding readLater writeLater
+later-read-written s b x y n r =
+    write-is (laterRefusal (length b) x) (laterDone x b) b (ap (λ (k : ℕ). laterRefusal k x) (n ∙ sym size) ∙ ap (laterRefusal (length s)) (sym e) ∙ z)
+    ∙ ap (λ (l : List ℕ). record { answer = Done 0; buffer = l }) bytes
+  where
+    was : (laterRefusal (length s) (laterAt s 0) ≡ 0) × (TransactionIs (laterAt s 0) ≡ TransactionIs x)
+    was = read-was laterRefusal firstLater TransactionIs (λ n. NoTransaction (refusal n 0 0)) s x (no-transaction x) r
+
+    z : laterRefusal (length s) (laterAt s 0) ≡ 0
+    z = was .0
+
+    e : laterAt s 0 ≡ x
+    e = let k = was .1 in cc
+
+    size : length s ≡ 8
+    size = later-size (length s) (laterAt s 0) z
+
+    eight : laterBytes (laterAt s 0) ≡ s
+    eight =
+        ap (λ (l : List ℕ). Transactions.bytesOf (transactionAt s 0) ++ l) (of-le32 (getD s 4 0) (getD s 5 0) (getD s 6 0) (getD s 7 0) (y 4) (y 5) (y 6) (y 7))
+        ∙ elements-from 8 0 s (omega (arith, size)) ∙ take-all 8 s (omega (arith, size))
+
+    bytes : over (laterBytes x) b ≡ s
+    bytes = ap (λ (t : Transaction). over (laterBytes t) b) (sym e) ∙ over-all (laterBytes (laterAt s 0)) b (omega (arith, n)) ∙ eight
+
 -- ---- the command
 
 abbrev commandDone : Command → List ℕ → Wrote
@@ -197,7 +246,7 @@ command-written-read t k b x s e h d =
     z = write-was (roomRefusal (length s)) (commandDone c s) s e d
 
     same : commandAt (Commands.bytesOf c) 0 ≡ c
-    same = rw (le32-of t h, kind-number k, le16-of x)
+    same = rw (le32-of t, kind-number k, le16-of x)
 
 -- the bytes that were read are written, from the start of any buffer with room
 pub command-read-written : (s b : List ℕ) (c : Command) → Bytes s → 8 ≤ length b → readCommand s ≡ CommandIs c

@@ -11,7 +11,7 @@ use Rattle.records.specs.declared.command.CommandRead.{CommandRead}
 use Rattle.records.specs.declared.refusal.Written.{Written}
 use Rattle.records.specs.Told.{Wrote, Leaves}
 use Rattle.records.specs.Table.{readTable, writeTable, writeGroupTable}
-use Rattle.records.specs.Transaction.{readTransaction, writeTransaction}
+use Rattle.records.specs.Transaction.{readTransaction, writeTransaction, readLater, writeLater}
 use Rattle.records.specs.Command.{readCommand, writeCommand}
 
 pub one-answer : {A : Type 0} (a x y : A) → x ≡ a → y ≡ a → x ≡ y
@@ -26,6 +26,9 @@ read-table-only s = one-answer (readTable s)
 pub read-transaction-only : (s : List ℕ) (x y : TransactionRead) → x ≡ readTransaction s → y ≡ readTransaction s → x ≡ y
 read-transaction-only s = one-answer (readTransaction s)
 
+pub read-later-only : (s : List ℕ) (x y : TransactionRead) → x ≡ readLater s → y ≡ readLater s → x ≡ y
+read-later-only s = one-answer (readLater s)
+
 pub read-command-only : (s : List ℕ) (x y : CommandRead) → x ≡ readCommand s → y ≡ readCommand s → x ≡ y
 read-command-only s = one-answer (readCommand s)
 
@@ -38,6 +41,9 @@ module _ (s : List ℕ) (x y : Written) (b d : List ℕ) where
 
   pub write-transaction-only : (t : Transaction) → Leaves (writeTransaction t s) x b → Leaves (writeTransaction t s) y d → (x ≡ y) × (b ≡ d)
   write-transaction-only t = one-left (writeTransaction t s) x y b d
+
+  pub write-later-only : (t : Transaction) → Leaves (writeLater t s) x b → Leaves (writeLater t s) y d → (x ≡ y) × (b ≡ d)
+  write-later-only t = one-left (writeLater t s) x y b d
 
   pub write-command-only : (c : Command) → Leaves (writeCommand c s) x b → Leaves (writeCommand c s) y d → (x ≡ y) × (b ≡ d)
   write-command-only c = one-left (writeCommand c s) x y b d

@@ -44,7 +44,7 @@ pub record Readable (c : Command) : Type 0 where
 -- the command whose bytes follow others
 command-after : (p : List ℕ) (c : Command) (u : List ℕ) → Readable c → commandAt (p ++ (bytesOf c ++ u)) (length p) ≡ c
 command-after p c u r =
-    moved ∙ rw (le32-of (c .cycle) (r .cycle), r .kind, le16-of (c .number))
+    moved ∙ rw (le32-of (c .cycle), r .kind, le16-of (c .number))
   where
     at : (i : ℕ) → getD (p ++ (bytesOf c ++ u)) (length p + i) 0 ≡ getD (bytesOf c ++ u) i 0
     at i = getD-append-add p (bytesOf c ++ u) i 0

@@ -2,6 +2,7 @@
 pub mod command;
 pub mod group_table;
 pub mod house;
+pub mod later;
 pub mod little;
 pub mod refusal;
 pub mod table;

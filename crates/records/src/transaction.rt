@@ -1,4 +1,4 @@
-// The transaction, 4 bytes.
+// The transaction, 4 bytes, which arrives at cycle 0. Module `later` has the one of 8 bytes.
 use crate::refusal::Refusal;
 use crate::refusal::Written;
 use crate::refusal::first_failed;
@@ -11,7 +11,7 @@ ghost use mathlib.Core.Path.{_≡_};
 ghost use Prim.Native.Nat.{_+_, _≤_};
 ghost use lib.ListN.{length};
 ghost use Rattle.records.specs.Told.{over, Leaves};
-ghost use Rattle.records.specs.Transaction.{transaction, transactionAt, bytesOf, movesData, refreshes, fitsIn, transactionRefusal, readTransaction, writeTransaction};
+ghost use Rattle.records.specs.Transaction.{transaction, transactionAt, bytesOf, movesData, refreshes, fitsIn, fitsBy, refusalBy, transactionRefusal, readTransaction, writeTransaction};
 
 // `kind` is the paper's type: 0 read, 1 write, 2 refresh. (`type` is a word of the language.)
 #[repr(C)]
@@ -20,6 +20,8 @@ pub struct Transaction {
     pub start: u8,
     pub bi: u8,
     pub bc: u8,
+    // The cycle from which the queues see it.
+    pub arrival: u32,
 }
 
 pub enum TransactionRead {
@@ -37,6 +39,7 @@ pub fn transaction_at(s: &[u8], at: usize) -> Transaction
         start: s[at + 1],
         bi: s[at + 2],
         bc: s[at + 3],
+        arrival: 0,
     }
 }
 
@@ -71,12 +74,26 @@ pub fn fits_in(banks: u16, rfc: u16, kind: u8, start: u8, bi: u8, bc: u8) -> boo
     )
 }
 
-// 0, or the number by which a transaction of so many bytes is refused.
+// The same, of one that arrives at the latest cycle or before.
+pub fn fits_by(latest: u32, banks: u16, rfc: u16, x: Transaction) -> bool
+    ensures { λ r. ⌜ r ≡ fitsBy latest banks rfc x ⌝ }
+{
+    let good = fits_in(banks, rfc, x.kind, x.start, x.bi, x.bc);
+    both_of(x.arrival <= latest, good)
+}
+
+// 0, or the number by which a transaction of so many bytes is refused, where its record has `need` and holds arrivals up to the latest.
+pub fn refusal_by(need: usize, latest: u32, size: usize, x: Transaction) -> u8
+    ensures { λ r. ⌜ r ≡ refusalBy need latest size x ⌝ }
+{
+    let good = fits_by(latest, 16, 1, x);
+    first_failed(3, size != need, 4, not_of(good))
+}
+
 pub fn transaction_refusal(size: usize, x: Transaction) -> u8
     ensures { λ r. ⌜ r ≡ transactionRefusal size x ⌝ }
 {
-    let good = fits_in(16, 1, x.kind, x.start, x.bi, x.bc);
-    first_failed(3, size != 4, 4, not_of(good))
+    refusal_by(4, 0, size, x)
 }
 
 pub fn read_transaction(s: &[u8]) -> TransactionRead

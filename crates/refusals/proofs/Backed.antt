@@ -40,7 +40,7 @@ one-after lo m hi (d ∷ p) q u v = (u .0, one-after (d .act) m hi p q (u .1) v)
 
 module _ (τ : Table) where
   bursts-ascend : (x : Transaction) (i a k n m : ℕ)
-      → Ascends (a + k) (a + k) (numbered (λ m. record { kind = dataKind (isWrite x) (eqb (m + 1) (x .bc)); bank = bankAt τ x k; number = i; act = a + k }) n m)
+      → Ascends (a + k) (a + k) (numbered (λ m. record { kind = dataKind (isWrite x) (eqb (m + 1) (x .bc)); bank = bankAt τ x k; number = i; act = a + k; arrival = x .arrival }) n m)
   bursts-ascend x i a k zero m = omega arith
   bursts-ascend x i a k (suc n) m = (omega arith, bursts-ascend x i a k n (suc m))
 
@@ -122,7 +122,7 @@ module _ (τ : Table) (l : List Transaction) (v : AllFit τ l) (a datas : ℕ) w
       k = omega arith
 
       d : Due
-      d = record { kind = h .kind; bank = h .bank; number = h .number; act = h .act }
+      d = record { kind = h .kind; bank = h .bank; number = h .number; act = h .act; arrival = h .arrival }
 
       on : (b : Bool) → getElem? q (datas - 1) ≡ pick b (some d) none
           → (b && ltb (h .act) a) ≡ (leb (suc (datas - 1)) (length q) && every (had a) (take (suc (datas - 1)) q))

@@ -2,3 +2,4 @@ pub mod Laws
 pub mod StoredKept
 pub mod Backed
 pub mod SoundKept
+pub mod FirstNew

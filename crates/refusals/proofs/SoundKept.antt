@@ -3,13 +3,13 @@
 use Prim.Native.Nat.{ℕ, zero, suc, _+_, _%_, _≤_, _<_}
 use native.Mathlib.Omega.{arith}
 use native.Mathlib.Numerals.{add-one}
-use mathlib.Core.Bool.{Bool, true, false, _&&_, and-true}
+use mathlib.Core.Bool.{Bool, true, false, not, _&&_, and-true}
 use mathlib.Core.Path.{_≡_, refl, sym, ap, _∙_, subst}
 use mathlib.Core.Option.{Option, none, some, map-eq-some-iff}
 use mathlib.Core.List.{List, [], _∷_}
 use lib.Dec.{leb, ltb, eqb}
 use lib.ListN.{length, getElem?, take, replicate}
-use borrow.Author.Tests.{ltb-true, lt-ltb, leb-true, le-leb, eqb-true, eq-eqb}
+use borrow.Author.Tests.{ltb-true, ltb-false, lt-ltb, le-ltb, leb-true, le-leb, eqb-true, eq-eqb, not-true}
 use Rattle.records.specs.Tests.{every}
 use Rattle.records.specs.Transaction.{isWrite}
 use Rattle.records.specs.declared.table.Table.{Table}
@@ -21,6 +21,7 @@ use Rattle.rules.specs.State.{breaksNone, shut, quiet, fresh, after}
 use Rattle.rules.specs.Queues.{Due, dueAt, actQueue, dataQueue, headAfter}
 use Rattle.rules.specs.CycleRule.{goes}
 use Rattle.rules.specs.Run.{run}
+use Rattle.rules.specs.Pieces.{lend, overLent}
 use Rattle.rules.proofs.TestLaws.{and-both, and-fst, and-snd, OnSome, on-map}
 use Rattle.rules.proofs.Queue.{Place, actDue, dataDue, actPlace, dataPlace, act-head, data-head}
 use Rattle.rules.proofs.DataKinds.{not-in-acts, is-data, act-queued, act-no-data}
@@ -37,6 +38,7 @@ pub record Tested (τ : Table) (l : List Transaction) (s : State) : Type 0 where
   pub acts : s .acts ≤ length (actQueue τ l)
   pub datas : s .datas ≤ length (dataQueue τ l)
   pub had : backed τ l (s .acts) (s .datas) ≡ true
+  pub lent : s .lent ≤ length l
 
 module _ (τ : Table) (l : List Transaction) where
   abbrev tests : State → List Bool
@@ -48,6 +50,7 @@ module _ (τ : Table) (l : List Transaction) where
       ∷ lastBefore (s .cycle) s
       ∷ leb (s .acts) (length (actQueue τ l))
       ∷ (leb (s .datas) (length (dataQueue τ l)) && backed τ l (s .acts) (s .datas))
+      ∷ not (overLent l s)
       ∷ []
 
   pub sound-tested : (s : State) → sound τ l s ≡ true → (s .cycle < 100000000) × Tested τ l s
@@ -60,6 +63,7 @@ module _ (τ : Table) (l : List Transaction) where
       acts = leb-true (s .acts) (length (actQueue τ l)) (test-at (tests s) 5 e);
       datas = leb-true (s .datas) (length (dataQueue τ l)) (and-fst (leb (s .datas) (length (dataQueue τ l))) (backed τ l (s .acts) (s .datas)) (test-at (tests s) 6 e));
       had = and-snd (leb (s .datas) (length (dataQueue τ l))) (backed τ l (s .acts) (s .datas)) (test-at (tests s) 6 e);
+      lent = ltb-false (length l) (s .lent) (not-true (overLent l s) (test-at (tests s) 7 e));
     },
   )
 
@@ -75,6 +79,7 @@ module _ (τ : Table) (l : List Transaction) where
         le-leb (s .acts) (length (actQueue τ l)) (q .acts),
         le-leb (s .datas) (length (dataQueue τ l)) (q .datas),
         q .had,
+        le-ltb (length l) (s .lent) (q .lent),
       )
 
   one-more : (a : ℕ) (q : List Due) (k : ℕ) (d : Due) → getElem? q k ≡ some d → every (λ x. ltb (x .act) a) (take k q) ≡ true → ltb (d .act) a ≡ true
@@ -132,6 +137,10 @@ module _ (τ : Table) (l : List Transaction) where
   after-edition s none = refl
   after-edition s (some c) = refl
 
+  after-lent : (s : State) (o : Option Command) → after τ s o .lent ≡ s .lent
+  after-lent s none = refl
+  after-lent s (some c) = refl
+
   after-tested : (s : State) → Tested τ l s → Tested τ l (after τ s (goes τ l s))
   after-tested s q =
       let k = after-counts s (goes τ l s) q (goes-counts s q) in
@@ -144,6 +153,7 @@ module _ (τ : Table) (l : List Transaction) where
         acts = k .0;
         datas = k .1;
         had = k .2;
+        lent = omega (arith, q .lent, after-lent s (goes τ l s));
       }
 
   pub run-tested : (n : ℕ) (s : State) (h : List Command) → Tested τ l s → Tested τ l (run n τ l s h .state)
@@ -152,11 +162,24 @@ module _ (τ : Table) (l : List Transaction) where
   pub run-sound : (n : ℕ) (s : State) (h : List Command) → sound τ l s ≡ true → run n τ l s h .state .cycle < 100000000 → sound τ l (run n τ l s h .state) ≡ true
   run-sound n s h e k = tested-sound (run n τ l s h .state) k (run-tested n s h (sound-tested s e .1))
 
+  -- nor one that the list was lent to since
+  pub lend-sound : (s : State) → sound τ l s ≡ true → sound τ l (lend (length l) s) ≡ true
+  lend-sound s e =
+      let q = sound-tested s e in
+      tested-sound (lend (length l) s) (q .0) (record {
+        edition = q .1 .edition;
+        stored = record { banks = q .1 .stored .banks; groups = q .1 .stored .groups; last = q .1 .stored .last };
+        acts = q .1 .acts;
+        datas = q .1 .datas;
+        had = q .1 .had;
+        lent = omega arith;
+      })
+
   -- number 9 refuses no fresh state
   pub fresh-sound : sound τ l (fresh τ) ≡ true
   fresh-sound =
       tested-sound (fresh τ) (omega arith)
-      (record { edition = refl; stored = record { banks = nothing (τ .banks) 16; groups = no-group (τ .groups) 8; last = refl }; acts = omega arith; datas = omega arith; had = refl })
+      (record { edition = refl; stored = record { banks = nothing (τ .banks) 16; groups = no-group (τ .groups) 8; last = refl }; acts = omega arith; datas = omega arith; had = refl; lent = omega arith })
     where
       nothing : (n k : ℕ) → banksBefore 0 n (replicate k shut) ≡ true
       nothing zero k = refl

@@ -1,4 +1,4 @@
--- Document 01, "What the caller is told": numbers 5 and 9 of a run.
+-- Document 01, "What the caller is told", and document 02, request 9: numbers 5, 9 and 12 of a run.
 use Prim.Native.Nat.{ℕ, _*_, min}
 use mathlib.Core.Bool.{Bool, not, _&&_}
 use mathlib.Core.List.{List, [], _∷_}
@@ -14,6 +14,7 @@ use Rattle.rules.specs.declared.state.Group.{Group}
 use Rattle.rules.specs.declared.state.State.{State}
 use Rattle.rules.specs.State.{past}
 use Rattle.rules.specs.Queues.{actQueue, dataQueue}
+use Rattle.rules.specs.Pieces.{overLent, isLate}
 use Rattle.engine.specs.Run.{commandsLeft}
 
 -- number 5: room "under 8 × the lesser of count and commands left"
@@ -62,10 +63,10 @@ abbrev pub goneBacked : Table → List Transaction → ℕ → ℕ → Bool
 goneBacked τ l acts datas = leb datas (length (dataQueue τ l)) && backed τ l acts datas
 
 -- number 9 does not apply; it is for "a state with its cycle at 100,000,000 or more, an edition not the table's, a stored command cycle not
--- before its own cycle, more commands gone from a queue than the list puts there, or a data command gone whose ACT hasn't". `acts` is what the
--- list puts into the ACT queue, `gone` the test of the data commands gone
-abbrev pub soundBy : Table → State → ℕ → Bool → Bool
-soundBy τ s acts gone =
+-- before its own cycle, more commands gone from a queue than the list puts there, or a data command gone whose ACT hasn't", and where more were
+-- lent before than the list has. `acts` is what the list puts into the ACT queue, `gone` the test of the data commands gone, `more` that of those lent
+abbrev pub soundBy : Table → State → ℕ → Bool → Bool → Bool
+soundBy τ s acts gone more =
     allOf
     (ltb (s .cycle) 100000000
     ∷ eqb (s .edition) (τ .edition)
@@ -74,10 +75,11 @@ soundBy τ s acts gone =
     ∷ lastBefore (s .cycle) s
     ∷ leb (s .acts) acts
     ∷ gone
+    ∷ not more
     ∷ [])
 
 unfoldable pub sound : Table → List Transaction → State → Bool
-sound τ l s = soundBy τ s (length (actQueue τ l)) (goneBacked τ l (s .acts) (s .datas))
+sound τ l s = soundBy τ s (length (actQueue τ l)) (goneBacked τ l (s .acts) (s .datas)) (overLent l s)
 
 -- "Checks go in the order of these numbers": 0, or the number by which a run of so many cycles in so much room is refused
 unfoldable pub runRefusal : Table → List Transaction → State → ℕ → ℕ → ℕ
@@ -85,4 +87,5 @@ runRefusal τ l s count room =
     firstFailed
     ((5, roomShort room count (commandsLeft τ l s))
     ∷ (9, not (sound τ l s))
+    ∷ (12, isLate l s)
     ∷ [])

@@ -1,4 +1,6 @@
-// Numbers 5 and 9 of a run.
+// Numbers 5, 9 and 12 of a run.
+use crate::late::is_late;
+use crate::late::is_over;
 use crate::stored::banks_before;
 use crate::stored::groups_before;
 use crate::stored::last_before;
@@ -17,7 +19,7 @@ ghost use mathlib.Core.List.{[], _∷_};
 ghost use Prim.Native.Nat.{_+_, _-_, _*_, min, _≤_};
 ghost use lib.Dec.{ltb};
 ghost use Rattle.records.specs.Told.{firstFailed};
-ghost use Rattle.records.specs.Transaction.{transactionsFrom};
+ghost use Rattle.records.specs.Transaction.{laterFrom};
 ghost use Rattle.heads.specs.Queue.{Listed, Counted};
 ghost use Rattle.timing.specs.Kept.{told};
 ghost use Rattle.refusals.specs.Refused.{roomShort, goneBacked, soundBy, runRefusal};
@@ -53,7 +55,7 @@ pub fn is_short(room: usize, most: u64) -> bool
 // ascend along the data queue.
 pub fn is_backed(t: Table, list: &[u8], n: usize, acts: u32, datas: u32) -> bool
     requires { ⌜ Listed t (now list) n ⌝ }
-    ensures { λ r. ⌜ r ≡ goneBacked t (transactionsFrom (now (list .entry)) n 0) acts datas ⌝ }
+    ensures { λ r. ⌜ r ≡ goneBacked t (laterFrom (now (list .entry)) n 0) acts datas ⌝ }
 {
     if datas == 0 {
         return true;
@@ -63,10 +65,10 @@ pub fn is_backed(t: Table, list: &[u8], n: usize, acts: u32, datas: u32) -> bool
     both_of(last.there, last.act < acts)
 }
 
-// Number 9 does not apply: `due` ACTs stand in the queue, and `gone` tells of the data commands gone.
-pub fn is_sound(t: Table, s: Kept, due: u32, gone: bool) -> bool
+// Number 9 does not apply: `due` ACTs stand in the queue, `gone` tells of the data commands gone, and `more` of the transactions lent before.
+pub fn is_sound(t: Table, s: Kept, due: u32, gone: bool, more: bool) -> bool
     requires { ⌜ (t .banks ≤ 16) × (t .groups ≤ 8) ⌝ }
-    ensures { λ r. ⌜ r ≡ soundBy t (told s) due gone ⌝ }
+    ensures { λ r. ⌜ r ≡ soundBy t (told s) due gone more ⌝ }
 {
     let now = s.cycle;
     let started = s.edition;
@@ -76,19 +78,29 @@ pub fn is_sound(t: Table, s: Kept, due: u32, gone: bool) -> bool
     let banks = banks_before(ks, t.banks, now);
     let groups = groups_before(gs, t.groups, now);
     let last = last_before(s.a1, s.a2, s.a3, s.a4, s.refresh, now);
-    let counts = both_of(s.acts <= due, gone);
+    let counts = both_of(s.acts <= due, both_of(gone, not_of(more)));
     let stored = both_of(banks, both_of(groups, both_of(last, counts)));
     both_of(now < 100000000, both_of(started == edition, stored))
 }
 
-// 0, 5 or 9; `sound` says that number 9 does not apply.
-pub fn run_refusal(room: usize, count: u32, left: u64, sound: bool) -> u8
-    ensures { λ r. ⌜ r ≡ firstFailed ((5, roomShort room count left) ∷ (9, not sound) ∷ []) ⌝ }
+// The number of the first of three checks that fails, 0 where none does.
+fn first_of(one: u8, a: bool, two: u8, b: bool, three: u8, c: bool) -> u8
+    ensures { λ r. ⌜ r ≡ firstFailed ((one, a) ∷ (two, b) ∷ (three, c) ∷ []) ⌝ }
+{
+    if a {
+        return one;
+    }
+    first_failed(two, b, three, c)
+}
+
+// 0, 5, 9 or 12; `sound` says that number 9 does not apply, `late` that number 12 does.
+pub fn run_refusal(room: usize, count: u32, left: u64, sound: bool, late: bool) -> u8
+    ensures { λ r. ⌜ r ≡ firstFailed ((5, roomShort room count left) ∷ (9, not sound) ∷ (12, late) ∷ []) ⌝ }
 {
     let most = lesser(count as u64, left);
     let short = is_short(room, most);
     let unsound = not_of(sound);
-    first_failed(5, short, 9, unsound)
+    first_of(5, short, 9, unsound, 12, late)
 }
 
 // The number by which a run from what a state tells is refused, 0 where it is not; `all` is what the list puts into the two queues.
@@ -102,10 +114,12 @@ pub fn refusal_of(
     room: usize,
 ) -> u8
     requires { ⌜ Listed t (now list) n × Counted t (now list) n all ⌝ }
-    ensures { λ r. ⌜ r ≡ runRefusal t (transactionsFrom (now (list .entry)) n 0) (told s) count room ⌝ }
+    ensures { λ r. ⌜ r ≡ runRefusal t (laterFrom (now (list .entry)) n 0) (told s) count room ⌝ }
 {
     let left = left_of(all.acts, all.datas, s.acts, s.datas);
     let gone = is_backed(t, list, n, s.acts, s.datas);
-    let sound = is_sound(t, s, all.acts, gone);
-    run_refusal(room, count, left, sound)
+    let more = is_over(n, s.lent);
+    let sound = is_sound(t, s, all.acts, gone, more);
+    let late = is_late(list, n, s.lent, s.cycle);
+    run_refusal(room, count, left, sound, late)
 }

@@ -6,16 +6,17 @@ use mathlib.Core.Path.{_≡_, refl, sym, ap, _∙_, subst}
 use mathlib.Core.Logic.{⊎-elim}
 use mathlib.Core.Bool.{true, false}
 use mathlib.Core.List.{List, [], _∷_, _++_, append-nil}
-use lib.Dec.{leb, ltb}
+use lib.Dec.{ltb}
 use lib.ListN.{length}
-use borrow.Author.Tests.{leb-true, lt-ltb}
+use borrow.Author.Tests.{lt-ltb}
 use Rattle.records.specs.declared.table.Table.{Table}
 use Rattle.records.specs.declared.transaction.Transaction.{Transaction}
 use Rattle.records.specs.declared.command.Command.{Command}
 use Rattle.rules.specs.declared.state.State.{State}
 use Rattle.records.specs.Tests.{every}
 use Rattle.records.specs.Table.{Accepted}
-use Rattle.records.specs.Transaction.{fits, listFits}
+use Rattle.records.specs.Transaction.{listFits}
+use Rattle.records.proofs.Arrivals.{few-listed, each-listed}
 use Rattle.rules.specs.History.{openIn}
 use Rattle.rules.specs.Verdict.{allShut, Legal}
 use Rattle.rules.specs.Pattern.{onto}
@@ -24,7 +25,7 @@ use Rattle.rules.specs.Queues.{actQueue, dataQueue}
 use Rattle.rules.specs.CycleRule.{actsIn, datasIn, gone, Built}
 use Rattle.rules.specs.Run.{served, steps, Ran, run}
 use Rattle.rules.specs.Promise.{nextCycle}
-use Rattle.rules.proofs.TestLaws.{true-false, and-both, and-fst, and-snd}
+use Rattle.rules.proofs.TestLaws.{true-false, and-both}
 use Rattle.rules.proofs.Ranges.{Ranges, ranges}
 use Rattle.rules.proofs.Newest.{AllBelow, allBelow-up}
 use Rattle.rules.proofs.BankRules.{open-same}
@@ -60,10 +61,10 @@ module _ (τ : Table) (acc : Accepted τ) (l : List Transaction) (fit : listFits
   rng = ranges τ acc
 
   pub each-fits : AllFit τ l
-  each-fits = all-fit τ (rng .banks .least) l (and-snd (leb (length l) 256) (every (fits τ) l) fit)
+  each-fits = all-fit τ (rng .banks .least) l (each-listed τ l fit)
 
   pub short : total τ l (length l) < 100000000
-  short = never-long τ rng l each-fits (leb-true (length l) 256 (and-fst (leb (length l) 256) (every (fits τ) l) fit))
+  short = never-long τ rng l each-fits (each-listed τ l fit) (few-listed τ l fit)
 
   -- the state and the history after n steps from a fresh state
   abbrev pub stateAt : ℕ → State

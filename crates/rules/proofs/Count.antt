@@ -13,6 +13,7 @@ use Rattle.records.specs.declared.command.Kind.{Kind}
 use Rattle.records.specs.declared.command.Kind.the-variants.{Act, Rd, Rda, Wr, Wra, Ref, Other}
 use Rattle.records.specs.declared.command.Command.{Command}
 use Rattle.rules.specs.declared.state.State.{State}
+use Rattle.records.specs.Tests.{every}
 use Rattle.records.specs.Transaction.{isWrite}
 use Rattle.rules.specs.Kinds.{isData, inActQueue, isKnown}
 use Rattle.rules.specs.Pattern.{onto}
@@ -20,7 +21,7 @@ use Rattle.rules.specs.State.{breaksNone, addIf, after}
 use Rattle.rules.specs.Queues.{actQueue, dataQueue}
 use Rattle.rules.specs.CycleRule.{actsIn, datasIn, goes, push}
 use Rattle.rules.specs.Run.{steps, run}
-use Rattle.rules.proofs.TestLaws.{true-false, OnSome}
+use Rattle.rules.proofs.TestLaws.{true-false, and-both, and-fst, and-snd, OnSome}
 use Rattle.rules.proofs.Judged.{holds, in-known, LegalHistory}
 use Rattle.rules.proofs.Queue.{act-length, data-length}
 use Rattle.rules.proofs.DataKinds.{is-known, act-known}
@@ -59,6 +60,11 @@ datas-onto (r ∷ a) b = datas-onto a (r ∷ b) ∙ swap (isData (r .kind)) (dat
 length-onto : (a b : List Command) → length (onto a b) ≡ length a + length b
 length-onto [] b = omega arith
 length-onto (r ∷ a) b = omega (arith, length-onto a (r ∷ b))
+
+pub every-onto : (f : Command → Bool) (rs h : List Command) → every f rs ≡ true → every f h ≡ true → every f (onto rs h) ≡ true
+every-onto f [] h e g = g
+every-onto f (r ∷ rs) h e g =
+    every-onto f rs (r ∷ h) (and-snd (f r) (every f rs) e) (and-both (f r) (every f h) (and-fst (f r) (every f rs) e) g)
 
 pub acts-turn : (h : List Command) → actsIn (onto h []) ≡ actsIn h
 acts-turn h = acts-onto h [] ∙ omega arith

@@ -157,7 +157,11 @@ start-ge x F = omega arith
 
 pub start-mono : (x : Transaction) (F F' : ℕ) → F ≤ F' → startAt x F ≤ startAt x F'
 unfolding startAt
-start-mono x F F' h = h
+start-mono x F F' h = omega arith
+
+pub start-arrival : (x : Transaction) (F : ℕ) → x .arrival ≤ startAt x F
+unfolding startAt
+start-arrival x F = omega arith
 
 -- the next count starts no earlier than at the last command, and no later than the span allows
 pub count-ge : (τ : Table) (x : Transaction) (c : ℕ) → c ≤ countFrom τ x c

@@ -13,7 +13,7 @@ use borrow.Author.Tests.{ltb-true, leb-true, eqb-true, eqb-false, ne-eqb, not-tr
 use Rattle.records.specs.declared.table.Table.{Table}
 use Rattle.records.specs.declared.transaction.Transaction.{Transaction}
 use Rattle.records.specs.Tests.{every, within}
-use Rattle.records.specs.Transaction.{isRefresh, movesData, refreshes, fits}
+use Rattle.records.specs.Transaction.{isRefresh, movesData, refreshes, fitsIn, fits}
 use Rattle.rules.specs.Queues.{bankAt, actCount}
 use Rattle.rules.proofs.TestLaws.{true-false, and-fst, and-snd, and-at, OnSome, on-pick}
 use Rattle.rules.proofs.Numbers.{round}
@@ -80,7 +80,7 @@ refresh-fit τ one x e =
     test i = and-at (refreshFirst τ x) (eqb (x .bc) 0) i e
 
 pub is-fit : (τ : Table) → 1 ≤ τ .banks → (x : Transaction) → fits τ x ≡ true → Fits τ x
-is-fit τ one x e = on (refreshes (τ .rfc) x) refl e
+is-fit τ one x e = on (refreshes (τ .rfc) x) refl (and-snd (leb (x .arrival) 20000000) (fitsIn (τ .banks) (τ .rfc) x) e)
   where
     on : (b : Bool) → refreshes (τ .rfc) x ≡ b → (b || movesData (τ .banks) x) ≡ true → Fits τ x
     on true p e = inl (refresh-fit τ one x p)
@@ -89,6 +89,10 @@ is-fit τ one x e = on (refreshes (τ .rfc) x) refl e
 pub all-fit : (τ : Table) → 1 ≤ τ .banks → (l : List Transaction) → every (fits τ) l ≡ true → AllFit τ l
 all-fit τ one [] e = tt
 all-fit τ one (x ∷ l) e = (is-fit τ one x (and-fst (fits τ x) (every (fits τ) l) e), all-fit τ one l (and-snd (fits τ x) (every (fits τ) l) e))
+
+-- and arrives in time
+pub arrives : (τ : Table) (x : Transaction) → fits τ x ≡ true → x .arrival ≤ 20000000
+arrives τ x e = leb-true (x .arrival) 20000000 (and-fst (leb (x .arrival) 20000000) (fitsIn (τ .banks) (τ .rfc) x) e)
 
 -- which of the two a transaction is; one with data commands, or with banks, is a read or a write
 pub plain-fit : (τ : Table) (x : Transaction) → Fits τ x → isRefresh x ≡ false → Fit τ x

@@ -5,7 +5,7 @@ use mathlib.Core.Path.{_≡_, refl, sym, _∙_, subst}
 use mathlib.Core.Bool.{Bool, true, false, _&&_}
 use mathlib.Core.Option.{Option, none, some, Option·map, map-eq-some-iff}
 use mathlib.Core.List.{List, [], _∷_}
-use lib.Dec.{ltb}
+use lib.Dec.{ltb, leb}
 use lib.ListN.{getD}
 use Rattle.records.specs.declared.table.Table.{Table}
 use Rattle.records.specs.declared.transaction.Transaction.{Transaction}
@@ -14,10 +14,35 @@ use Rattle.rules.specs.declared.state.State.{State}
 use Rattle.records.specs.Tests.{pick, allOf}
 use Rattle.rules.specs.State.{actTests, refreshTests, dataTests, breaksNone}
 use Rattle.rules.specs.Queues.{Due, dueAt}
-use Rattle.rules.specs.CycleRule.{hadAct, legalAt, otherwise, goesBy, goes}
-use Rattle.rules.proofs.TestLaws.{and-fst, and-snd, OnSome}
+use Rattle.rules.specs.CycleRule.{seen, hadAct, legalAt, otherwise, goesBy, goes}
+use Rattle.rules.proofs.TestLaws.{and-fst, and-snd, OnSome, on-pick}
 use Rattle.rules.proofs.Legal.{goes-all}
 use Rattle.rules.proofs.Queue.{Place, actPlace, dataPlace, actDue, dataDue, act-head, data-head}
+
+-- a place that is seen at cycle t
+abbrev pub seenPlace : ℕ → Option Place → Option Place
+seenPlace t none = none
+seenPlace t (some p) = pick (leb (p .transaction .arrival) t) (some p) none
+
+pub on-seen : (P : Place → Type 0) (t : ℕ) (o : Option Place) → OnSome P o → OnSome P (seenPlace t o)
+on-seen P t none h = tt
+on-seen P t (some p) h = on-pick P (leb (p .transaction .arrival) t) p none (λ e. h) (λ e. tt)
+
+see-data : (τ : Table) (t : ℕ) (o : Option Place) → seen t (Option·map (dataDue τ) o) ≡ Option·map (dataDue τ) (seenPlace t o)
+see-data τ t none = refl
+see-data τ t (some p) = on (leb (p .transaction .arrival) t)
+  where
+    on : (b : Bool) → pick b (some (dataDue τ p)) none ≡ Option·map (dataDue τ) (pick b (some p) none)
+    on true = refl
+    on false = refl
+
+see-act : (τ : Table) (t : ℕ) (o : Option Place) → seen t (Option·map (actDue τ) o) ≡ Option·map (actDue τ) (seenPlace t o)
+see-act τ t none = refl
+see-act τ t (some p) = on (leb (p .transaction .arrival) t)
+  where
+    on : (b : Bool) → pick b (some (actDue τ p)) none ≡ Option·map (actDue τ) (pick b (some p) none)
+    on true = refl
+    on false = refl
 
 -- what goes from a place of the data queue and of the ACT queue
 abbrev pub dataFrom : (Command → Bool) → Table → ℕ → ℕ → Option Place → Option Command
@@ -42,8 +67,16 @@ module _ (legal : Command → Bool) (τ : Table) (l : List Transaction) (t a d :
   act-same none = refl
   act-same (some p) = refl
 
-  pub goes-from : goesBy legal τ l t a d ≡ otherwise (dataFrom legal τ t a (dataPlace l d)) (actFrom legal τ t (actPlace l a))
-  goes-from = rw (data-head τ l d, act-head τ l a, data-same (dataPlace l d), act-same (actPlace l a))
+  pub goes-from : goesBy legal τ l t a d ≡ otherwise (dataFrom legal τ t a (seenPlace t (dataPlace l d))) (actFrom legal τ t (seenPlace t (actPlace l a)))
+  goes-from =
+      rw (
+        data-head τ l d,
+        act-head τ l a,
+        see-data τ t (dataPlace l d),
+        see-act τ t (actPlace l a),
+        data-same (seenPlace t (dataPlace l d)),
+        act-same (seenPlace t (actPlace l a)),
+      )
 
   -- what holds of the command that goes: it stands at the head of its queue and is legal
   pub goes-place : (P : Command → Type 0)
@@ -59,10 +92,10 @@ module _ (legal : Command → Bool) (τ : Table) (l : List Transaction) (t a d :
 
 -- by what a state tells
 abbrev pub tryData : Table → List Transaction → State → Option Command
-tryData τ l s = dataFrom (breaksNone τ s) τ (s .cycle) (s .acts) (dataPlace l (s .datas))
+tryData τ l s = dataFrom (breaksNone τ s) τ (s .cycle) (s .acts) (seenPlace (s .cycle) (dataPlace l (s .datas)))
 
 abbrev pub tryAct : Table → List Transaction → State → Option Command
-tryAct τ l s = actFrom (breaksNone τ s) τ (s .cycle) (actPlace l (s .acts))
+tryAct τ l s = actFrom (breaksNone τ s) τ (s .cycle) (seenPlace (s .cycle) (actPlace l (s .acts)))
 
 pub goes-try : (τ : Table) (l : List Transaction) (s : State) → goes τ l s ≡ otherwise (tryData τ l s) (tryAct τ l s)
 goes-try τ l s = goes-from (breaksNone τ s) τ l (s .cycle) (s .acts) (s .datas)

@@ -55,6 +55,7 @@ module _ (τ : Table) (rng : Ranges τ) (l : List Transaction) (A0 M0 : ℕ) (x 
         unop = q .unop;
         actTime = time;
         dataTime = e;
+        arrived = q .arrived;
       }
     where
       time : (k : ℕ) → s .acts ≡ A0 + k → k < x .bi → InTime τ F (isWrite x) (idle s) k
@@ -93,6 +94,7 @@ module _ (τ : Table) (rng : Ranges τ) (l : List Transaction) (A0 M0 : ℕ) (x 
             (q .unop i k (omega arith));
         actTime = time;
         dataTime = e;
+        arrived = q .arrived;
       }
     where
       ta' : ℕ → ℕ
@@ -166,6 +168,7 @@ module _ (τ : Table) (rng : Ranges τ) (l : List Transaction) (A0 M0 : ℕ) (x 
                 (λ p. omega (arith, bank-apart τ x (sp .ok) i j k (q .jIn) (p ∙ sp .bankK j (q .jIn)), gone, n .sameActs))) (q .unop i k (omega (arith, n .sameActs)));
             actTime = λ k ek kl. time k (q .actTime k (omega (arith, n .sameActs)) kl) ek;
             dataTime = omega (arith, q .dataTime, n .nextCycle, ccd-two τ rng);
+            arrived = q .arrived;
           }
         where
           n : DataNote τ s s″ (s .cycle) (actBank τ l (A0 + j)) z

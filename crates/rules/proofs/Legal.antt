@@ -6,7 +6,7 @@ use mathlib.Core.Path.{_≡_, refl, sym, ap, _∙_, subst}
 use mathlib.Core.Bool.{Bool, true, false}
 use mathlib.Core.Option.{Option, none, some}
 use mathlib.Core.List.{List, _∷_}
-use lib.Dec.{ltb}
+use lib.Dec.{ltb, leb}
 use Rattle.records.specs.Tests.{pick, every}
 use Rattle.records.specs.declared.table.Table.{Table}
 use Rattle.records.specs.declared.transaction.Transaction.{Transaction}
@@ -17,7 +17,7 @@ use Rattle.rules.specs.Kinds.{firstBroken, rulesInOrder}
 use Rattle.rules.specs.State.{testsBy, breaksNone, after, Held}
 use Rattle.rules.specs.History.{inTable, later, rulesBy, broken, isFine}
 use Rattle.rules.specs.Queues.{Due, dueAt, actQueue, dataQueue, headAfter}
-use Rattle.rules.specs.CycleRule.{hadAct, legalAt, otherwise, goesBy, actsIn, goesAt, goes, push}
+use Rattle.rules.specs.CycleRule.{seen, hadAct, legalAt, otherwise, goesBy, actsIn, goesAt, goes, push}
 use Rattle.rules.specs.Run.{steps}
 use Rattle.rules.proofs.TestLaws.{is-true, OnSome, on-pick, every-at}
 use Rattle.rules.proofs.Link.{Sums, later-of, sums-idle, sums-note, rules-same}
@@ -25,29 +25,47 @@ use Rattle.rules.proofs.Judged.{fine-rules, is-fine, in-bank, LegalHist
 
 -- "If the head of the data queue has had its ACT and breaks no rule, it goes", whatever stands in the ACT queue
 data-first : (legal : Command → Bool) (τ : Table) (l : List Transaction) (t a d : ℕ) (c : Command)
-    → legalAt legal t (hadAct a (headAfter (dataQueue τ l) d)) ≡ some c → goesBy legal τ l t a d ≡ some c
-data-first legal τ l t a d c e = ap (λ (o : Option Command). otherwise o (legalAt legal t (headAfter (actQueue τ l) a))) e
+    → legalAt legal t (hadAct a (seen t (headAfter (dataQueue τ l) d))) ≡ some c → goesBy legal τ l t a d ≡ some c
+data-first legal τ l t a d c e = ap (λ (o : Option Command). otherwise o (legalAt legal t (seen t (headAfter (actQueue τ l) a)))) e
+
+-- what goes, by two tests that agree
+legal-agree : (f g : Command → Bool) → ((c : Command) → f c ≡ g c) → (t : ℕ) (o : Option Due) → legalAt f t o ≡ legalAt g t o
+legal-agree f g e t none = refl
+legal-agree f g e t (some d) = ap (λ (b : Bool). pick b (some (dueAt t d)) none) (e (dueAt t d))
+
+pub goes-agree : (f g : Command → Bool) → ((c : Command) → f c ≡ g c) → (τ : Table) (l : List Transaction) (t a d : ℕ) → goesBy f τ l t a d ≡ goesBy g τ l t a d
+goes-agree f g e τ l t a d =
+    ap (λ (o : Option Command). otherwise o (legalAt f t (seen t (headAfter (actQueue τ l) a)))) (legal-agree f g e t (hadAct a (seen t (headAfter (dataQueue τ l) d))))
+    ∙ ap (otherwise (legalAt g t (hadAct a (seen t (headAfter (dataQueue τ l) d))))) (legal-agree f g e t (seen t (headAfter (actQueue τ l) a)))
 
 -- what holds of the command that goes: it is the head of its queue and it is legal
 pub goes-all : (legal : Command → Bool) (τ : Table) (l : List Transaction) (t a d : ℕ) (P : Command → Type 0)
     → ((x : Due) → headAfter (dataQueue τ l) d ≡ some x → ltb (x .act) a ≡ true → legal (dueAt t x) ≡ true → P (dueAt t x))
     → ((x : Due) → headAfter (actQueue τ l) a ≡ some x → legal (dueAt t x) ≡ true → P (dueAt t x))
     → OnSome P (goesBy legal τ l t a d)
-goes-all legal τ l t a d P onData onAct = onF (legalAt legal t (hadAct a (headAfter (dataQueue τ l) d))) (onD (headAfter (dataQueue τ l) d) refl)
+goes-all legal τ l t a d P onData onAct = onF (legalAt legal t (hadAct a (seen t (headAfter (dataQueue τ l) d)))) (onD (headAfter (dataQueue τ l) d) refl)
   where
     onH : (x : Due) → headAfter (dataQueue τ l) d ≡ some x → (b : Bool) → ltb (x .act) a ≡ b → OnSome P (legalAt legal t (pick b (some x) none))
     onH x e true u = on-pick P (legal (dueAt t x)) (dueAt t x) none (onData x e u) (λ f. tt)
     onH x e false u = tt
 
-    onD : (o : Option Due) → headAfter (dataQueue τ l) d ≡ o → OnSome P (legalAt legal t (hadAct a o))
+    onD : (o : Option Due) → headAfter (dataQueue τ l) d ≡ o → OnSome P (legalAt legal t (hadAct a (seen t o)))
     onD none e = tt
-    onD (some x) e = onH x e (ltb (x .act) a) refl
+    onD (some x) e = arrived (leb (x .arrival) t)
+      where
+        arrived : (y : Bool) → OnSome P (legalAt legal t (hadAct a (pick y (some x) none)))
+        arrived true = onH x e (ltb (x .act) a) refl
+        arrived false = tt
 
-    onA : (o : Option Due) → headAfter (actQueue τ l) a ≡ o → OnSome P (legalAt legal t o)
+    onA : (o : Option Due) → headAfter (actQueue τ l) a ≡ o → OnSome P (legalAt legal t (seen t o))
     onA none e = tt
-    onA (some x) e = on-pick P (legal (dueAt t x)) (dueAt t x) none (onAct x e) (λ f. tt)
+    onA (some x) e = arrived (leb (x .arrival) t)
+      where
+        arrived : (y : Bool) → OnSome P (legalAt legal t (pick y (some x) none))
+        arrived true = on-pick P (legal (dueAt t x)) (dueAt t x) none (onAct x e) (λ f. tt)
+        arrived false = tt
 
-    onF : (o : Option Command) → OnSome P o → OnSome P (otherwise o (legalAt legal t (headAfter (actQueue τ l) a)))
+    onF : (o : Option Command) → OnSome P o → OnSome P (otherwise o (legalAt legal t (seen t (headAfter (actQueue τ l) a))))
     onF none u = onA (headAfter (actQueue τ l) a) refl
     onF (some c) u = u
 
@@ -102,18 +120,29 @@ module _ (τ : Table) (fit : Held τ) (h : List Command) (s : State) (q : Sums �
     had none i = tt
     had (some x) i = on-pick (λ x. dueIn τ x ≡ true) (ltb (x .act) (s .acts)) x none (λ e. i) (λ e. tt)
 
+    sees : (o : Option Due) → HeadIn τ o → HeadIn τ (seen (s .cycle) o)
+    sees none i = tt
+    sees (some x) i = on-pick (λ x. dueIn τ x ≡ true) (leb (x .arrival) (s .cycle)) x none (λ e. i) (λ e. tt)
+
     act-head : HeadIn τ (headAfter (actQueue τ l) (s .acts))
     act-head = every-at (dueIn τ) (actQueue τ l) (s .acts) (f .acts)
 
     data-head : HeadIn τ (headAfter (dataQueue τ l) (s .datas))
     data-head = every-at (dueIn τ) (dataQueue τ l) (s .datas) (f .datas)
 
+    -- the heads that are seen
+    abbrev seenData : Option Due
+    seenData = seen (s .cycle) (headAfter (dataQueue τ l) (s .datas))
+
+    abbrev seenAct : Option Due
+    seenAct = seen (s .cycle) (headAfter (actQueue τ l) (s .acts))
+
     -- the cycle rule by state is the cycle rule by history
     pub goes-same : goes τ l s ≡ goesAt τ l (s .cycle) h
     goes-same =
-        ap (λ (o : Option Command). otherwise o (legalAt (breaksNone τ s) (s .cycle) (headAfter (actQueue τ l) (s .acts))))
-        (at-head (hadAct (s .acts) (headAfter (dataQueue τ l) (s .datas))) (had (headAfter (dataQueue τ l) (s .datas)) data-head))
-        ∙ (ap (otherwise (legalAt legal (s .cycle) (hadAct (s .acts) (headAfter (dataQueue τ l) (s .datas))))) (at-head (headAfter (actQueue τ l) (s .acts)) act-head)
+        ap (λ (o : Option Command). otherwise o (legalAt (breaksNone τ s) (s .cycle) seenAct))
+        (at-head (hadAct (s .acts) seenData) (had seenData (sees (headAfter (dataQueue τ l) (s .datas)) data-head)))
+        ∙ (ap (otherwise (legalAt legal (s .cycle) (hadAct (s .acts) seenData))) (at-head seenAct (sees (headAfter (actQueue τ l) (s .acts)) act-head))
         ∙ (ap (λ (a : ℕ). goesBy legal τ l (s .cycle) a (s .datas)) (q .acts) ∙ ap (goesBy legal τ l (s .cycle) (actsIn h)) (q .datas)))
 
     -- what goes: at the state's cycle, in the table, breaking no rule

@@ -37,6 +37,7 @@ pub mod Places
 pub mod Exact
 pub mod ToEnd
 pub mod Count
+pub mod Arrived
 pub mod Front
 pub mod StillOpen
 pub mod OfFirst
@@ -50,3 +51,5 @@ pub mod OneGroup
 pub mod Bursts
 pub mod Pins
 pub mod PinShare
+pub mod Lent
+pub mod Pieces

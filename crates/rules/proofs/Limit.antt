@@ -4,16 +4,18 @@ use Prim.Native.Nat.{ℕ, zero, suc, _+_, _-_, _*_, _≤_, _<_, max}
 use native.Mathlib.Omega.{arith}
 use native.Mathlib.Nat.{mul-le-mul-right, max-le}
 use mathlib.Core.Logic.{inl, inr}
+use mathlib.Core.Path.{_≡_}
 use mathlib.Core.Bool.{Bool, true, false}
 use mathlib.Core.List.{List, [], _∷_}
 use lib.ListN.{length}
 use Rattle.records.specs.declared.table.Table.{Table}
 use Rattle.records.specs.declared.transaction.Transaction.{Transaction}
-use Rattle.records.specs.Tests.{pick}
-use Rattle.records.specs.Transaction.{isRefresh}
+use Rattle.records.specs.Tests.{pick, every}
+use Rattle.records.specs.Transaction.{isRefresh, fits}
 use Rattle.rules.specs.Bound.{mostCcd, boundS, boundD, boundX, bound, startAt}
+use Rattle.rules.proofs.TestLaws.{and-fst, and-snd}
 use Rattle.rules.proofs.Ranges.{Ranges}
-use Rattle.rules.proofs.Fit.{Fits, AllFit}
+use Rattle.rules.proofs.Fit.{Fits, AllFit, arrives}
 use Rattle.rules.proofs.Finishes.{nth}
 use Rattle.rules.proofs.Served.{full, total}
 
@@ -60,16 +62,25 @@ module _ (τ : Table) (rng : Ranges τ) where
       on true = omega (arith, S-max, rng .rfc)
       on false = bound-max (x .bi) (x .bc) hi hc
 
-  start-max : (x : Transaction) (F m : ℕ) → F ≤ m → startAt x F ≤ m
+  start-max : (x : Transaction) (F m : ℕ) → F ≤ m → x .arrival ≤ m → startAt x F ≤ m
   unfolding startAt
-  start-max x F m h = h
+  start-max x F m h g = omega arith
 
-  total-max : (l : List Transaction) → AllFit τ l → (k : ℕ) → total τ l k ≤ k * 265980
-  total-max l v zero = omega arith
-  total-max l v (suc k) =
+  arrives-at : (l : List Transaction) → every (fits τ) l ≡ true → (k : ℕ) → nth l k .arrival ≤ 20000000
+  arrives-at [] e k = omega arith
+  arrives-at (x ∷ l) e zero = arrives τ x (and-fst (fits τ x) (every (fits τ) l) e)
+  arrives-at (x ∷ l) e (suc k) = arrives-at l (and-snd (fits τ x) (every (fits τ) l) e) k
+
+  total-max : (l : List Transaction) → AllFit τ l → every (fits τ) l ≡ true → (k : ℕ) → total τ l k ≤ 20000000 + k * 265980
+  total-max l v e zero = omega arith
+  total-max l v e (suc k) =
       let x = nth l k in
       let small = small-at l v k in
-      omega (arith, full-max x (small .0) (small .1), start-max x (total τ l k) (k * 265980) (total-max l v k))
+      omega (
+        arith,
+        full-max x (small .0) (small .1),
+        start-max x (total τ l k) (20000000 + k * 265980) (total-max l v e k) (omega (arith, arrives-at l e k)),
+      )
 
-  pub never-long : (l : List Transaction) → AllFit τ l → length l ≤ 256 → total τ l (length l) < 100000000
-  never-long l v h = omega (arith, total-max l v (length l))
+  pub never-long : (l : List Transaction) → AllFit τ l → every (fits τ) l ≡ true → length l ≤ 256 → total τ l (length l) < 100000000
+  never-long l v e h = omega (arith, total-max l v e (length l))

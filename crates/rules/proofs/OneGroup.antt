@@ -10,7 +10,7 @@ use mathlib.Core.List.{List, [], _∷_}
 use lib.Dec.{eqb}
 use lib.ListN.{length, length-set}
 use lib.Seq.{getD-set-same}
-use Rattle.records.specs.Tests.{pick, allOf, every, everyBelow}
+use Rattle.records.specs.Tests.{pick, allOf, everyBelow}
 use Rattle.records.specs.declared.table.Table.{Table}
 use Rattle.records.specs.declared.transaction.Transaction.{Transaction}
 use Rattle.records.specs.declared.command.Kind.{Kind}
@@ -32,24 +32,14 @@ use Rattle.rules.specs.State.{past, quiet, groupAt, farBy, rule6, rule9,
 use Rattle.rules.specs.History.{far, nearTo, farAct, farData, rulesBy, rules, broken, isFine}
 use Rattle.rules.specs.Verdict.{judgeFrom}
 use Rattle.rules.specs.Pattern.{copy, onto, copiesFrom}
-use Rattle.rules.specs.Queues.{Due, dueAt, actQueue, dataQueue, headAfter}
-use Rattle.rules.specs.CycleRule.{hadAct, legalAt, otherwise, goesBy, goesAt, gone, goes, push, actsIn, datasIn}
+use Rattle.rules.specs.CycleRule.{goesAt, gone, goes, push, actsIn, datasIn}
 use Rattle.rules.specs.Run.{stops, Ran, oneMore, run}
 use Rattle.rules.specs.Bound.{boundS, boundD, boundX, bound, span}
 use Rattle.rules.specs.Before as Before
 use Rattle.rules.specs.Before.{OldState, OldRan, OneGroup, was, ActFirst, AsBefore, OneGroupBefore}
 use Rattle.records.proofs.Inverse.{plain-at}
 use Rattle.rules.proofs.Newest.{every-same}
-
--- what goes, by two tests that agree
-legal-agree : (f g : Command → Bool) → ((c : Command) → f c ≡ g c) → (t : ℕ) (o : Option Due) → legalAt f t o ≡ legalAt g t o
-legal-agree f g e t none = refl
-legal-agree f g e t (some d) = ap (λ (b : Bool). pick b (some (dueAt t d)) none) (e (dueAt t d))
-
-goes-agree : (f g : Command → Bool) → ((c : Command) → f c ≡ g c) → (τ : Table) (l : List Transaction) (t a d : ℕ) → goesBy f τ l t a d ≡ goesBy g τ l t a d
-goes-agree f g e τ l t a d =
-    ap (λ (o : Option Command). otherwise o (legalAt f t (headAfter (actQueue τ l) a))) (legal-agree f g e t (hadAct a (headAfter (dataQueue τ l) d)))
-    ∙ ap (otherwise (legalAt g t (hadAct a (headAfter (dataQueue τ l) d)))) (legal-agree f g e t (headAfter (actQueue τ l) a))
+use Rattle.rules.proofs.Legal.{goes-agree}
 
 module _ (τ : Table) (q : OneGroup τ) where
   -- every bank is in group 0

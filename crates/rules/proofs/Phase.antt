@@ -82,6 +82,8 @@ pub record Serving (τ : Table) (l : List Transaction) (A0 M0 : ℕ) (x : Transa
   -- the next ACT is not late, and neither is the data command
   pub actTime : (k : ℕ) → s .acts ≡ A0 + k → k < x .bi → InTime τ F (isWrite x) s k
   pub dataTime : s .cycle ≤ byData τ F x j r
+  -- no count starts before the arrival
+  pub arrived : x .arrival ≤ F
 
 -- between transactions: A commands of the ACT queue and M data commands belong to those that are done, the last command went at c, and the next count starts at F
 pub record Between (τ : Table) (l : List Transaction) (A M c F : ℕ) (ta : ℕ → ℕ) (s : State) : Type 0 where
@@ -110,8 +112,8 @@ between-later τ l A M c F F' ta s h q =
 
 -- the next transaction begins
 pub enter : (τ : Table) (rng : Ranges τ) (l : List Transaction) (A M : ℕ) (x : Transaction) (sp : Spot τ l A M x) (c F : ℕ) (ta : ℕ → ℕ) (s : State)
-    → Between τ l A M c F ta s → Serving τ l A M x F ta 0 0 s
-enter τ rng l A M x sp c F ta s q =
+    → x .arrival ≤ F → Between τ l A M c F ta s → Serving τ l A M x F ta 0 0 s
+enter τ rng l A M x sp c F ta s ar q =
     record {
       base = let e : A + 0 ≡ A = omega arith in rw e (base-up τ l A ta c (s .cycle) s (q .lo) (q .base));
       cnt = omega (arith, q .cnt);
@@ -130,6 +132,7 @@ enter τ rng l A M x sp c F ta s q =
           (bF .cold (bankAt τ x i) (bank-lt τ x (sp .ok) i k));
       actTime = λ k ek kl. time k;
       dataTime = omega (arith, q .hi, due-act τ (x .bc) 0 0, S-one τ);
+      arrived = ar;
     }
   where
     bF : Base τ l A ta F s

@@ -30,7 +30,7 @@ use Rattle.rules.proofs.Below.{below-same}
 use Rattle.rules.proofs.Queue.{Place, dataCount, actPlace, dataPlace, dataDue}
 use Rattle.rules.proofs.Fit.{AllFit, Inside, place-at, act-bank, data-bank}
 use Rattle.rules.proofs.DataKinds.{rules-kind}
-use Rattle.rules.proofs.Heads.{dataFrom, actFrom, goes-place, goes-try}
+use Rattle.rules.proofs.Heads.{seenPlace, on-seen, dataFrom, actFrom, goes-place, goes-try}
 use Rattle.rules.proofs.Caps.{after-size, after-groups}
 use Rattle.rules.proofs.RunTo.{stopped, going, run-steps}
 
@@ -45,6 +45,10 @@ module _ (τ : Table) (some-group : 1 ≤ τ .groups) (l : List Transaction) (v 
   after-edition : (s : State) (o : Option Command) → after τ s o .edition ≡ s .edition
   after-edition s none = refl
   after-edition s (some c) = refl
+
+  after-lent : (s : State) (o : Option Command) → after τ s o .lent ≡ s .lent
+  after-lent s none = refl
+  after-lent s (some c) = refl
 
   after-past : (s : State) (o : Option Command) → OnSome (λ c. c .bank < τ .banks) o → drop (τ .banks) (after τ s o .banks) ≡ drop (τ .banks) (s .banks)
   after-past s none k = refl
@@ -61,9 +65,10 @@ module _ (τ : Table) (some-group : 1 ≤ τ .groups) (l : List Transaction) (v 
     pub pastGroups : drop (τ .groups) (u .groups) ≡ drop (τ .groups) (s .groups)
     pub groupCount : length (u .groups) ≡ length (s .groups)
     pub edition : u .edition ≡ s .edition
+    pub lent : u .lent ≡ s .lent
 
   steps-past : (n : ℕ) (s : State) (h : List Command) → Untouched s (steps n τ l s h .0)
-  steps-past zero s h = record { pastBanks = refl; bankCount = refl; pastGroups = refl; groupCount = refl; edition = refl }
+  steps-past zero s h = record { pastBanks = refl; bankCount = refl; pastGroups = refl; groupCount = refl; edition = refl; lent = refl }
   steps-past (suc n) s h =
       let ih = steps-past n (after τ s (goes τ l s)) (push (goes τ l s) h) in
       record {
@@ -72,6 +77,7 @@ module _ (τ : Table) (some-group : 1 ≤ τ .groups) (l : List Transaction) (v 
         pastGroups = ih .pastGroups ∙ after-past-groups s (goes τ l s);
         groupCount = ih .groupCount ∙ after-groups τ s (goes τ l s);
         edition = ih .edition ∙ after-edition s (goes τ l s);
+        lent = ih .lent ∙ after-lent s (goes τ l s);
       }
 
   pub past-kept : (n : ℕ) (s : State) (h : List Command) → Untouched s (run n τ l s h .state)
@@ -131,8 +137,9 @@ module _ (τ : Table) (some-group : 1 ≤ τ .groups) (l : List Transaction) (v 
         rw (
           goes-try τ l s,
           goes-try τ l u,
-          data-same (dataPlace l (s .datas)) (place-at τ dataCount l v 0 0 (s .datas)),
-          act-same (actPlace l (s .acts)) (place-at τ actCount l v 0 0 (s .acts)),
+          data-same (seenPlace (s .cycle) (dataPlace l (s .datas))) (on-seen (Inside τ dataCount) (s .cycle) (dataPlace l (s .datas)) (place-at τ dataCount l v 0 0 (s .datas))),
+          act-same (seenPlace (s .cycle) (actPlace l (s .acts))) (on-seen (Inside τ actCount) (s .cycle) (actPlace l (s .acts)) (place-at τ actCount l v 0 0 (s .acts))),
+          q .cycle,
           q .datas,
           q .acts,
         )

@@ -33,7 +33,7 @@ use Rattle.rules.proofs.Numbers.{same?}
 use Rattle.rules.proofs.Queue.{Place, dataCount, actPlace, dataPlace, dataDue, actBank, actSum, dataSum, find-end}
 use Rattle.rules.proofs.Fit.{AllFit, Inside, place-at, data-bank}
 use Rattle.rules.proofs.DataKinds.{rules-kind}
-use Rattle.rules.proofs.Heads.{dataFrom, actFrom, tryData, tryAct, goes-try, test-at, actOk, refreshOk}
+use Rattle.rules.proofs.Heads.{seenPlace, on-seen, dataFrom, actFrom, tryData, tryAct, goes-try, test-at, actOk, refreshOk}
 use Rattle.rules.proofs.Caps.{after-size, acts-up, datas-up}
 use Rattle.rules.proofs.Progress.{Progress, progress-fresh, progress-step}
 use Rattle.rules.proofs.Front.{find-front, actOf, Own, data-own, actOf-lt}
@@ -47,8 +47,10 @@ module _ (τ : Table) (rng : Ranges τ) (xs ys : List Transaction) (v : AllFit �
     -- both test the head of the data queue alike
     head-same : tryData τ xs s ≡ tryData τ (xs ++ ys) u
     head-same =
-        on (dataPlace xs (s .datas)) (data-own τ xs v 0 0 (s .datas))
-        ∙ ap (dataFrom (breaksNone τ u) τ (u .cycle) (u .acts)) (sym (ap (dataPlace (xs ++ ys)) (sym (q .datas)) ∙ find-front dataCount ys xs 0 0 (s .datas) more))
+        on (seenPlace (s .cycle) (dataPlace xs (s .datas))) (on-seen (Own τ xs 0 (s .datas)) (s .cycle) (dataPlace xs (s .datas)) (data-own τ xs v 0 0 (s .datas)))
+        ∙ (ap (λ (t : ℕ). dataFrom (breaksNone τ u) τ (u .cycle) (u .acts) (seenPlace t (dataPlace xs (s .datas)))) (q .cycle)
+        ∙ ap (λ (o : Option Place). dataFrom (breaksNone τ u) τ (u .cycle) (u .acts) (seenPlace (u .cycle) o))
+        (sym (ap (dataPlace (xs ++ ys)) (sym (q .datas)) ∙ find-front dataCount ys xs 0 0 (s .datas) more)))
       where
         nine : (w : Bool) (t b : ℕ) → rule9 τ s w t b ≡ rule9 τ u w t b
         nine w t b =
@@ -78,7 +80,9 @@ module _ (τ : Table) (rng : Ranges τ) (xs ys : List Transaction) (v : AllFit �
     Head c = (c .bank ≡ actBank τ xs (actOf xs (s .datas))) × (c .bank < τ .banks)
 
     head-is : OnSome Head (tryData τ xs s)
-    head-is = on (dataPlace xs (s .datas)) (data-own τ xs v 0 0 (s .datas)) (place-at τ dataCount xs v 0 0 (s .datas))
+    head-is =
+        on (seenPlace (s .cycle) (dataPlace xs (s .datas))) (on-seen (Own τ xs 0 (s .datas)) (s .cycle) (dataPlace xs (s .datas)) (data-own τ xs v 0 0 (s .datas)))
+        (on-seen (Inside τ dataCount) (s .cycle) (dataPlace xs (s .datas)) (place-at τ dataCount xs v 0 0 (s .datas)))
       where
         on : (o : Option Place) → OnSome (Own τ xs 0 (s .datas)) o → OnSome (Inside τ dataCount) o → OnSome Head (dataFrom (breaksNone τ s) τ (s .cycle) (s .acts) o)
         on none k k' = tt
@@ -204,7 +208,8 @@ module _ (τ : Table) (rng : Ranges τ) (xs ys : List Transaction) (v : AllFit �
         on none p k =
             let a : goes τ xs s ≡ none = goes-try τ xs s ∙ rw (p, find-end actCount xs 0 0 (s .acts) (q .actsS)) in
             let b : goes τ (xs ++ ys) u ≡ tryAct τ (xs ++ ys) u = goes-try τ (xs ++ ys) u ∙ rw (← head-same, p) in
-            rw (a, b) (onA (actPlace (xs ++ ys) (u .acts)) (later-number τ xs ys actCount (u .acts) (q .actsU)))
+            rw (a, b) (onA (seenPlace (u .cycle) (actPlace (xs ++ ys) (u .acts)))
+            (on-seen (λ p. length xs ≤ p .number) (u .cycle) (actPlace (xs ++ ys) (u .acts)) (later-number τ xs ys actCount (u .acts) (q .actsU))))
         on (some c) p k =
             let a : goes τ xs s ≡ some c = goes-try τ xs s ∙ rw p in
             let b : goes τ (xs ++ ys) u ≡ some c = goes-try τ (xs ++ ys) u ∙ rw (← head-same, p) in

@@ -26,7 +26,7 @@ use Rattle.rules.proofs.Queue.{dataCount, bankOfPlace, sum, actSum, dat
 use Rattle.rules.proofs.Fit.{Fits, AllFit, plain-fit, refresh-of}
 use Rattle.rules.proofs.Recent.{ext, ext-eq}
 use Rattle.rules.proofs.Base.{Base, base-idle, base-fresh}
-use Rattle.rules.proofs.Due.{start-ge}
+use Rattle.rules.proofs.Due.{start-ge, start-arrival}
 use Rattle.rules.proofs.Phase.{Spot, Serving, Between, between-later, enter}
 use Rattle.rules.proofs.Run.{OfNumber, LastOf, Next, phase-step}
 use Rattle.rules.proofs.RefNext.{RefNext, enter-ref, NextRef, not-act, refresh-step}
@@ -81,7 +81,7 @@ go-on τ rng l p (x ∷ rest) v e c F ta s q = on (isRefresh x) refl
     on true er =
         let w = refresh-of τ x (fit-mid τ p x rest (rw e at v)) er in
         (ta, c, enter-ref τ rng l (actSum p) (dataSum p) (startAt x F) (rw e (not-act τ rng p x rest w)) c ta s q')
-    on false er = (ta, 0, 0, enter τ rng l (actSum p) (dataSum p) x (spot τ l p x rest v e er) c (startAt x F) ta s q')
+    on false er = (ta, 0, 0, enter τ rng l (actSum p) (dataSum p) x (spot τ l p x rest v e er) c (startAt x F) ta s (start-arrival x F) q')
 
 pub progress-fresh : (τ : Table) (rng : Ranges τ) (l : List Transaction) → AllFit τ l → Progress τ l (fresh τ) []
 progress-fresh τ rng l v =
@@ -203,7 +203,7 @@ module _ (τ : Table) (rng : Ranges τ) (l : List Transaction) (v : AllFit τ l)
             by : (z : Bool) → isRefresh x ≡ z → InService z τ l (q .done) x F' s → After (goes τ l s)
             by true er w = inRef (subst (λ (m : List Transaction). NextRef τ m (actSum (q .done)) (dataSum (q .done)) x F' K s (goes τ m s)) (sym e)
                 (refresh-step τ rng (q .done) x rest (refresh-of τ x (fit-mid τ (q .done) x rest (rw e at v)) er) F' (w .0) (w .1) s
-                (subst (λ (m : List Transaction). RefNext τ m (actSum (q .done)) (dataSum (q .done)) F' (w .0) (w .1) s) e (w .2))))
+                (subst (λ (m : List Transaction). RefNext τ m (actSum (q .done)) (dataSum (q .done)) F' (w .0) (w .1) s) e (w .2)) (start-arrival x F)))
               where
                 inRef : NextRef τ l (actSum (q .done)) (dataSum (q .done)) x F' K s (goes τ l s) → After (goes τ l s)
                 inRef (inl y) =

@@ -9,14 +9,15 @@ use mathlib.Core.Option.{some}
 use mathlib.Core.List.{List, [], _∷_, _++_}
 use lib.Dec.{leb, ltb, eqb}
 use lib.ListN.{length, getElem?, length-append}
-use borrow.Author.Tests.{ltb-true, leb-true, le-leb}
+use borrow.Author.Tests.{ltb-true, le-leb}
 use Rattle.records.specs.declared.table.Table.{Table}
 use Rattle.records.specs.declared.transaction.Transaction.{Transaction}
 use Rattle.records.specs.declared.command.Command.{Command}
 use Rattle.rules.specs.declared.state.Stamp.the-variants.{At}
 use Rattle.records.specs.Tests.{pick, every}
 use Rattle.records.specs.Table.{Accepted}
-use Rattle.records.specs.Transaction.{isWrite, isRefresh, fits, listFits}
+use Rattle.records.specs.Transaction.{isWrite, isRefresh, fitsFrom, listFits}
+use Rattle.records.proofs.Arrivals.{fits-front, few-listed}
 use Rattle.rules.specs.Kinds.{canEnd}
 use Rattle.rules.specs.Pattern.{onto}
 use Rattle.rules.specs.CycleRule.{gone, Built}
@@ -29,7 +30,8 @@ use Rattle.rules.proofs.Finishes.{nth, Finishes}
 use Rattle.rules.proofs.Served.{total}
 use Rattle.rules.proofs.RunTo.{n-then-m}
 use Rattle.rules.proofs.Places.{past-kept, past-unread}
-use Rattle.rules.proofs.Count.{run-room}
+use Rattle.rules.proofs.Count.{every-onto, run-room}
+use Rattle.rules.proofs.Arrived.{built-arrived, run-arrived}
 use Rattle.rules.proofs.OfFirst.{first-onto, last-first}
 use Rattle.rules.proofs.Prefix.{front-unmoved}
 use Rattle.rules.proofs.Built.{each-fits, historyAt, by-state, stop-built, enough, exists, built-only, built-at, built-count, built-passes, built-early, built-bound, run-built, run-reports, run-ends}
@@ -41,15 +43,10 @@ at-number (y ∷ l) zero x e = (cc, omega arith)
 at-number (y ∷ l) (suc k) x e = let z = at-number l k x e in (z .0, omega (arith, z .1))
 
 -- a list that fits has a front that fits
-every-front : (f : Transaction → Bool) (xs ys : List Transaction) → every f (xs ++ ys) ≡ true → every f xs ≡ true
-every-front f [] ys e = refl
-every-front f (x ∷ xs) ys e = and-both (f x) (every f xs) (and-fst (f x) (every f (xs ++ ys)) e) (every-front f xs ys (and-snd (f x) (every f (xs ++ ys)) e))
-
 front-fits : (τ : Table) (xs ys : List Transaction) → listFits τ (xs ++ ys) ≡ true → listFits τ xs ≡ true
 front-fits τ xs ys e =
-    let h : length (xs ++ ys) ≤ 256 = leb-true (length (xs ++ ys)) 256 (and-fst (leb (length (xs ++ ys)) 256) (every (fits τ) (xs ++ ys)) e) in
-    and-both (leb (length xs) 256) (every (fits τ) xs) (le-leb (length xs) 256 (omega (arith, h, length-append xs ys)))
-    (every-front (fits τ) xs ys (and-snd (leb (length (xs ++ ys)) 256) (every (fits τ) (xs ++ ys)) e))
+    and-both (leb (length xs) 256) (fitsFrom 0 τ xs) (le-leb (length xs) 256 (omega (arith, few-listed τ (xs ++ ys) e, length-append xs ys)))
+    (fits-front τ xs ys 0 (and-snd (leb (length (xs ++ ys)) 256) (fitsFrom 0 τ (xs ++ ys)) e))
 
 -- what a later last command does to the finish
 later : (τ : Table) (x : Transaction) (c d : ℕ) → c ≤ d → finishOf τ x c ≤ finishOf τ x d
@@ -61,11 +58,6 @@ later τ x c d h = on (isRefresh x) (isWrite x)
     on false false = omega arith
 
 -- where all commands go early, the last commands do
-every-onto : (f : Command → Bool) (rs h : List Command) → every f rs ≡ true → every f h ≡ true → every f (onto rs h) ≡ true
-every-onto f [] h e g = g
-every-onto f (r ∷ rs) h e g =
-    every-onto f rs (r ∷ h) (and-snd (f r) (every f rs) e) (and-both (f r) (every f h) (and-fst (f r) (every f rs) e) g)
-
 early-last : (k : ℕ) (h : List Command) → every (λ r. ltb (r .cycle) 100000000) h ≡ true → cycleOf (lastCommandIn k h) < 100000000
 early-last k [] e = omega arith
 early-last k (r ∷ h) e = on (eqb (r .number) k && canEnd (r .kind)) (early-last k h (and-snd (ltb (r .cycle) 100000000) (every (λ r. ltb (r .cycle) 100000000) h) e))
@@ -83,19 +75,18 @@ module _ (τ : Table) (acc : Accepted τ) where
     last-is k z = let e = fin .2 .got k z in e ∙ ap At (sym (ap cycleOf e))
 
     -- a last command is within its span after where its count started
-    within-span : (k : ℕ) (x : Transaction) → getElem? l k ≡ some x → lastCommandCycle k rs ≤ fin .1 k + span τ x
-    unfolding startAt
+    within-span : (k : ℕ) (x : Transaction) → getElem? l k ≡ some x → lastCommandCycle k rs ≤ startAt x (fin .1 k) + span τ x
     within-span k x e =
         let a = at-number l k x e in
-        let n : fin .0 k ≤ fin .1 k + span τ x = rw (a .0) at (fin .2 .near k (a .1)) in
+        let n : fin .0 k ≤ startAt x (fin .1 k) + span τ x = rw (a .0) at (fin .2 .near k (a .1)) in
         omega (arith, ap cycleOf (fin .2 .got k (a .1)), n)
 
-    first-in : (x : Transaction) → getElem? l 0 ≡ some x → lastCommandCycle 0 rs ≤ span τ x
-    first-in x e = omega (arith, within-span 0 x e, fin .2 .zeroth)
+    first-in : (x : Transaction) → getElem? l 0 ≡ some x → lastCommandCycle 0 rs ≤ startAt x 0 + span τ x
+    first-in x e = omega (arith, within-span 0 x e, ap (startAt x) (fin .2 .zeroth))
 
     next-in : (k : ℕ) (w x : Transaction) → getElem? l k ≡ some w → getElem? l (suc k) ≡ some x
-        → lastCommandCycle (suc k) rs ≤ countFrom τ w (lastCommandCycle k rs) + span τ x
-    next-in k w x d e = omega (arith, within-span (suc k) x e, counted)
+        → lastCommandCycle (suc k) rs ≤ startAt x (countFrom τ w (lastCommandCycle k rs)) + span τ x
+    next-in k w x d e = omega (arith, within-span (suc k) x e, ap (startAt x) counted)
       where
         counted : fin .1 (suc k) ≡ countFrom τ w (lastCommandCycle k rs)
         counted =
@@ -150,12 +141,13 @@ module _ (τ : Table) (acc : Accepted τ) where
         only = λ rs' b'. built-only τ acc l fit rs' rs b' b;
         count = built-count τ acc l fit rs b;
         passes = built-passes τ acc l fit rs b;
+        notBefore = built-arrived l τ rs b;
         finishes = last-is l fit rs b;
         firstIn = first-in l fit rs b;
         nextIn = next-in l fit rs b;
         finishAt = finish-at l fit rs b;
-        firstFinish = λ x e. finish-by l fit rs b 0 (span τ x) x e (first-in l fit rs b x e);
-        nextFinish = λ k w x d e. finish-by l fit rs b (suc k) (countFrom τ w (lastCommandCycle k rs) + span τ x) x e (next-in l fit rs b k w x d e);
+        firstFinish = λ x e. finish-by l fit rs b 0 (startAt x 0 + span τ x) x e (first-in l fit rs b x e);
+        nextFinish = λ k w x d e. finish-by l fit rs b (suc k) (startAt x (countFrom τ w (lastCommandCycle k rs)) + span τ x) x e (next-in l fit rs b k w x d e);
         finishFits = finish-fits l fit rs b;
         unmoved = λ xs ys e. unmoved xs ys (subst (λ (y : List Transaction). listFits τ y ≡ true) e fit) rs (subst (λ (y : List Transaction). Built τ y rs) e b);
         sameFinish = λ xs ys e k z. ap (lastCommandIn k) (sym (first-onto (length xs) rs [])) ∙ last-first k (length xs) z (onto rs []);
@@ -174,7 +166,9 @@ module _ (τ : Table) (acc : Accepted τ) where
   runs-kept l fit =
       record {
         splits = λ n m s. n-then-m n m τ l s;
+        notBefore = run-arrived l τ;
         edition = λ n s. past-kept τ (ranges τ acc .groups .least) l (each-fits τ acc l fit) n s [] .edition;
+        lent = λ n s. past-kept τ (ranges τ acc .groups .least) l (each-fits τ acc l fit) n s [] .lent;
         size = λ n s. past-kept τ (ranges τ acc .groups .least) l (each-fits τ acc l fit) n s [] .bankCount;
         pastKept = λ n s. past-kept τ (ranges τ acc .groups .least) l (each-fits τ acc l fit) n s [] .pastBanks;
         groupSize = λ n s. past-kept τ (ranges τ acc .groups .least) l (each-fits τ acc l fit) n s [] .groupCount;

@@ -47,7 +47,7 @@ dataPlace l n = find dataCount l 0 0 n
 -- what stands there
 abbrev pub actDue : Table → Place → Due
 actDue τ p =
-    record { kind = actKind (p .transaction); bank = actBankAt τ (p .transaction) (p .offset); number = p .number; act = p .before + p .offset }
+    record { kind = actKind (p .transaction); bank = actBankAt τ (p .transaction) (p .offset); number = p .number; act = p .before + p .offset; arrival = p .transaction .arrival }
 
 abbrev pub dataDue : Table → Place → Due
 dataDue τ p =
@@ -56,6 +56,7 @@ dataDue τ p =
       bank = bankAt τ (p .transaction) (p .offset / p .transaction .bc);
       number = p .number;
       act = p .before + p .offset / p .transaction .bc;
+      arrival = p .transaction .arrival;
     }
 
 -- the bank of the n-th command of the ACT queue, and that it is an ACT
@@ -159,16 +160,16 @@ module _ (f : Transaction → ℕ → ℕ → List Due) (cnt : Transaction → �
 -- the two queues, by their places
 module _ (τ : Table) where
   act-size : (x : Transaction) (i a : ℕ) → length (actsOf τ x i a) ≡ actCount x
-  act-size x i a = numbered-length (λ k. record { kind = actKind x; bank = actBankAt τ x k; number = i; act = a + k }) (actCount x) 0
+  act-size x i a = numbered-length (λ k. record { kind = actKind x; bank = actBankAt τ x k; number = i; act = a + k; arrival = x .arrival }) (actCount x) 0
 
   act-place : (x : Transaction) (i a n : ℕ) → n < actCount x → getElem? (actsOf τ x i a) n ≡ some (actDue τ (placeOf x i a n))
   act-place x i a n h =
-      numbered-at (λ k. record { kind = actKind x; bank = actBankAt τ x k; number = i; act = a + k }) (actCount x) 0 n h
+      numbered-at (λ k. record { kind = actKind x; bank = actBankAt τ x k; number = i; act = a + k; arrival = x .arrival }) (actCount x) 0 n h
       ∙ ap (λ (k : ℕ). some (actDue τ (placeOf x i a k))) (zero-add n)
 
   burst-size : (x : Transaction) (i a k : ℕ) → length (burstsOf τ x i a k) ≡ x .bc
   burst-size x i a k =
-      numbered-length (λ m. record { kind = dataKind (isWrite x) (eqb (m + 1) (x .bc)); bank = bankAt τ x k; number = i; act = a + k }) (x .bc) 0
+      numbered-length (λ m. record { kind = dataKind (isWrite x) (eqb (m + 1) (x .bc)); bank = bankAt τ x k; number = i; act = a + k; arrival = x .arrival }) (x .bc) 0
 
   data-size : (x : Transaction) (i a : ℕ) → length (datasOf τ x i a) ≡ dataCount x
   data-size x i a = joined-length (burstsOf τ x i a) (x .bc) (burst-size x i a) (x .bi) 0
@@ -182,7 +183,7 @@ module _ (τ : Table) where
     where
       bursts : ℕ → Due
       bursts m =
-          record { kind = dataKind (isWrite x) (eqb (m + 1) (x .bc)); bank = bankAt τ x (n / x .bc); number = i; act = a + n / x .bc }
+          record { kind = dataKind (isWrite x) (eqb (m + 1) (x .bc)); bank = bankAt τ x (n / x .bc); number = i; act = a + n / x .bc; arrival = x .arrival }
 
       mod-lt' : (c : ℕ) → c ≡ x .bc → n % x .bc < x .bc
       mod-lt' zero e = absurd (omega (arith, ap (λ (y : ℕ). x .bi * y) e))

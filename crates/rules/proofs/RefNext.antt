@@ -7,8 +7,9 @@ use mathlib.Core.Logic.{_⊎_, inl, inr, ⊎-elim}
 use mathlib.Core.Bool.{Bool, true, false, not}
 use mathlib.Core.Option.{Option, none, some}
 use mathlib.Core.List.{List, [], _∷_, _++_, append-assoc}
+use lib.Dec.{leb}
 use lib.ListN.{length}
-use borrow.Author.Tests.{le-ltb}
+use borrow.Author.Tests.{le-ltb, leb-false}
 use Rattle.records.specs.declared.table.Table.{Table}
 use Rattle.records.specs.declared.transaction.Transaction.{Transaction}
 use Rattle.records.specs.declared.command.Kind.the-variants.{Ref}
@@ -30,7 +31,7 @@ use Rattle.rules.proofs.Below.{below-all}
 use Rattle.rules.proofs.Queue.{Place, dataCount, placeOf, actPlace, dataPlace, dataDue, actOfPlace, isActAt, actSum, dataSum, at-own, sum-append}
 use Rattle.rules.proofs.Fit.{Refreshing}
 use Rattle.rules.proofs.Front.{find-back}
-use Rattle.rules.proofs.Heads.{dataFrom, actFrom, tryData, tryAct, goes-try, refreshOk}
+use Rattle.rules.proofs.Heads.{seenPlace, on-seen, dataFrom, actFrom, tryData, tryAct, goes-try, refreshOk}
 use Rattle.rules.proofs.Recent.{Upto, upto-map, upto-past, ext, ext-other}
 use Rattle.rules.proofs.Base.{Base, base-idle, base-ref}
 use Rattle.rules.proofs.Due.{S-one, S-ras, S-rd, S-wr}
@@ -144,7 +145,9 @@ module _ (τ : Table) (rng : Ranges τ) (p : List Transaction) (x : Transaction)
   module _ (F : ℕ) (ta : ℕ → ℕ) (c : ℕ) (s : State) (q : RefNext τ L (actSum p) (dataSum p) F ta c s) where
     -- the head of the data queue comes after the REF
     no-data : tryData τ L s ≡ none
-    no-data = on (dataPlace L (s .datas)) (subst (λ (y : List Transaction). OnSome Beyond (dataPlace y (s .datas))) (append-assoc p (x ∷ []) rest) beyond)
+    no-data =
+        on (seenPlace (s .cycle) (dataPlace L (s .datas))) (on-seen Beyond (s .cycle) (dataPlace L (s .datas))
+        (subst (λ (y : List Transaction). OnSome Beyond (dataPlace y (s .datas))) (append-assoc p (x ∷ []) rest) beyond))
       where
         Beyond : Place → Type 0
         Beyond y = (0 + length (p ++ x ∷ []) ≤ y .number) × (0 + actSum (p ++ x ∷ []) ≤ y .before)
@@ -159,18 +162,25 @@ module _ (τ : Table) (rng : Ranges τ) (p : List Transaction) (x : Transaction)
         on none h = refl
         on (some y) h = rw (le-ltb (dataDue τ y .act) (s .acts) (omega (arith, h .1, more, q .here)))
 
-    pub refresh-step : NextRef τ L (actSum p) (dataSum p) x F (length p) s (goes τ L s)
+    pub refresh-step : x .arrival ≤ F → NextRef τ L (actSum p) (dataSum p) x F (length p) s (goes τ L s)
     unfolding NextRef
-    refresh-step = subst (λ (o : Option Command). NextRef τ L (actSum p) (dataSum p) x F (length p) s o) (sym total) (on (refreshOk τ s) refl)
+    refresh-step ar =
+        subst (λ (o : Option Command). NextRef τ L (actSum p) (dataSum p) x F (length p) s o) (sym total) (onSeen (leb (x .arrival) (s .cycle)) refl)
       where
         cmd : Command
         cmd = command (s .cycle) Ref 0 (length p)
 
-        total : goes τ L s ≡ pick (refreshOk τ s) (some cmd) none
+        P : Place
+        P = placeOf x (length p) (actSum p) 0
+
+        plain : actFrom (breaksNone τ s) τ (s .cycle) (some P) ≡ pick (refreshOk τ s) (some cmd) none
+        plain = rw (w .refresh)
+
+        total : goes τ L s ≡ actFrom (breaksNone τ s) τ (s .cycle) (seenPlace (s .cycle) (some P))
         total =
             goes-try τ L s
             ∙ (ap (λ (o : Option Command). otherwise o (tryAct τ L s)) no-data
-            ∙ (ap (actFrom (breaksNone τ s) τ (s .cycle)) (ap (actPlace L) (q .here) ∙ ref-place p x rest (w .refresh)) ∙ rw (w .refresh)))
+            ∙ ap (λ (o : Option Place). actFrom (breaksNone τ s) τ (s .cycle) (seenPlace (s .cycle) o)) (ap (actPlace L) (q .here) ∙ ref-place p x rest (w .refresh)))
 
         next : Between τ L (actSum p + actCount x) (dataSum p + dataCount x) (s .cycle) (countFrom τ x (s .cycle)) (ext ta (s .acts) (s .cycle)) (note τ s (s .cycle) Ref 0)
         next =
@@ -184,3 +194,9 @@ module _ (τ : Table) (rng : Ranges τ) (p : List Transaction) (x : Transaction)
         on true ok = inr (in-time, (cmd, refl, (refl, refl, refl)), (ext ta (s .acts) (s .cycle), next))
         on false bad =
             inl (tt, (ta, c, refresh-idle τ rng L (actSum p) (dataSum p) F not-act ta c s q (refresh-waits τ rng L (actSum p) (dataSum p) F not-act ta c s q bad)))
+
+        onSeen : (y : Bool) → leb (x .arrival) (s .cycle) ≡ y
+            → NextRef τ L (actSum p) (dataSum p) x F (length p) s (actFrom (breaksNone τ s) τ (s .cycle) (pick y (some P) none))
+        onSeen true ey = subst (λ (o : Option Command). NextRef τ L (actSum p) (dataSum p) x F (length p) s o) (sym plain) (on (refreshOk τ s) refl)
+        onSeen false ey =
+            inl (tt, (ta, c, refresh-idle τ rng L (actSum p) (dataSum p) F not-act ta c s q (omega (arith, leb-false (x .arrival) (s .cycle) ey))))

@@ -8,8 +8,8 @@ use mathlib.Core.Logic.{_≢_, _⊎_, inl, inr}
 use mathlib.Core.Bool.{Bool, true, false, not}
 use mathlib.Core.Option.{Option, none, some}
 use mathlib.Core.List.{List}
-use lib.Dec.{eqb}
-use borrow.Author.Tests.{eqb-true, eqb-false}
+use lib.Dec.{eqb, leb}
+use borrow.Author.Tests.{eqb-true, eqb-false, leb-false}
 use Rattle.records.specs.declared.table.Table.{Table}
 use Rattle.records.specs.declared.transaction.Transaction.{Transaction}
 use Rattle.records.specs.declared.command.Kind.the-variants.{Act, Ref}
@@ -29,7 +29,7 @@ use Rattle.rules.proofs.Numbers.{from?}
 use Rattle.rules.proofs.Queue.{Place, placeOf, actPlace, dataPlace, bankOfPlace, actBank, actOfPlace, isActAt}
 use Rattle.rules.proofs.Fit.{AllFit, Inside, place-at, act-bank}
 use Rattle.rules.proofs.DataKinds.{can-end, rules-kind}
-use Rattle.rules.proofs.Heads.{dataFrom, actFrom, tryAct, goes-try, actOk, refreshOk}
+use Rattle.rules.proofs.Heads.{seenPlace, dataFrom, actFrom, tryAct, goes-try, actOk, refreshOk}
 use Rattle.rules.proofs.Recent.{ext}
 use Rattle.rules.proofs.Due.{due-next, due-turn, due-span}
 use Rattle.rules.proofs.Phase.{Spot, headTest, byData, Serving, Between}
@@ -100,7 +100,7 @@ module _ (τ : Table) (rng : Ranges τ) (l : List Transaction) (v : AllFit τ l)
           )
 
   act-goes : s .cycle + 1 ≤ byData τ F x j r → (o : Option Place) → actPlace l (s .acts) ≡ o → OnSome (Inside τ actCount) o
-      → Next τ l A0 M0 x F (sp .K) s (actFrom (breaksNone τ s) τ (s .cycle) o)
+      → Next τ l A0 M0 x F (sp .K) s (actFrom (breaksNone τ s) τ (s .cycle) (seenPlace (s .cycle) o))
   unfolding Next
   act-goes e none eo a = inl (tt, (ta, j, r, step-idle τ rng l A0 M0 x sp F ta j r s q e (λ k ek kl fl. absurd (no-none k ek kl))))
     where
@@ -109,7 +109,7 @@ module _ (τ : Table) (rng : Ranges τ) (l : List Transaction) (v : AllFit τ l)
           let g = sp .actK k kl in
           let p : actPlace l (A0 + k) ≡ none = rw ek at eo in
           let z : _≡_ {A = ℕ} 0 1 = cc (p, g) in omega arith
-  act-goes e (some p) eo a = on (isRefresh (p .transaction)) refl (sym (ap (bankOfPlace τ) eo)) (act-bank τ p a)
+  act-goes e (some p) eo a = onSeen (leb (p .transaction .arrival) (s .cycle)) refl
     where
       pb : ℕ
       pb = bankAt τ (p .transaction) (p .offset)
@@ -152,11 +152,31 @@ module _ (τ : Table) (rng : Ranges τ) (l : List Transaction) (v : AllFit τ l)
       on true er b lt = onR er (refreshOk τ s) refl
       on false er b lt = onA er b lt (actOk τ s pb) refl
 
+      -- where it is not seen yet it is none of this transaction's, once F is reached
+      own-arrival : (k : ℕ) → s .acts ≡ A0 + k → k < x .bi → p .transaction .arrival ≡ x .arrival
+      own-arrival k ek kl =
+          let z : actPlace l (A0 + k) ≡ some p = rw ek at eo in
+          let g = sp .actK k kl in cc (z, g)
+
+      onSeen : (y : Bool) → leb (p .transaction .arrival) (s .cycle) ≡ y
+          → Next τ l A0 M0 x F (sp .K) s (actFrom (breaksNone τ s) τ (s .cycle) (pick y (some p) none))
+      onSeen true ey = on (isRefresh (p .transaction)) refl (sym (ap (bankOfPlace τ) eo)) (act-bank τ p a)
+      onSeen false ey =
+          inl (
+            tt,
+            (
+              ta,
+              j,
+              r,
+              step-idle τ rng l A0 M0 x sp F ta j r s q e
+                  (λ k ek kl fl. absurd (omega (arith, fl, leb-false (p .transaction .arrival) (s .cycle) ey, own-arrival k ek kl, q .arrived))),
+            ),
+          )
+
   pub phase-step : Next τ l A0 M0 x F (sp .K) s (goes τ l s)
   unfolding Next
   phase-step =
-      subst (λ (o : Option Command). Next τ l A0 M0 x F (sp .K) s o) (sym total)
-      (subst (λ (o : Option Command). Next τ l A0 M0 x F (sp .K) s (otherwise o (tryAct τ l s))) (sym eqT) (on test refl))
+      subst (λ (o : Option Command). Next τ l A0 M0 x F (sp .K) s o) (sym total) (onSeen (leb (x .arrival) (s .cycle)) refl)
     where
       m-lt : j * x .bc + r < x .bi * x .bc
       m-lt = omega (arith, mul-le-mul-right (x .bc) (q .jIn), q .rIn)
@@ -173,10 +193,11 @@ module _ (τ : Table) (rng : Ranges τ) (l : List Transaction) (v : AllFit τ l)
       eqT : dataFrom (breaksNone τ s) τ (s .cycle) (s .acts) (some (placeOf x (sp .K) A0 (j * x .bc + r))) ≡ pick test (some (head (eqb (r + 1) (x .bc)))) none
       eqT = rw (e1, e2, rules-kind τ s (isWrite x) (eqb (r + 1) (x .bc)) (s .cycle) (bankAt τ x j))
 
-      total : goes τ l s ≡ otherwise (dataFrom (breaksNone τ s) τ (s .cycle) (s .acts) (some (placeOf x (sp .K) A0 (j * x .bc + r)))) (tryAct τ l s)
+      total : goes τ l s
+          ≡ otherwise (dataFrom (breaksNone τ s) τ (s .cycle) (s .acts) (seenPlace (s .cycle) (some (placeOf x (sp .K) A0 (j * x .bc + r))))) (tryAct τ l s)
       total =
           goes-try τ l s
-          ∙ ap (λ (o : Option Place). otherwise (dataFrom (breaksNone τ s) τ (s .cycle) (s .acts) o) (tryAct τ l s)) (ap (dataPlace l) (q .cnt) ∙ g)
+          ∙ ap (λ (o : Option Place). otherwise (dataFrom (breaksNone τ s) τ (s .cycle) (s .acts) (seenPlace (s .cycle) o)) (tryAct τ l s)) (ap (dataPlace l) (q .cnt) ∙ g)
 
       act-turn : s .cycle + 1 ≤ byData τ F x j r → Next τ l A0 M0 x F (sp .K) s (tryAct τ l s)
       act-turn e = act-goes e (actPlace l (s .acts)) refl (place-at τ actCount l v 0 0 (s .acts))
@@ -184,3 +205,9 @@ module _ (τ : Table) (rng : Ranges τ) (l : List Transaction) (v : AllFit τ l)
       on : (b : Bool) → test ≡ b → Next τ l A0 M0 x F (sp .K) s (otherwise (pick b (some (head (eqb (r + 1) (x .bc)))) none) (tryAct τ l s))
       on true ok = data-goes ok (eqb (r + 1) (x .bc)) refl
       on false bad = act-turn (not-due τ rng l A0 M0 x sp F ta j r s q bad)
+
+      onSeen : (y : Bool) → leb (x .arrival) (s .cycle) ≡ y
+          → Next τ l A0 M0 x F (sp .K) s
+          (otherwise (dataFrom (breaksNone τ s) τ (s .cycle) (s .acts) (pick y (some (placeOf x (sp .K) A0 (j * x .bc + r))) none)) (tryAct τ l s))
+      onSeen true ey = subst (λ (o : Option Command). Next τ l A0 M0 x F (sp .K) s (otherwise o (tryAct τ l s))) (sym eqT) (on test refl)
+      onSeen false ey = act-turn (omega (arith, leb-false (x .arrival) (s .cycle) ey, q .arrived))

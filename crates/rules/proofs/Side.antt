@@ -21,7 +21,7 @@ use Rattle.rules.specs.Promise.{ofFirst}
 use Rattle.rules.proofs.TestLaws.{OnSome, on-map}
 use Rattle.rules.proofs.Numbers.{from?}
 use Rattle.rules.proofs.Queue.{Place, dataCount, find, actPlace, dataPlace, dataDue, actBank, sum, actSum, dataSum, find-end}
-use Rattle.rules.proofs.Heads.{dataFrom, goes-place, tryData, goes-try}
+use Rattle.rules.proofs.Heads.{seenPlace, on-seen, dataFrom, goes-place, tryData, goes-try}
 use Rattle.rules.proofs.Caps.{after-size, acts-up, datas-up, none-left}
 use Rattle.rules.proofs.Front.{find-number, find-front, find-back, actOf}
 use Rattle.rules.proofs.OfFirst.{keep-own, keep-other}
@@ -74,12 +74,16 @@ module _ (τ : Table) (xs ys : List Transaction) where
 
   -- while an ACT of xs is left, the same command goes
   early-data : (s : State) → s .acts < actSum xs → tryData τ (xs ++ ys) s ≡ tryData τ xs s
-  early-data s h = ⊎-elim (λ k. ap from (find-front dataCount ys xs 0 0 (s .datas) k))
+  early-data s h = ⊎-elim (λ k. ap sees (find-front dataCount ys xs 0 0 (s .datas) k))
       (λ k. let k' : dataSum xs ≤ s .datas = omega (arith, k .1) in
-      on (dataPlace (xs ++ ys) (s .datas)) (find-back dataCount ys xs 0 0 (s .datas) k') ∙ sym (ap from (find-end dataCount xs 0 0 (s .datas) k'))) (from? (s .datas) (dataSum xs))
+      on (seenPlace (s .cycle) (dataPlace (xs ++ ys) (s .datas)))
+      (on-seen (λ p. (0 + length xs ≤ p .number) × (0 + actSum xs ≤ p .before)) (s .cycle) (dataPlace (xs ++ ys) (s .datas)) (find-back dataCount ys xs 0 0 (s .datas) k')) ∙ sym (ap sees (find-end dataCount xs 0 0 (s .datas) k'))) (from? (s .datas) (dataSum xs))
     where
       from : Option Place → Option Command
       from o = dataFrom (breaksNone τ s) τ (s .cycle) (s .acts) o
+
+      sees : Option Place → Option Command
+      sees o = from (seenPlace (s .cycle) o)
 
       on : (o : Option Place) → OnSome (λ p. (0 + length xs ≤ p .number) × (0 + actSum xs ≤ p .before)) o → from o ≡ none
       on none k = refl

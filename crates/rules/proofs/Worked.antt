@@ -6,9 +6,10 @@ use Rattle.records.specs.declared.command.Kind.the-variants.{Ref}
 use Rattle.records.specs.Command.{command}
 use Rattle.records.specs.House.{tableA, tableB, tableT, tableD}
 use Rattle.rules.specs.Queues.{actQueue, dataQueue}
-use Rattle.rules.specs.Bound.{bound, boundS, boundD, boundX}
+use Rattle.rules.specs.Bound.{bound, boundS, boundD, boundX, startAt}
 use Rattle.rules.specs.Worked.{one, five, patternT, tableR, thenRef, All}
-use Rattle.rules.specs.WorkedGroups.{oneGroup, allExamples}
+use Rattle.rules.specs.WorkedGroups.{oneGroup}
+use Rattle.rules.specs.WorkedArrivals.{allExamples}
 use Rattle.rules.proofs.Pattern.{five-legal}
 
 infixr 4 _⨾_
@@ -17,7 +18,7 @@ abbrev _⨾_ : {P Q : Type 0} → P → Q → P × Q
 p ⨾ ps = (p, ps)
 
 pub worked : All allExamples
-unfolding bound boundS boundD boundX actQueue dataQueue
+unfolding bound boundS boundD boundX startAt actQueue dataQueue
 worked =
     refl
     ⨾ refl
@@ -128,4 +129,29 @@ worked =
     ⨾ refl
     ⨾ five-legal tableD 40 oneGroup .0 refl
     ⨾ (λ n. refl)
+    ⨾ refl
+    ⨾ refl
+    ⨾ refl
+    ⨾ refl
+    ⨾ refl
+    ⨾ refl
+    ⨾ refl
+    ⨾ refl
+    ⨾ record { cycles = 36; schedule = refl; acts = refl; datas = refl }
+    ⨾ record { cycles = 22; schedule = refl; acts = refl; datas = refl }
+    ⨾ record { cycles = 51; schedule = refl; acts = refl; datas = refl }
+    ⨾ record { cycles = 61; schedule = refl; acts = refl; datas = refl }
+    ⨾ refl
+    ⨾ refl
+    ⨾ refl
+    ⨾ refl
+    ⨾ refl
+    ⨾ refl
+    ⨾ refl
+    ⨾ refl
+    ⨾ refl
+    ⨾ (refl ⨾ refl ⨾ refl ⨾ tt)
+    ⨾ refl
+    ⨾ refl
+    ⨾ refl
     ⨾ tt

@@ -56,6 +56,7 @@ bound τ bi bc =
 abbrev pub span : Table → Transaction → ℕ
 span τ x = pick (isRefresh x) (boundS τ) (bound τ (x .bi) (x .bc))
 
--- where a transaction's count starts, if the one before it lets it start at F
+-- where a transaction's count starts, if the one before it lets it start at F: "The bound counts from the later of the arrival and the predecessor's
+-- last command (its finish, where the predecessor is a refresh)" (document 02, request 9)
 unfoldable pub startAt : Transaction → ℕ → ℕ
-startAt x F = F
+startAt x F = max F (x .arrival)

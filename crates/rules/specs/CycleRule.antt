@@ -4,7 +4,7 @@ use mathlib.Core.Bool.{Bool, true, false}
 use mathlib.Core.Path.{_≡_}
 use mathlib.Core.Option.{Option, none, some}
 use mathlib.Core.List.{List, [], _∷_}
-use lib.Dec.{ltb}
+use lib.Dec.{ltb, leb}
 use lib.ListN.{length}
 use Rattle.records.specs.Tests.{pick}
 use Rattle.records.specs.declared.table.Table.{Table}
@@ -16,6 +16,11 @@ use Rattle.rules.specs.History.{broken, isFine}
 use Rattle.rules.specs.State.{addIf, breaksNone, after}
 use Rattle.rules.specs.Queues.{Due, dueAt, actQueue, dataQueue, headAfter}
 use Rattle.rules.specs.Pattern.{onto}
+
+-- "Neither queue sees a transaction before its arrival" (document 02, request 9): a head of a queue that is seen at cycle t
+abbrev pub seen : ℕ → Option Due → Option Due
+seen t none = none
+seen t (some d) = pick (leb (d .arrival) t) (some d) none
 
 -- a head of a queue that has had its ACT, which is one of the first a of the ACT queue
 abbrev pub hadAct : ℕ → Option Due → Option Due
@@ -32,10 +37,11 @@ otherwise none y = y
 otherwise (some c) y = some c
 
 -- "If the head of the data queue has had its ACT and breaks no rule, it goes. Otherwise, if the head of the ACT queue breaks no rule,
--- it goes. Otherwise nothing does." `legal` says of a command at cycle t that it breaks no rule; a and d have left the queues.
+-- it goes. Otherwise nothing does." Each head is seen from its arrival on. `legal` says of a command at cycle t that it breaks no rule; a and d
+-- have left the queues.
 abbrev pub goesBy : (Command → Bool) → Table → List Transaction → ℕ → ℕ → ℕ → Option Command
 goesBy legal τ l t a d =
-    otherwise (legalAt legal t (hadAct a (headAfter (dataQueue τ l) d))) (legalAt legal t (headAfter (actQueue τ l) a))
+    otherwise (legalAt legal t (hadAct a (seen t (headAfter (dataQueue τ l) d)))) (legalAt legal t (seen t (headAfter (actQueue τ l) a)))
 
 -- by history: how many commands of the ACT queue, and how many data commands, are among the records
 abbrev pub actsIn : List Command → ℕ

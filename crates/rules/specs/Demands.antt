@@ -24,7 +24,7 @@ use Rattle.rules.specs.State.{fresh}
 use Rattle.rules.specs.CycleRule.{gone, Built}
 use Rattle.rules.specs.Run.{steps}
 use Rattle.rules.specs.Finish.{lastCommand, finishOf, countFrom}
-use Rattle.rules.specs.Bound.{span}
+use Rattle.rules.specs.Bound.{span, startAt}
 use Rattle.rules.specs.Promise.{ofFirst, lastCommandCycle, finishCycle}
 
 -- each of the first n records breaks no rule against all records before it, of which those of h are the oldest
@@ -66,14 +66,14 @@ pub record Demand3 (τ : Table) (l : List Transaction) : Type 0 where
   pub served : (k : ℕ) → k < length l → lastCommand k schedule ≡ At (lastCommandCycle k schedule)
   -- "each transaction's last read or write command comes no later than its predecessor's last plus the bound ..
   -- (for the first, counted from cycle 0)"; "The promise counts from that finish where the predecessor", w, "is a refresh", and a REF comes
-  -- "within S of where its count starts"
-  pub first : (x : Transaction) → getElem? l 0 ≡ some x → lastCommandCycle 0 schedule ≤ span τ x
+  -- "within S of where its count starts"; no count starts before the arrival
+  pub first : (x : Transaction) → getElem? l 0 ≡ some x → lastCommandCycle 0 schedule ≤ startAt x 0 + span τ x
   pub next : (k : ℕ) (w x : Transaction) → getElem? l k ≡ some w → getElem? l (suc k) ≡ some x
-      → lastCommandCycle (suc k) schedule ≤ countFrom τ w (lastCommandCycle k schedule) + span τ x
+      → lastCommandCycle (suc k) schedule ≤ startAt x (countFrom τ w (lastCommandCycle k schedule)) + span τ x
   -- "the promised finish of a read is that limit + RL + B", a write's is that limit, a refresh's that limit + RFC; and 32 bits hold every finish
-  pub firstFinish : (x : Transaction) → getElem? l 0 ≡ some x → finishCycle τ x 0 schedule ≤ finishOf τ x (span τ x)
+  pub firstFinish : (x : Transaction) → getElem? l 0 ≡ some x → finishCycle τ x 0 schedule ≤ finishOf τ x (startAt x 0 + span τ x)
   pub nextFinish : (k : ℕ) (w x : Transaction) → getElem? l k ≡ some w → getElem? l (suc k) ≡ some x
-      → finishCycle τ x (suc k) schedule ≤ finishOf τ x (countFrom τ w (lastCommandCycle k schedule) + span τ x)
+      → finishCycle τ x (suc k) schedule ≤ finishOf τ x (startAt x (countFrom τ w (lastCommandCycle k schedule)) + span τ x)
   pub fits : (k : ℕ) (x : Transaction) → getElem? l k ≡ some x → finishCycle τ x k schedule < 4294967296
   -- "Transactions added at the end move no command of the earlier ones by a cycle."
   pub unmoved : (xs ys : List Transaction) → l ≡ xs ++ ys → Built τ xs (ofFirst (length xs) schedule)

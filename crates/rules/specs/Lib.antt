@@ -12,6 +12,8 @@ pub mod Finish
 pub mod Worked
 pub mod WorkedGroups
 pub mod Promise
+pub mod Pieces
+pub mod WorkedArrivals
 pub mod Demands
 pub mod Before
 pub mod Pins

@@ -1,10 +1,10 @@
 -- What is promised of the built schedule and of runs, for a table that is accepted and a list that fits it.
 use Prim.Native.Nat.{ℕ, suc, _+_, _-_, _≤_, _<_}
-use mathlib.Core.Bool.{true}
+use mathlib.Core.Bool.{Bool, true}
 use mathlib.Core.Path.{_≡_}
-use mathlib.Core.Option.{none, some}
+use mathlib.Core.Option.{Option, none, some}
 use mathlib.Core.List.{List, [], _∷_, _++_}
-use lib.Dec.{ltb}
+use lib.Dec.{ltb, leb}
 use lib.ListN.{length, getElem?, take, drop}
 use Rattle.records.specs.Tests.{pick, every}
 use Rattle.records.specs.declared.table.Table.{Table}
@@ -20,7 +20,7 @@ use Rattle.rules.specs.Queues.{actQueue, dataQueue}
 use Rattle.rules.specs.CycleRule.{Built}
 use Rattle.rules.specs.Run.{served, steps, run}
 use Rattle.rules.specs.Finish.{lastCommand, finishOf, countFrom, finish}
-use Rattle.rules.specs.Bound.{span}
+use Rattle.rules.specs.Bound.{span, startAt}
 
 -- the commands of the first k transactions
 abbrev pub ofFirst : ℕ → List Command → List Command
@@ -44,10 +44,21 @@ lastCommandCycle k rs = cycleOf (lastCommand k rs)
 abbrev pub finishCycle : Table → Transaction → ℕ → List Command → ℕ
 finishCycle τ x k rs = cycleOf (finish τ x k rs)
 
--- the bounds of all transactions, added, each up to where the next count starts
+-- "Neither queue sees a transaction before its arrival" (document 02, request 9): a command whose transaction has arrived by its cycle
+abbrev pub arrivedBy : ℕ → Option Transaction → Bool
+arrivedBy t none = true
+arrivedBy t (some x) = leb (x .arrival) t
+
+abbrev pub arrived : List Transaction → Command → Bool
+arrived l c = arrivedBy (c .cycle) (getElem? l (c .number))
+
+-- the bounds of all transactions, added, each up to where the next count starts; the first count may start at F, and none before its arrival
+abbrev pub boundsFrom : Table → ℕ → List Transaction → ℕ
+boundsFrom τ F [] = F
+boundsFrom τ F (x ∷ l) = boundsFrom τ (startAt x F + countFrom τ x (span τ x)) l
+
 abbrev pub allBounds : Table → List Transaction → ℕ
-allBounds τ [] = 0
-allBounds τ (x ∷ l) = countFrom τ x (span τ x) + allBounds τ l
+allBounds τ l = boundsFrom τ 0 l
 
 -- one cycle more than the bounds together serves the list, and they stay below the limit of a run
 pub record Ends (τ : Table) (l : List Transaction) : Type 0 where
@@ -61,16 +72,19 @@ pub record Kept (τ : Table) (l : List Transaction) (rs : List Command) : Type 0
   pub count : length rs ≡ length (actQueue τ l) + length (dataQueue τ l)
   -- it passes the judge
   pub passes : Legal τ rs
-  -- each transaction has its last command: the first within its span, each other within its span after where its count starts, w being its predecessor
+  -- no command goes before its transaction's arrival
+  pub notBefore : every (arrived l) rs ≡ true
+  -- each transaction has its last command: the first within its span after its arrival, each other within its span after where its count starts, w
+  -- being its predecessor
   pub finishes : (k : ℕ) → k < length l → lastCommand k rs ≡ At (lastCommandCycle k rs)
-  pub firstIn : (x : Transaction) → getElem? l 0 ≡ some x → lastCommandCycle 0 rs ≤ span τ x
+  pub firstIn : (x : Transaction) → getElem? l 0 ≡ some x → lastCommandCycle 0 rs ≤ startAt x 0 + span τ x
   pub nextIn : (k : ℕ) (w x : Transaction) → getElem? l k ≡ some w → getElem? l (suc k) ≡ some x
-      → lastCommandCycle (suc k) rs ≤ countFrom τ w (lastCommandCycle k rs) + span τ x
+      → lastCommandCycle (suc k) rs ≤ startAt x (countFrom τ w (lastCommandCycle k rs)) + span τ x
   -- it finishes there, a read RL + B and a refresh RFC later, so no later than if its last command went at that limit; and 32 bits hold it
   pub finishAt : (k : ℕ) (x : Transaction) → getElem? l k ≡ some x → finish τ x k rs ≡ At (finishOf τ x (lastCommandCycle k rs))
-  pub firstFinish : (x : Transaction) → getElem? l 0 ≡ some x → finishCycle τ x 0 rs ≤ finishOf τ x (span τ x)
+  pub firstFinish : (x : Transaction) → getElem? l 0 ≡ some x → finishCycle τ x 0 rs ≤ finishOf τ x (startAt x 0 + span τ x)
   pub nextFinish : (k : ℕ) (w x : Transaction) → getElem? l k ≡ some w → getElem? l (suc k) ≡ some x
-      → finishCycle τ x (suc k) rs ≤ finishOf τ x (countFrom τ w (lastCommandCycle k rs) + span τ x)
+      → finishCycle τ x (suc k) rs ≤ finishOf τ x (startAt x (countFrom τ w (lastCommandCycle k rs)) + span τ x)
   pub finishFits : (k : ℕ) (x : Transaction) → getElem? l k ≡ some x → finishCycle τ x k rs < 4294967296
   -- transactions added at the end move no command of the earlier ones
   pub unmoved : (xs ys : List Transaction) → l ≡ xs ++ ys → Built τ xs (ofFirst (length xs) rs)
@@ -83,7 +97,8 @@ pub record Kept (τ : Table) (l : List Transaction) (rs : List Command) : Type 0
       → (onto (run n τ l (fresh τ) [] .history) [] ≡ rs) × (run n τ l (fresh τ) [] .cycles ≡ nextCycle (onto rs []))
   pub ends : (n : ℕ) → 100000000 ≤ n → served τ l (run n τ l (fresh τ) [] .state) ≡ true
 
--- two states that tell the same of the table's banks and groups and of all else; the edition and what lies past the table's banks and groups may differ
+-- two states that tell the same of the table's banks and groups and of all else; the edition, what was lent before and what lies past the table's
+-- banks and groups may differ
 pub record SameTold (τ : Table) (s u : State) : Type 0 where
   pub cycle : s .cycle ≡ u .cycle
   pub acts : s .acts ≡ u .acts
@@ -105,8 +120,11 @@ pub record RunsKept (τ : Table) (l : List Transaction) : Type 0 where
         history = run m τ l (run n τ l s [] .state) [] .history ++ run n τ l s [] .history;
         cycles = run n τ l s [] .cycles + run m τ l (run n τ l s [] .state) [] .cycles;
       }
-  -- the edition and what lies past the table's banks and groups are left as they stood, and not read
+  -- no command goes before its transaction's arrival, from any state
+  pub notBefore : (n : ℕ) (s : State) → every (arrived l) (run n τ l s [] .history) ≡ true
+  -- the edition, what was lent before and what lies past the table's banks and groups are left as they stood, and not read
   pub edition : (n : ℕ) (s : State) → run n τ l s [] .state .edition ≡ s .edition
+  pub lent : (n : ℕ) (s : State) → run n τ l s [] .state .lent ≡ s .lent
   pub size : (n : ℕ) (s : State) → length (run n τ l s [] .state .banks) ≡ length (s .banks)
   pub pastKept : (n : ℕ) (s : State) → drop (τ .banks) (run n τ l s [] .state .banks) ≡ drop (τ .banks) (s .banks)
   pub groupSize : (n : ℕ) (s : State) → length (run n τ l s [] .state .groups) ≡ length (s .groups)

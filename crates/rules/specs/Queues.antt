@@ -14,12 +14,13 @@ use Rattle.records.specs.Command.{command}
 use Rattle.records.specs.Tests.{pick}
 use Rattle.records.specs.Transaction.{isWrite, isRefresh}
 
--- a command that stands in a queue; `act` is the place in the ACT queue of the ACT of its bank, a REF's own place
+-- a command that stands in a queue; `act` is the place in the ACT queue of the ACT of its bank, a REF's own place; `arrival` is its transaction's
 pub record Due : Type 0 where
   pub kind : Kind
   pub bank : ℕ
   pub number : ℕ
   pub act : ℕ
+  pub arrival : ℕ
 
 -- the command, at cycle t
 abbrev pub dueAt : ℕ → Due → Command
@@ -59,12 +60,12 @@ actBankAt τ x k = pick (isRefresh x) 0 (bankAt τ x k)
 
 -- i is the transaction's number, a the number of commands before it in the ACT queue
 abbrev pub actsOf : Table → Transaction → ℕ → ℕ → List Due
-actsOf τ x i a = numbered (λ k. record { kind = actKind x; bank = actBankAt τ x k; number = i; act = a + k }) (actCount x) 0
+actsOf τ x i a = numbered (λ k. record { kind = actKind x; bank = actBankAt τ x k; number = i; act = a + k; arrival = x .arrival }) (actCount x) 0
 
 -- "BC data commands per bank .., the last to each bank with auto precharge", for the bank that comes k-th
 abbrev pub burstsOf : Table → Transaction → ℕ → ℕ → ℕ → List Due
 burstsOf τ x i a k =
-    numbered (λ m. record { kind = dataKind (isWrite x) (eqb (m + 1) (x .bc)); bank = bankAt τ x k; number = i; act = a + k }) (x .bc) 0
+    numbered (λ m. record { kind = dataKind (isWrite x) (eqb (m + 1) (x .bc)); bank = bankAt τ x k; number = i; act = a + k; arrival = x .arrival }) (x .bc) 0
 
 -- a refresh has BI 0, and so no data commands
 abbrev pub datasOf : Table → Transaction → ℕ → ℕ → List Due

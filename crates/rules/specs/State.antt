@@ -137,6 +137,7 @@ fresh τ =
       a4 = Never;
       groups = replicate 8 quiet;
       refresh = Never;
+      lent = 0;
     }
 
 -- a bank after a command to it at cycle c: its last ACT, and the last RD and WR since
@@ -171,6 +172,7 @@ note τ s c k b =
       a4 = pick (isAct k) (s .a3) (s .a4);
       groups = set (s .groups) (groupOf τ b) (groupAfter k c (groupAt s (groupOf τ b)));
       refresh = pick (isRef k) (At c) (s .refresh);
+      lent = s .lent;
     }
 
 -- the state after a cycle in which nothing goes
@@ -188,6 +190,7 @@ idle s =
       a4 = s .a4;
       groups = s .groups;
       refresh = s .refresh;
+      lent = s .lent;
     }
 
 abbrev pub after : Table → State → Option Command → State

@@ -1,5 +1,5 @@
 -- Document 01, "Examples from the desk": those marked †, its figures for table A, figures for table T and with refreshes; with those of
--- `WorkedGroups`, a single list under a single claim.
+-- `WorkedGroups` and of `WorkedArrivals`, a single list under a single claim.
 use Prim.Native.Nat.{ℕ, suc, _+_}
 use mathlib.Core.Path.{_≡_}
 use mathlib.Core.Bool.{true, false}

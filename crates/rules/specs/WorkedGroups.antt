@@ -1,9 +1,8 @@
--- Worked examples with groups (document 02, request 7), for table D: 8 banks in four groups, bank 4 in that of bank 0. With those of `Worked` they
--- are the single list of the single claim.
+-- Worked examples with groups (document 02, request 7), for table D: 8 banks in four groups, bank 4 in that of bank 0.
 use Prim.Native.Nat.{ℕ, suc, _+_}
 use mathlib.Core.Path.{_≡_}
 use mathlib.Core.Bool.{true, false}
-use mathlib.Core.List.{List, [], _∷_, _++_}
+use mathlib.Core.List.{List, [], _∷_}
 use Rattle.records.specs.declared.command.Kind.the-variants.{Act, Rd, Rda, Wra}
 use Rattle.records.specs.declared.command.Command.{Command}
 use Rattle.records.specs.Command.{command}
@@ -16,7 +15,7 @@ use Rattle.rules.specs.Verdict.{judge}
 use Rattle.rules.specs.Pattern.{copies, EveryNumberLegal}
 use Rattle.rules.specs.CycleRule.{Built}
 use Rattle.rules.specs.Bound.{boundS, boundD, boundX, bound}
-use Rattle.rules.specs.Worked.{read, write, examples}
+use Rattle.rules.specs.Worked.{read, write}
 
 -- "a neighbour in another group hides an older one": bank 4's ACT at t waits for that of bank 0, though bank 1's is later
 abbrev pub hiddenAct : ℕ → List Command
@@ -67,7 +66,3 @@ groupExamples =
     ∷ EveryNumberLegal tableD 40 oneGroup
     ∷ ((n : ℕ) → copies tableD 39 oneGroup (suc (suc n)) ≡ RefusedAt Rrd 2 0)
     ∷ []
-
--- the single list: those of `Worked` and these
-abbrev pub allExamples : List (Type 0)
-allExamples = examples ++ groupExamples

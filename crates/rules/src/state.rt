@@ -22,7 +22,7 @@ pub struct Group {
 }
 
 // `cycle` is the next to be tried; `acts` and `datas` have left the two queues; `a1` to `a4` are the cycles of the last four ACTs, newest
-// first; `refresh` that of the last REF.
+// first; `refresh` that of the last REF. `lent` is how many transactions of the list were lent before.
 pub struct State {
     pub edition: u32,
     pub cycle: u64,
@@ -35,4 +35,5 @@ pub struct State {
     pub a4: Stamp,
     pub groups: [Group; 8],
     pub refresh: Stamp,
+    pub lent: u32,
 }

@@ -61,6 +61,7 @@ actKept s next b g =
       a4 = s .a3;
       groups = set (s .groups) g (groupOpened (getD (s .groups) g quietKept) next);
       refresh = s .refresh;
+      lent = s .lent;
     }
 
 pub told-act : (τ : Table) (s : Kept) (k : Kind) (c b : ℕ) → isAct k ≡ true → told (actKept s (c + 1) b (groupOf τ b)) ≡ note τ (told s) c k b
@@ -88,6 +89,7 @@ dataKept s w z next b g =
       a4 = s .a4;
       groups = set (s .groups) g (groupMoved (getD (s .groups) g quietKept) w next);
       refresh = s .refresh;
+      lent = s .lent;
     }
 
 pub told-data : (τ : Table) (s : Kept) (k : Kind) (c b : ℕ) → isKnown k ≡ true → isAct k ≡ false → isRef k ≡ false
@@ -116,6 +118,7 @@ refKept s next =
       a4 = s .a4;
       groups = s .groups;
       refresh = next;
+      lent = s .lent;
     }
 
 pub told-ref : (τ : Table) (s : Kept) (k : Kind) (c b : ℕ) → isRef k ≡ true → told (refKept s (c + 1)) ≡ note τ (told s) c k b

@@ -50,6 +50,7 @@ told s =
       a4 = stampOf (s .a4);
       groups = map toldGroup (s .groups);
       refresh = stampOf (s .refresh);
+      lent = s .lent;
     }
 
 abbrev pub shutKept : KeptBank
@@ -72,6 +73,7 @@ keptFresh e =
       a4 = 0;
       groups = replicate 8 quietKept;
       refresh = 0;
+      lent = 0;
     }
 
 -- a bank after an ACT, and after a data command, a write or not, with auto precharge or not; `next` is the cycle after the command

@@ -40,6 +40,7 @@ pub struct Kept {
     pub a4: u64,
     pub groups: [KeptGroup; 8],
     pub refresh: u64,
+    pub lent: u32,
 }
 
 pub fn kept_fresh(edition: u16) -> Kept
@@ -68,6 +69,7 @@ pub fn kept_fresh(edition: u16) -> Kept
         a4: 0,
         groups: [quiet; 8],
         refresh: 0,
+        lent: 0,
     }
 }
 

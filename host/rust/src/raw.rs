@@ -54,6 +54,7 @@ pub struct TransactionAnswer {
     pub start: u8,
     pub bi: u8,
     pub bc: u8,
+    pub arrival: u32,
 }
 
 #[repr(C)]
@@ -126,12 +127,14 @@ pub struct Controller {
     pub groups: [HostGroup; 8],
     /// The last REF.
     pub refresh: u32,
+    /// How many transactions it was lent before.
+    pub lent: u32,
 }
 
 #[repr(C)]
 #[derive(Debug, Clone, Copy, PartialEq, Eq)]
 pub struct Transaction {
-    /// 0 read, 1 write, 2 refresh; of a refresh the others are 0.
+    /// 0 read, 1 write, 2 refresh; of a refresh `start`, `bi` and `bc` are 0.
     pub kind: u8,
     /// The first bank.
     pub start: u8,
@@ -139,9 +142,11 @@ pub struct Transaction {
     pub bi: u8,
     /// Data commands to each.
     pub bc: u8,
+    /// The first cycle at which a queue sees it: 0 for one of 4 bytes.
+    pub arrival: u32,
 }
 
-/// What `skv_start` and `skv_run_bytes` hand back.
+/// What `skv_start`, `skv_run_bytes` and `skv_run_later_bytes` hand back.
 #[repr(C)]
 #[derive(Debug, Clone, Copy, PartialEq, Eq)]
 pub struct ControllerAnswer {
@@ -156,15 +161,21 @@ extern "C" {
     pub fn skv_write_group_table(numbers: GroupNumbers, out: *mut u8, out_len: usize) -> Answer;
     pub fn skv_read_transaction(bytes: *const u8, bytes_len: usize) -> TransactionAnswer;
     pub fn skv_write_transaction(kind: u8, start: u8, bi: u8, bc: u8, out: *mut u8, out_len: usize) -> Answer;
+    pub fn skv_read_later(bytes: *const u8, bytes_len: usize) -> TransactionAnswer;
+    pub fn skv_write_later(kind: u8, start: u8, bi: u8, bc: u8, arrival: u32, out: *mut u8, out_len: usize) -> Answer;
     pub fn skv_read_command(bytes: *const u8, bytes_len: usize) -> CommandAnswer;
     pub fn skv_write_command(cycle: u32, kind: u8, bank: u8, number: u16, out: *mut u8, out_len: usize) -> Answer;
     pub fn skv_read_capture_record(bytes: *const u8, bytes_len: usize) -> CaptureRecordAnswer;
     pub fn skv_write_capture_record(stamp: u16, kind: u8, bank: u8, out: *mut u8, out_len: usize) -> Answer;
     pub fn skv_read_transactions(expected: u16, table: *const u8, table_len: usize, bytes: *const u8, bytes_len: usize,
         list: *mut Transaction, list_len: usize) -> Answer;
+    pub fn skv_read_later_transactions(expected: u16, table: *const u8, table_len: usize, bytes: *const u8, bytes_len: usize,
+        list: *mut Transaction, list_len: usize) -> Answer;
     pub fn skv_schedule(expected: u16, table: *const u8, table_len: usize, list: *const Transaction, list_len: usize,
         commands: *mut u8, commands_len: usize, finishes: *mut u32, finishes_len: usize) -> Answer;
     pub fn skv_schedule_bytes(expected: u16, table: *const u8, table_len: usize, list: *const u8, list_len: usize,
+        commands: *mut u8, commands_len: usize, finishes: *mut u32, finishes_len: usize) -> Answer;
+    pub fn skv_schedule_later_bytes(expected: u16, table: *const u8, table_len: usize, list: *const u8, list_len: usize,
         commands: *mut u8, commands_len: usize, finishes: *mut u32, finishes_len: usize) -> Answer;
     pub fn skv_judge(expected: u16, table: *const u8, table_len: usize, schedule: *const u8, schedule_len: usize) -> VerdictAnswer;
     pub fn skv_judge_pattern(expected: u16, table: *const u8, table_len: usize, pattern: *const u8, pattern_len: usize,
@@ -178,5 +189,7 @@ extern "C" {
     pub fn skv_step(c: *mut Controller, expected: u16, table: *const u8, table_len: usize, list: *const Transaction, list_len: usize,
         room: *mut u8, room_len: usize) -> Answer;
     pub fn skv_run_bytes(c: Controller, expected: u16, table: *const u8, table_len: usize, list: *const u8, list_len: usize,
+        count: u32, room: *mut u8, room_len: usize) -> ControllerAnswer;
+    pub fn skv_run_later_bytes(c: Controller, expected: u16, table: *const u8, table_len: usize, list: *const u8, list_len: usize,
         count: u32, room: *mut u8, room_len: usize) -> ControllerAnswer;
 }

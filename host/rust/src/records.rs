@@ -30,20 +30,38 @@ pub fn write_group_table(numbers: GroupTable, out: &mut [u8]) -> Result<u32, Ref
 
 /// Refused with 3 and 4.
 pub fn read_transaction(bytes: &[u8]) -> Result<Transaction, Refusal> {
-    let a = unsafe { skv_read_transaction(bytes.as_ptr(), bytes.len()) };
+    read(unsafe { skv_read_transaction(bytes.as_ptr(), bytes.len()) })
+}
+
+/// The same of a record of 8 bytes.
+pub fn read_later(bytes: &[u8]) -> Result<Transaction, Refusal> {
+    read(unsafe { skv_read_later(bytes.as_ptr(), bytes.len()) })
+}
+
+fn read(a: TransactionAnswer) -> Result<Transaction, Refusal> {
     let x = Transaction {
         kind: a.kind,
         start: a.start,
         bi: a.bi,
         bc: a.bc,
+        arrival: a.arrival,
     };
     told(a.refused, a.position, a.edition, x)
 }
 
-/// Refused with 3 and 4.
+/// Refused with 3 and 4. The record of 4 bytes has no arrival: one that is not 0 is out of range.
 pub fn write_transaction(x: Transaction, out: &mut [u8]) -> Result<(), Refusal> {
+    // No type at all, so that number 3 still goes first.
+    let kind = if x.arrival == 0 { x.kind } else { u8::MAX };
     let a =
-        unsafe { skv_write_transaction(x.kind, x.start, x.bi, x.bc, out.as_mut_ptr(), out.len()) };
+        unsafe { skv_write_transaction(kind, x.start, x.bi, x.bc, out.as_mut_ptr(), out.len()) };
+    a.told(())
+}
+
+/// Refused with 3 and 4.
+pub fn write_later(x: Transaction, out: &mut [u8]) -> Result<(), Refusal> {
+    let (room, size) = (out.as_mut_ptr(), out.len());
+    let a = unsafe { skv_write_later(x.kind, x.start, x.bi, x.bc, x.arrival, room, size) };
     a.told(())
 }
 

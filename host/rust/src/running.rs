@@ -24,7 +24,7 @@ fn ran(a: Answer) -> Result<Ran, Refusal> {
     })
 }
 
-/// Refused with 1, 2, 10, 3 to 5, and 9.
+/// Refused with 1, 2, 10, 3 to 5, 9 and 12. Each run is lent the whole list so far.
 pub fn run(
     c: &mut Controller,
     expected: u16,
@@ -79,8 +79,35 @@ pub fn run_bytes(
     count: u32,
     room: &mut [u8],
 ) -> (Controller, Result<Ran, Refusal>) {
+    handed_over(skv_run_bytes, c, expected, table, list, count, room)
+}
+
+/// The same from records of 8 bytes.
+pub fn run_later_bytes(
+    c: Controller,
+    expected: u16,
+    table: &[u8],
+    list: &[u8],
+    count: u32,
+    room: &mut [u8],
+) -> (Controller, Result<Ran, Refusal>) {
+    handed_over(skv_run_later_bytes, c, expected, table, list, count, room)
+}
+
+#[rustfmt::skip]
+type Run = unsafe extern "C" fn(Controller, u16, *const u8, usize, *const u8, usize, u32, *mut u8, usize) -> ControllerAnswer;
+
+fn handed_over(
+    run: Run,
+    c: Controller,
+    expected: u16,
+    table: &[u8],
+    list: &[u8],
+    count: u32,
+    room: &mut [u8],
+) -> (Controller, Result<Ran, Refusal>) {
     let a = unsafe {
-        skv_run_bytes(
+        run(
             c,
             expected,
             table.as_ptr(),

@@ -16,8 +16,31 @@ pub fn read_transactions(
     bytes: &[u8],
     list: &mut [Transaction],
 ) -> Result<Decoded, Refusal> {
+    decoded(skv_read_transactions, expected, table, bytes, list)
+}
+
+/// The same of records of 8 bytes.
+pub fn read_later_transactions(
+    expected: u16,
+    table: &[u8],
+    bytes: &[u8],
+    list: &mut [Transaction],
+) -> Result<Decoded, Refusal> {
+    decoded(skv_read_later_transactions, expected, table, bytes, list)
+}
+
+#[rustfmt::skip]
+type Decode = unsafe extern "C" fn(u16, *const u8, usize, *const u8, usize, *mut Transaction, usize) -> Answer;
+
+fn decoded(
+    decode: Decode,
+    expected: u16,
+    table: &[u8],
+    bytes: &[u8],
+    list: &mut [Transaction],
+) -> Result<Decoded, Refusal> {
     let a = unsafe {
-        skv_read_transactions(
+        decode(
             expected,
             table.as_ptr(),
             table.len(),
@@ -48,23 +71,7 @@ pub fn schedule(
     commands: &mut [u8],
     finishes: &mut [u32],
 ) -> Result<Scheduled, Refusal> {
-    let a = unsafe {
-        skv_schedule(
-            expected,
-            table.as_ptr(),
-            table.len(),
-            list.as_ptr(),
-            list.len(),
-            commands.as_mut_ptr(),
-            commands.len(),
-            finishes.as_mut_ptr(),
-            finishes.len(),
-        )
-    };
-    a.told(Scheduled {
-        edition: a.edition,
-        commands: a.count,
-    })
+    scheduled(skv_schedule, expected, table, list, commands, finishes)
 }
 
 /// The same from the transactions' bytes.
@@ -75,8 +82,48 @@ pub fn schedule_bytes(
     commands: &mut [u8],
     finishes: &mut [u32],
 ) -> Result<Scheduled, Refusal> {
+    scheduled(
+        skv_schedule_bytes,
+        expected,
+        table,
+        list,
+        commands,
+        finishes,
+    )
+}
+
+/// The same from records of 8 bytes.
+pub fn schedule_later_bytes(
+    expected: u16,
+    table: &[u8],
+    list: &[u8],
+    commands: &mut [u8],
+    finishes: &mut [u32],
+) -> Result<Scheduled, Refusal> {
+    scheduled(
+        skv_schedule_later_bytes,
+        expected,
+        table,
+        list,
+        commands,
+        finishes,
+    )
+}
+
+/// Of a list whose entries are `T`: transactions, or bytes.
+#[rustfmt::skip]
+type Schedule<T> = unsafe extern "C" fn(u16, *const u8, usize, *const T, usize, *mut u8, usize, *mut u32, usize) -> Answer;
+
+fn scheduled<T>(
+    build: Schedule<T>,
+    expected: u16,
+    table: &[u8],
+    list: &[T],
+    commands: &mut [u8],
+    finishes: &mut [u32],
+) -> Result<Scheduled, Refusal> {
     let a = unsafe {
-        skv_schedule_bytes(
+        build(
             expected,
             table.as_ptr(),
             table.len(),
@@ -146,7 +193,7 @@ pub fn judge_pattern(
 }
 
 /// Refused with 1, 2, 10 and 4. Answers the edition and the bound, which counts from last data command to last data command, or from the finish
-/// of a refresh.
+/// of a refresh, or from a later arrival.
 pub fn bound(expected: u16, table: &[u8], bi: u8, bc: u8) -> Result<(u32, u32), Refusal> {
     let a = unsafe { skv_bound(expected, table.as_ptr(), table.len(), bi, bc) };
     a.told((a.edition, a.count))

@@ -3,7 +3,7 @@
 use crate::desk::*;
 use crate::house::*;
 use crate::listing::commands;
-use crate::records::{whole, BANKS, EDITION, REFRESH, RFC};
+use crate::records::{whole, BANKS, EDITION, LATEST, REFRESH, RFC};
 use crate::rules::{Times, ACT};
 use crate::scheduler::longest_wait;
 
@@ -46,12 +46,7 @@ fn decoded(edition: u16, table: &[u8], list: &[[u8; 4]]) -> Vec<Transaction> {
 }
 
 pub fn transaction(kind: u8, start: u8, bi: u8, bc: u8) -> Transaction {
-    Transaction {
-        kind,
-        start,
-        bi,
-        bc,
-    }
+    Transaction::of(&[kind, start, bi, bc])
 }
 
 /// A run into room for all: what is told and the commands' bytes.
@@ -72,34 +67,61 @@ fn last_datas(room: &[u8], size: usize) -> Vec<u64> {
     last
 }
 
+/// What a list met of the limits: the types that came exactly at theirs; and whether a transaction came later than it might were the count
+/// from its arrival alone, or from its predecessor alone.
+#[derive(Default)]
+pub struct Met {
+    pub exact: Vec<u8>,
+    pub past_arrival: bool,
+    pub past_predecessor: bool,
+}
+
 /// "The bound still counts from last command to last command; the promised finish of a read is that limit + RL + B." With refreshes,
-/// "the promise counts from that finish where the predecessor is a refresh. A REF itself comes within S of where its count starts". The
-/// judge accepts what is built. Answers which types met their limit exactly.
-pub fn passes_and_meets_the_bound(table: &[u16], list: &[[u8; 4]]) -> Vec<u8> {
-    let (room, finishes) = built(table, list);
+/// "the promise counts from that finish where the predecessor is a refresh. A REF itself comes within S of where its count starts". With
+/// arrivals, it "counts from the later of the arrival and the predecessor's last command (its finish, where the predecessor is a refresh)",
+/// and no command goes before its transaction's arrival. The judge accepts what is built.
+pub fn laters_pass_and_meet_the_bound(table: &[u16], list: &[[u8; 8]]) -> Met {
+    let (room, finishes) = built_later(table, list);
+    let list: Vec<Transaction> = list.iter().map(|x| Transaction::of(x)).collect();
     let times = Times::of(&whole(table));
     let (edition, table) = (table[EDITION], bytes_of(table));
     let (_, verdict) = judge(edition, &table, &room).expect("whole records");
     assert_eq!(verdict, Verdict::Accepted);
-    let mut start = 0;
-    let mut exact = Vec::new();
+    for c in commands(&room, u32::MAX) {
+        assert!(list[usize::from(c.transaction)].arrival <= c.cycle);
+    }
+    let mut predecessor = 0;
+    let mut met = Met::default();
     let lasts = last_datas(&room, list.len());
-    for ((&[kind, _, bi, bc], finish), last) in list.iter().zip(finishes).zip(lasts) {
-        let (cycles, after) = if kind == REFRESH {
+    for ((x, finish), last) in list.iter().zip(finishes).zip(lasts) {
+        let (cycles, after) = if x.kind == REFRESH {
             (longest_wait(&times), times.rfc)
         } else {
-            let (_, cycles) = bound(edition, &table, bi, bc).expect("it's in the list");
-            (cycles, [times.rl + times.b, 0][usize::from(kind)])
+            let (_, cycles) = bound(edition, &table, x.bi, x.bc).expect("it's in the list");
+            (cycles, [times.rl + times.b, 0][usize::from(x.kind)])
         };
-        let limit = start + cycles;
+        let arrival = u64::from(x.arrival);
+        let limit = arrival.max(predecessor) + cycles;
         assert!(last <= limit);
         assert_eq!(u64::from(finish), last + after);
         if last == limit {
-            exact.push(kind);
+            met.exact.push(x.kind);
         }
-        start = if kind == REFRESH { finish.into() } else { last };
+        met.past_arrival |= last > arrival + cycles;
+        met.past_predecessor |= last > predecessor + cycles;
+        predecessor = match x.kind {
+            REFRESH => finish.into(),
+            _ => last,
+        };
     }
-    exact
+    met
+}
+
+/// All arrive at cycle 0. Answers which types came exactly at their limit.
+pub fn passes_and_meets_the_bound(table: &[u16], list: &[[u8; 4]]) -> Vec<u8> {
+    let at_once = arriving(list, &vec![0; list.len()]);
+    assert_eq!(built_later(table, &at_once), built(table, list));
+    laters_pass_and_meet_the_bound(table, &at_once).exact
 }
 
 #[test]
@@ -110,12 +132,12 @@ fn built_schedules_pass_and_meet_the_bound() {
 }
 
 /// No bound is above 265,980: S is at most 4 × 1,023, and with RCD and 255 times CCD it gives the greatest table's. A refresh takes no
-/// more than S and RFC. So 256 bounds and a read's RL + B fit 32 bits, and all commands go before cycle 100,000,000. The longest list
-/// there is ends within them.
+/// more than S and RFC. So 256 bounds and a read's RL + B fit 32 bits, and all commands go before cycle 100,000,000, even after the last
+/// arrival there is. The longest list that there is ends within them.
 #[test]
 fn finishing_cycles_fit() {
     let most = 256 * 265_980 + 2 * 1023;
-    assert!(most < 100_000_000);
+    assert!(u64::from(LATEST) + most < 88_100_000);
     let greatest = whole(&GREATEST);
     let tables = [TABLE_A, TABLE_B, TABLE_C, LEAST, GREATEST];
     let tables = tables.iter().chain(&ODD).map(|t| whole(t));

@@ -8,7 +8,7 @@ use super::refusals::told;
 use crate::desk::*;
 use crate::house::*;
 use crate::listing::{commands, schedule_lines};
-use crate::records::{whole, B, BANKS, CCD, EDITION, RFC};
+use crate::records::{whole, B, BANKS, CCD, EDITION, PLAIN, RFC};
 use crate::rules::{ACT, RDA, REF, WRA};
 
 const READ: [u8; 4] = [0, 0, 1, 1];
@@ -66,11 +66,10 @@ fn single_records() {
         for n in 0..=255 {
             let mut x = REFRESH;
             x[place] = n;
-            let [kind, start, bi, bc] = x;
             let mut room = [9; 4];
             let answers = (
                 read_transaction(&x),
-                write_transaction(kind, start, bi, bc, &mut room),
+                write_transaction(Transaction::of(&x), &mut room),
             );
             if x == REFRESH {
                 assert_eq!((answers, room), ((Ok(refresh()), Ok(0)), x));
@@ -197,7 +196,7 @@ fn the_listing() {
     let list = [READ, REFRESH].concat();
     let told =
         "edition 70 commands 3\n0 ACT 0 0\n10 RDA 0 0\n38 REF 0 1\nfinish 0 24\nfinish 1 88\n";
-    let lines = schedule_lines(70, &bytes_of(&REFRESHED), &list, 64, 2);
+    let lines = schedule_lines(PLAIN, 70, &bytes_of(&REFRESHED), &list, 64, 2);
     assert_eq!(lines.as_deref(), Ok(told));
 }
 

@@ -41,9 +41,7 @@ pub fn bad() -> [Transaction; 3] {
 }
 
 pub fn bytes(list: &[Transaction]) -> Vec<u8> {
-    list.iter()
-        .flat_map(|x| [x.kind, x.start, x.bi, x.bc])
-        .collect()
+    list.iter().flat_map(|x| x.four()).collect()
 }
 
 #[test]
@@ -128,8 +126,8 @@ fn starts() {
         fresh.edition = edition;
         assert_eq!(c, fresh);
         assert_eq!(
-            (c.cycle, c.acts, c.datas, c.last, c.refresh),
-            (0, 0, 0, [NEVER; 4], NEVER)
+            (c.cycle, c.acts, c.datas, c.last, c.refresh, c.lent),
+            (0, 0, 0, [NEVER; 4], NEVER, 0)
         );
     }
 }
@@ -196,9 +194,10 @@ fn records() {
     assert_eq!(told(write_table(TABLE_A, &mut room)), (1, 0, 0));
     let bad_table = with(&[(CCD, 1)]);
     assert_eq!(told(write_table(bad_table, &mut room[..32])), (2, 0, 0));
-    assert_eq!(told(write_transaction(2, 0, 1, 1, &mut room)), (3, 0, 0));
+    let write = |x: [u8; 4], room: &mut [u8]| write_transaction(Transaction::of(&x), room);
+    assert_eq!(told(write([2, 0, 1, 1], &mut room)), (3, 0, 0));
     for (start, bi) in [(16, 1), (0, 17), (15, 17)] {
-        let answer = write_transaction(0, start, bi, 1, &mut room[..4]);
+        let answer = write([0, start, bi, 1], &mut room[..4]);
         assert_eq!(told(answer), (4, 0, 0));
         assert_eq!(told(read_transaction(&[0, start, bi, 1])), (4, 0, 0));
     }
@@ -206,7 +205,7 @@ fn records() {
     assert_eq!(room, ROOM);
     assert_eq!(write_table(TABLE_A, &mut room[..32]), Ok(7));
     assert_eq!(read_table(&room[..32]), Ok(whole(&TABLE_A)));
-    assert_eq!(write_transaction(1, 15, 16, 16, &mut room[..4]), Ok(0));
+    assert_eq!(write([1, 15, 16, 16], &mut room[..4]), Ok(0));
     assert_eq!(read_transaction(&room[..4]), Ok(transaction(1, 15, 16, 16)));
     assert_eq!(write_command(NEVER, 255, 16, 300, &mut room[..40]), Ok(0));
     let c = read_command(&room[..8]).expect("any 8 bytes are a command");

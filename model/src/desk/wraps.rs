@@ -124,7 +124,7 @@ fn single_records() {
     for start in 0..=255 {
         for bi in 0..=255 {
             let mut room = [9; 4];
-            let answer = write_transaction(0, start, bi, 1, &mut room);
+            let answer = write_transaction(transaction(0, start, bi, 1), &mut room);
             let read = read_transaction(&[0, start, bi, 1]);
             if start < 16 && (1..=16).contains(&bi) {
                 assert_eq!((answer, room), (Ok(0), [0, start, bi, 1]));

@@ -12,7 +12,7 @@ const MOST_LINES: usize = 40;
 const FROM_EACH_END: usize = 12;
 
 /// Stands under a listing that has finishing cycles.
-const FINISHES: &str = "A write finishes at its last data command, a read RL + B cycles later, when its last word has come back.\n";
+pub const FINISHES: &str = "A write finishes at its last data command, a read RL + B cycles later, when its last word has come back.\n";
 
 /// And under one that has a refresh too.
 const REFRESH_FINISHES: &str = "A refresh finishes RFC cycles after its REF.\n";

@@ -2,7 +2,8 @@
 
 use super::tables::{group_tables, tables};
 use super::*;
-use crate::house::{bytes_of, command, Numbers, REFRESH_BYTES, TABLE_A, TABLE_D};
+use crate::house::{bytes_of, command, later, Numbers, REFRESH_BYTES, TABLE_A, TABLE_D};
+use crate::records::LATEST;
 
 pub struct Cases(Vec<u8>);
 
@@ -68,11 +69,13 @@ pub fn cases() -> Vec<u8> {
     tables(&mut cases);
     group_tables(&mut cases);
     transactions(&mut cases);
+    laters(&mut cases);
     commands(&mut cases);
     cases.put_any(READ_TABLE, &bytes_of(&TABLE_A), &mut numbers);
     cases.put_any(READ_TABLE, &bytes_of(&TABLE_D), &mut numbers);
     cases.put_any(READ_TRANSACTION, &[1, 3, 4, 2], &mut numbers);
     cases.put_any(READ_COMMAND, &[10, 0, 0, 0, 2, 0, 0, 0], &mut numbers);
+    cases.put_any(READ_LATER, &later([1, 3, 4, 2], LATEST), &mut numbers);
     not_cases(&mut cases);
     cases.0
 }
@@ -136,6 +139,42 @@ fn transactions(cases: &mut Cases) {
     }
 }
 
+/// The record of 8 bytes: its arrival up to 20,000,000 and beyond, a refresh's too; the other bytes as before.
+fn laters(cases: &mut Cases) {
+    let good = later([1, 15, 16, 16], 260);
+    for size in 0..=9 {
+        cases.put(READ_LATER, &[&good[..], &[0]].concat()[..size]);
+    }
+    for x in [[0, 0, 1, 1], [1, 15, 16, 16], REFRESH_BYTES] {
+        for arrival in [0, 1, 255, 256, 65536, 16909060, LATEST - 1, LATEST] {
+            cases.put_both(READ_LATER, &later(x, arrival));
+        }
+        for arrival in [LATEST + 1, LATEST + 256, 1 << 31, u32::MAX] {
+            cases.put_both(READ_LATER, &later(x, arrival));
+        }
+    }
+    for x in [
+        [2, 0, 1, 1],
+        [3, 0, 0, 0],
+        [0, 16, 1, 1],
+        [0, 15, 17, 1],
+        [1, 0, 0, 1],
+        [1, 0, 1, 17],
+        [2, 0, 0, 1],
+    ] {
+        cases.put_both(READ_LATER, &later(x, 7));
+        cases.put_both(READ_LATER, &later(x, LATEST + 1));
+    }
+    cases.put_rooms(WRITE_LATER, &good);
+    for x in [
+        later([0, 0, 1, 1], LATEST + 1),
+        later([0, 16, 1, 1], 0),
+        later(REFRESH_BYTES, LATEST),
+    ] {
+        cases.put_rooms(WRITE_LATER, &x);
+    }
+}
+
 fn commands(cases: &mut Cases) {
     let bytes: Vec<u8> = command(10, 2, 0, 0).repeat(2);
     for size in [0, 1, 7, 8, 9, 16] {
@@ -163,7 +202,7 @@ fn commands(cases: &mut Cases) {
 
 /// Calls that there are not, writes whose values are cut or whose buffer is too long, and at the end a case that is cut short.
 fn not_cases(cases: &mut Cases) {
-    for call in [0, 8, 128, 255] {
+    for call in [0, 10, 128, 255] {
         cases.put(call, &[]);
         cases.put(call, &bytes_of(&TABLE_A));
     }
@@ -172,6 +211,7 @@ fn not_cases(cases: &mut Cases) {
         (WRITE_GROUP_TABLE, &bytes_of(&TABLE_D)),
         (WRITE_TRANSACTION, &[0, 0, 1, 1]),
         (WRITE_COMMAND, &[0; 8]),
+        (WRITE_LATER, &[0; 8]),
     ] {
         for size in [0, 1, values.len() - 1] {
             cases.put(write, &values[..size]);

@@ -1,78 +1,19 @@
-//! The cases themselves: builds and bounds under every table, runs cut at many counts, rooms and lists one off, and editions that are
-//! not expected.
+//! The cases themselves: builds and bounds under every table, runs cut at many counts, rooms and lists one off, editions that are not
+//! expected, and transactions that arrive later.
 
+use super::arrivals::arrivals;
 use super::editions::editions;
 use super::groups::groups;
+use super::pieces::pieces;
+pub use super::put::Cases;
 use super::refreshes::refreshes;
 use super::states::*;
 use super::*;
 use crate::house::*;
 use crate::records::{BANKS, CCD, EDITION, RFC};
 
-pub struct Cases(Vec<u8>);
-
-impl Cases {
-    /// The expected edition is the table's own.
-    fn head(&mut self, call: u8, table: &[u16]) {
-        self.0.push(call);
-        self.0.extend(table[EDITION].to_le_bytes());
-        self.0.push(2 * table.len() as u8);
-    }
-
-    /// What is put is one case, and this its expected edition.
-    pub fn expecting(&mut self, expected: u16, put: impl FnOnce(&mut Cases)) {
-        let place = self.0.len() + 1;
-        put(self);
-        self.0[place..place + 2].copy_from_slice(&expected.to_le_bytes());
-    }
-
-    /// What is put is one case with a table of 32 bytes and nothing behind it, and these are the table's bytes instead.
-    pub fn by(&mut self, table: &[u8], put: impl FnOnce(&mut Cases)) {
-        let place = self.0.len() + 3;
-        put(self);
-        self.0[place] = table.len() as u8;
-        self.0.truncate(self.0.len() - 32);
-        self.0.extend_from_slice(table);
-    }
-
-    pub fn build(&mut self, table: &[u16], room: usize, slots: usize, list: &[u8]) {
-        self.head(BUILD, table);
-        self.0.extend((room as u16).to_le_bytes());
-        self.0.extend((slots as u16).to_le_bytes());
-        self.0.extend(size_of(list));
-        self.0.extend(bytes_of(table));
-        self.0.extend_from_slice(list);
-    }
-
-    /// With the room and the slots that are just enough.
-    pub fn build_all(&mut self, table: &[u16], list: &[[u8; 4]]) {
-        self.build(table, room_for(list), list.len(), &list.concat());
-    }
-
-    pub fn run(&mut self, table: &[u16], count: u32, room: usize, state: &Controller, list: &[u8]) {
-        self.head(RUN, table);
-        self.0.extend(count.to_le_bytes());
-        self.0.extend((room as u16).to_le_bytes());
-        self.0.extend(size_of(list));
-        self.0.extend(bytes_of_state(state));
-        self.0.extend(bytes_of(table));
-        self.0.extend_from_slice(list);
-    }
-
-    pub fn bound(&mut self, table: &[u16], bi: u8, bc: u8) {
-        self.head(BOUND, table);
-        self.0.extend([bi, bc]);
-        self.0.extend(bytes_of(table));
-    }
-}
-
-fn size_of(list: &[u8]) -> [u8; 2] {
-    let n: u16 = list.len().try_into().expect("a list has a 16-bit size");
-    n.to_le_bytes()
-}
-
 pub fn cases() -> Vec<u8> {
-    let mut cases = Cases(Vec::new());
+    let mut cases = Cases::default();
     let mut numbers = Numbers(5);
     worked(&mut cases);
     builds(&mut cases, &mut numbers);
@@ -88,6 +29,8 @@ pub fn cases() -> Vec<u8> {
     refused_tables(&mut cases);
     editions(&mut cases);
     groups(&mut cases);
+    arrivals(&mut cases);
+    pieces(&mut cases);
     // At the end a case that is cut short.
     cases.run(&TABLE_A, 1, 8, &Controller::fresh(&TABLE_A), &[0, 0, 1, 1]);
     cases.0.pop();

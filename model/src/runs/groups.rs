@@ -128,7 +128,7 @@ fn cuts(cases: &mut Cases) {
 fn states(cases: &mut Cases) {
     let mut put = |kind: u8, acts: u32, change: &dyn Fn(&mut Controller)| {
         let mut state = Controller::fresh(&TABLE_D);
-        (state.cycle, state.acts) = (100, acts);
+        (state.cycle, state.acts, state.lent) = (100, acts, 1);
         state.banks[1].opened = acts;
         change(&mut state);
         cases.run(&TABLE_D, 60, 16, &state, &[kind, 1, 1, 1]);
@@ -164,7 +164,7 @@ fn past_the_groups(cases: &mut Cases) {
         let banks = table[BANKS] as u8;
         let list = [[1, banks - 1, banks.min(3), 1], [0, 0, 1, 1]];
         let mut state = Controller::fresh(table);
-        state.cycle = 5000;
+        (state.cycle, state.lent) = (5000, 2);
         for (n, group) in (0..).zip(&mut state.groups[of_table..]) {
             *group = Group {
                 act: 4999 + n,
@@ -183,7 +183,7 @@ fn any_states(cases: &mut Cases, numbers: &mut Numbers) {
         let table = &tables[round % tables.len()];
         let list = any_list(table, 2 + round % 3, numbers);
         let mut state = Controller::fresh(table);
-        state.cycle = 300;
+        (state.cycle, state.lent) = (300, list.len() as u32);
         let mut stored = || match numbers.byte() {
             n if n < 90 => NEVER,
             n => 299 - u32::from(n) % 60,

@@ -78,7 +78,7 @@ fn refused(cases: &mut Cases) {
 fn states(cases: &mut Cases) {
     let mut put = |list: &[[u8; 4]], count, change: &dyn Fn(&mut Controller)| {
         let mut state = Controller::fresh(&REFRESHED);
-        state.cycle = 100;
+        (state.cycle, state.lent) = (100, list.len() as u32);
         change(&mut state);
         cases.run(&REFRESHED, count, room_for(list), &state, &list.concat());
     };
@@ -121,7 +121,7 @@ fn wide(cases: &mut Cases) {
 fn places(cases: &mut Cases) {
     let list = [REFRESH, READ, REFRESH, WRITE];
     let mut state = Controller::fresh(&REFRESHED);
-    (state.cycle, state.banks[0].opened) = (100, 1);
+    (state.cycle, state.lent, state.banks[0].opened) = (100, 4, 1);
     for (acts, datas, left) in [(1, 0, 5), (1, 1, 4), (3, 2, 1), (2, 0, 4)] {
         (state.acts, state.datas) = (acts, datas);
         cases.run(&REFRESHED, 200, 8 * left, &state, &list.concat());

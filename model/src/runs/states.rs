@@ -19,7 +19,7 @@ pub fn bytes_of_state(s: &Controller) -> Vec<u8> {
     for group in &s.groups {
         bytes.extend([group.act, group.rd, group.wr].into_iter().flat_map(four));
     }
-    bytes.extend(four(s.refresh));
+    bytes.extend([s.refresh, s.lent].into_iter().flat_map(four));
     bytes
 }
 
@@ -122,7 +122,7 @@ pub fn hand_made(cases: &mut Cases) {
 /// The state with nothing stored and every bank as given.
 fn never_anywhere(s: &Controller, opened: u32) -> Controller {
     let mut empty = Controller::fresh(&TABLE_A);
-    (empty.cycle, empty.acts, empty.datas) = (s.cycle, s.acts, s.datas);
+    (empty.cycle, empty.acts, empty.datas, empty.lent) = (s.cycle, s.acts, s.datas, s.lent);
     empty.banks.iter_mut().for_each(|bank| bank.opened = opened);
     empty
 }
@@ -179,6 +179,7 @@ pub fn any_states(cases: &mut Cases, numbers: &mut Numbers) {
         let list = any_list(table, 2 + round % 3, numbers);
         let mut state = Controller::fresh(table);
         state.cycle = numbers.of(&[70, 300, 99_999_700]);
+        state.lent = list.len() as u32;
         let (_, whole, _) = ran(&state, table, &list, u32::MAX);
         let next = whole[numbers.below(whole.len())].cycle;
         let mut state = Controller {

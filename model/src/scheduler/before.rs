@@ -261,8 +261,9 @@ fn runs() {
         if table[RFC] != 0 {
             list.insert(1, REFRESH_BYTES);
         }
-        let list = decode(&table, &list.concat()).expect("whole records");
+        let list = decode(&table, &list.concat(), PLAIN).expect("whole records");
         let mut state = State::fresh(&table);
+        state.lent = list.len() as u32;
         if round % 4 > 0 {
             state.cycle = 2000;
             let mut stored = || match numbers.byte() {

@@ -43,6 +43,8 @@ pub struct State {
     pub groups: [Group; 8],
     /// The last REF's cycle.
     pub refresh: u32,
+    /// "How many of it", the list, "were lent before".
+    pub lent: u32,
 }
 
 /// Whether a command may go at the cycle if the stored one must be so far before it.
@@ -73,6 +75,7 @@ impl State {
             last: [NEVER; 4],
             groups: [never; 8],
             refresh: NEVER,
+            lent: 0,
         }
     }
 
@@ -151,9 +154,10 @@ impl State {
 
     /// One step of the cycle rule.
     fn step(&mut self, t: &Times, queues: &Queues) -> Option<Command> {
-        let data = queues.datas.get(self.datas as usize);
+        let seen = |w: &&Waiting| w.is_seen(self.cycle);
+        let data = queues.datas.get(self.datas as usize).filter(seen);
         let data = data.filter(|w| w.act < self.acts as usize && self.data_goes(t, w));
-        let act = queues.acts.get(self.acts as usize);
+        let act = queues.acts.get(self.acts as usize).filter(seen);
         let act_goes = |w: &&Waiting| match w.kind {
             REF => self.refresh_goes(t),
             _ => self.act_goes(t, w),
@@ -171,8 +175,8 @@ impl State {
         self.acts as usize == queues.acts.len() && self.datas as usize == queues.datas.len()
     }
 
-    /// Number 9.
-    fn refused(&self, table: &GroupTable, queues: &Queues) -> bool {
+    /// Number 9, with request 9's "(more than the list has: number 9)".
+    fn refused(&self, table: &GroupTable, list: &[Transaction], queues: &Queues) -> bool {
         let banks = &self.banks[..usize::from(table[BANKS])];
         let of_banks = banks.iter().flat_map(|bank| [bank.act, bank.rd, bank.wr]);
         let groups = &self.groups[..usize::from(table[GROUPS])];
@@ -186,6 +190,13 @@ impl State {
             || acts > queues.acts.len()
             || datas > queues.datas.len()
             || queues.datas[..datas].iter().any(|w| w.act >= acts)
+            || self.lent as usize > list.len()
+    }
+
+    /// Number 12: "if the first new arrival is below the state's cycle, the piece is late".
+    fn is_late(&self, list: &[Transaction]) -> bool {
+        let first_new = list.get(self.lent as usize);
+        first_new.map_or(false, |x| x.arrival < self.cycle)
     }
 }
 
@@ -197,7 +208,7 @@ pub struct Run {
     pub state: State,
 }
 
-/// Numbers 3, 4, 5 and 9, and then the run. Room in bytes.
+/// Numbers 3, 4, 5, 9 and 12, and then the run. Room in bytes.
 pub fn run(
     state: &State,
     table: &GroupTable,
@@ -212,11 +223,16 @@ pub fn run(
     if room < 8 * (acts_left + datas_left).min(count as usize) {
         return refused(table, 5, 0);
     }
-    if state.refused(table, &queues) {
+    if state.refused(table, list, &queues) {
         return refused(table, 9, 0);
+    }
+    if state.is_late(list) {
+        return refused(table, 12, 0);
     }
     let times = Times::of(table);
     let mut state = state.clone();
+    // "Each run is lent the whole list so far": one of no cycles too.
+    state.lent = list.len() as u32;
     let mut commands = Vec::new();
     let mut cycles = 0;
     while cycles < count && !state.served(&queues) && state.cycle < LAST_CYCLE {

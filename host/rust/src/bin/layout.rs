@@ -28,14 +28,14 @@ fn main() {
     layout!("skv_verdict_answer", VerdictAnswer, refused, position, edition, rule, copy, record);
     layout!("skv_capture_answer", CaptureAnswer, refused, position, edition, count, rule, record);
     layout!("skv_table_answer", TableAnswer, refused, position, edition, numbers);
-    layout!("skv_transaction_answer", TransactionAnswer, refused, position, edition, kind, start, bi, bc);
+    layout!("skv_transaction_answer", TransactionAnswer, refused, position, edition, kind, start, bi, bc, arrival);
     layout!("skv_command_answer", CommandAnswer, refused, position, edition, cycle, kind, bank, number);
     layout!("skv_capture_record_answer", CaptureRecordAnswer, refused, position, edition, stamp, kind, bank);
     layout!("skv_numbers", Numbers, numbers);
     layout!("skv_group_numbers", GroupNumbers, numbers);
-    layout!("skv_transaction", Transaction, kind, start, bi, bc);
+    layout!("skv_transaction", Transaction, kind, start, bi, bc, arrival);
     layout!("skv_bank", HostBank, opened, act, rd, wr);
     layout!("skv_group", HostGroup, act, rd, wr);
-    layout!("skv_controller", Controller, edition, cycle, acts, datas, banks, last, groups, refresh);
+    layout!("skv_controller", Controller, edition, cycle, acts, datas, banks, last, groups, refresh, lent);
     layout!("skv_controller_answer", ControllerAnswer, controller, answer);
 }

@@ -105,6 +105,14 @@ fn of_c(name: &str) -> String {
     }
 }
 
+/// `T name, name`: each of them.
+fn fields(text: &str) -> Vec<String> {
+    let text = words(text);
+    let (of, names) = text.split_once(' ').expect("a type and names");
+    let one = |name: &str| declared(&format!("{of} {name}"));
+    names.split(',').map(one).collect()
+}
+
 /// `T name`, `T name[N]`, `T *name` and `const T *name`.
 fn declared(text: &str) -> String {
     let text = words(text);
@@ -130,9 +138,9 @@ fn said_in_header(text: &str) -> Said {
     let code = code.join("\n");
     let mut said = Said::new();
     for (head, rest) in between(&code, "typedef struct ", "{") {
-        let (fields, _) = rest.split_once('}').expect("its end");
-        let fields = fields.split(';').filter(|f| !f.trim().is_empty());
-        said.insert(of_c(head.trim()), fields.map(declared).collect());
+        let (lines, _) = rest.split_once('}').expect("its end");
+        let lines = lines.split(';').filter(|f| !f.trim().is_empty());
+        said.insert(of_c(head.trim()), lines.flat_map(fields).collect());
     }
     let calls = code.split(';').filter_map(|part| part.split_once('('));
     for (head, parameters) in calls {
@@ -173,7 +181,7 @@ fn alike(where_else: &str, other: &Said, raw: &Said) {
 #[test]
 fn three_texts() {
     let raw = said_in(&read(&root().join("host/rust/src/raw.rs")));
-    assert_eq!(raw.len(), 20 + 14);
+    assert_eq!(raw.len(), 25 + 14);
     let header = said_in_header(&read(&root().join("host/skvorzhan.h")));
     alike("skvorzhan.h", &header, &raw);
     let mut code = String::new();

@@ -6,7 +6,7 @@ use crate::desk::refusals::Told;
 /// From cycle 100 under table D, with one command of bank 1 next, an ACT or a data command: at which cycle it goes, or the refusal.
 fn goes_at(kind: u8, opened: bool, change: &dyn Fn(&mut Controller)) -> Result<u32, Told> {
     let mut c = Controller::fresh(&TABLE_D);
-    (c.cycle, c.acts, c.banks[1].opened) = (100, opened.into(), opened.into());
+    (c.cycle, c.acts, c.banks[1].opened, c.lent) = (100, opened.into(), opened.into(), 1);
     change(&mut c);
     let (mut room, table) = ([0; 16], bytes_of(&TABLE_D));
     let answer = run_bytes(&mut c, 7, &table, &[kind, 1, 1, 1], 60, &mut room);

@@ -3,9 +3,10 @@
 use super::*;
 use crate::rules::RD;
 
-/// From a state under table A with RFC 50 and a list: what goes in so many cycles, and the state that is left.
+/// From a state under table A with RFC 50 and a list that was lent before: what goes in so many cycles.
 fn ran(c: &Controller, list: &[[u8; 4]], count: u32) -> Result<Vec<(u32, u8)>, Refusal> {
     let (mut c, mut room) = (c.clone(), vec![0; room_for(list)]);
+    c.lent = list.len() as u32;
     let table = bytes_of(&REFRESHED);
     let told = run_bytes(&mut c, 70, &table, &list.concat(), count, &mut room)?;
     let gone = commands(&room, told.commands);
@@ -43,7 +44,7 @@ fn the_last_refresh() {
     let list = [transaction(0, 0, 1, 1), refresh()];
     run(&mut c, 70, &bytes_of(&REFRESHED), &list, 99, &mut [0; 24]).expect("nothing is refused");
     let mut same = Controller::fresh(&REFRESHED);
-    (same.cycle, same.acts, same.datas, same.refresh) = (39, 2, 1, 38);
+    (same.cycle, same.acts, same.datas, same.refresh, same.lent) = (39, 2, 1, 38, 2);
     (same.banks[0].act, same.banks[0].rd) = (0, 10);
     same.last[0] = 0;
     (same.groups[0].act, same.groups[0].rd) = (0, 10);

@@ -160,7 +160,7 @@ module _ {M : Type 1} (𝓤 : URA M) (H : Heap 𝓤) (A : Atoms 𝓤) (W : Given
   to-h w d u = (((κ₃, tt), (q₃, tt), tt, (c, (w, (d, (n, (room, tt))))), (mach c ∷ [], (valV w ∷ [], (u ∷ [], (vint w32 n ∷ [], (val room ∷ [], tt)))))), tt)
 
   abbrev Passed : WayIn → List ℕ → Val → Item 𝓤
-  Passed w d u = ((‵ (Y.the-row .own w (valV w ∷ [])) ⊛ ‵ (Array u8 1024 .own d (u ∷ []))) ⊛ Room′) ⊛ Tok κ₃ q₃
+  Passed w d u = ((‵ (Y.the-row .own w (valV w ∷ [])) ⊛ ‵ (Array u8 2048 .own d (u ∷ []))) ⊛ Room′) ⊛ Tok κ₃ q₃
 
   goes-h : (w : WayIn) (d : List ℕ) (u : Val) → LetIn w → Is S.the-row c (mach c ∷ []) → n < 2 ^ 32 → ent 𝓤 (⋆ 𝓤 H A (Passed w d u ∷ [])) (Held 𝓤 H A at-mem run .pre (to-h w d u))
   goes-h w d u lets was fits =
@@ -204,9 +204,9 @@ module _ {M : Type 1} (𝓤 : URA M) (H : Heap 𝓤) (A : Atoms 𝓤) (W : Given
         use2 W (raw (Gather 𝓤 H A at-mem run .pre (to-gather 𝓤 H A W at-mem run κ₂ q₂ list w))) (goes-gather 𝓤 H A W at-mem run κ₂ q₂ list w (LL.owed Y.the-type Y′.the-laws w (u ∷ []) isw .0 .1) (rw i (way-room (length (now list)) (admitted expected (now table))))) $
         -- [what is passed; the list; the way in's; the table's token; the table; obs; the borrow; its token; the room; its token; _14; …; _0; …]
         calls-at ! fm (Gather 𝓤 H A at-mem run) (known .1) (to-gather 𝓤 H A W at-mem run κ₂ q₂ list w) (and-then ! (load ! (from ! (stop !)) (look ! 30 refl)) (and-then ! (load ! (from ! (fld ! refl (stop !))) (look-in ! 24 (sub ! 0 refl (whole !)))) (no-more !))) (λ u′.
-        use1 W (later (some (λ (d : List ℕ). ((Tok κ₂ q₂ ⊛ ‵ ftrue) ⊛ ‵ (Array u8 1024 .own d (u′ ∷ []))) ⊛ raw (ensured 𝓤 H A g.ended (g.clauses 𝓤 H A at-mem run) (κ₂, tt) ((to-gather 𝓤 H A W at-mem run κ₂ q₂ list w) .0 .3) tt d)))) (id⊢ 𝓤 _) $ await ! tt $ pick ! (λ d.
-        split ! $ move ! (1 ∷ []) $ use1 W (raw (fact 𝓤 (Packs list w d))) (said-gather 𝓤 H A W at-mem run κ₂ q₂ list w d) $ heard ! (Packs list w d) (λ k. split ! $ move ! (1 ∷ []) $ peeks ! (Array u8 1024) (Is (Array u8 1024)) (shows 𝓤 H A (Array u8 1024)) d (u′ ∷ []) (λ isd.
-        land ! (from ! (stop !)) (init ! 23 refl (array-lawful 𝓤 H A W u8 (uint-lawful 𝓤 H A W w8) 1024 .typed d _ isd .0)) $
+        use1 W (later (some (λ (d : List ℕ). ((Tok κ₂ q₂ ⊛ ‵ ftrue) ⊛ ‵ (Array u8 2048 .own d (u′ ∷ []))) ⊛ raw (ensured 𝓤 H A g.ended (g.clauses 𝓤 H A at-mem run) (κ₂, tt) ((to-gather 𝓤 H A W at-mem run κ₂ q₂ list w) .0 .3) tt d)))) (id⊢ 𝓤 _) $ await ! tt $ pick ! (λ d.
+        split ! $ move ! (1 ∷ []) $ use1 W (raw (fact 𝓤 (Packs list w d))) (said-gather 𝓤 H A W at-mem run κ₂ q₂ list w d) $ heard ! (Packs list w d) (λ k. split ! $ move ! (1 ∷ []) $ peeks ! (Array u8 2048) (Is (Array u8 2048)) (shows 𝓤 H A (Array u8 2048)) d (u′ ∷ []) (λ isd.
+        land ! (from ! (stop !)) (init ! 23 refl (array-lawful 𝓤 H A W u8 (uint-lawful 𝓤 H A W w8) 2048 .typed d _ isd .0)) $
         -- the controller's borrow is opened, and the controller is copied out
         move ! (6 ∷ 7 ∷ 8 ∷ []) $ opens ! tt S.the-row {h = c} b o (λ vs. spelt ! S.the-row (Is S.the-row) (shows 𝓤 H A S.the-row) (LL.vals S.the-type S′.the-laws) (LL.tells S.the-type S′.the-laws) fullShare c vs b o $
         move ! (1 ∷ []) $ peeks ! S.the-row (Is S.the-row) (shows 𝓤 H A S.the-row) c (mach c ∷ []) (λ was. move ! (1 ∷ 0 ∷ []) $

@@ -12,13 +12,13 @@ use Rattle.desk.proofs.running.run_held.Tie as tie
 slice-aggregate-run-by : tie.Need-slice-aggregate-run-by
 slice-aggregate-run-by c =
     let b = c .before .before .before .before .before .before in
-    let full : length (b .args .t3) ≡ 1024 = b .good .1 .1 .0 .1 .0 .1 in
+    let full : length (b .args .t3) ≡ 2048 = b .good .1 .1 .0 .1 .0 .1 in
     rw length-take (omega (arith, full, b .pre .few))
 
 returns : tie.Need-returns
 returns c =
     let b = c .before .before .before .before .before .before .before .before .before .before in
-    let full : length (b .args .t3) ≡ 1024 = b .good .1 .1 .0 .1 .0 .1 in
+    let full : length (b .args .t3) ≡ 2048 = b .good .1 .1 .0 .1 .0 .1 in
     held-ran (b .args .w .n) (b .args .t3) (omega (arith, full, b .pre .few)) (b .args .w .table) _ (c .before .before .before .before .before .before .table .given .1) _ _ _ _ _ (c .before .before .run-by .ensures)
 
 returns-2 : tie.Need-returns-2

@@ -135,7 +135,7 @@ module _ {M : Type 1} (𝓤 : URA M) (H : Heap 𝓤) (A : Atoms 𝓤) (W : Given
   to-h w d u = (((κ₂, (κ₃, tt)), (q₂, (q₃, tt)), tt, (w, (d, (commands, (finishes, tt)))), (valY w ∷ [], (u ∷ [], (val commands ∷ [], (val finishes ∷ [], tt))))), tt)
 
   abbrev Passed : WayIn → List ℕ → Val → Item 𝓤
-  Passed w d u = ((((‵ (Y.the-row .own w (valY w ∷ [])) ⊛ ‵ (Array u8 1024 .own d (u ∷ []))) ⊛ Commands) ⊛ Tok κ₂ q₂) ⊛ Finishes) ⊛ Tok κ₃ q₃
+  Passed w d u = ((((‵ (Y.the-row .own w (valY w ∷ [])) ⊛ ‵ (Array u8 2048 .own d (u ∷ []))) ⊛ Commands) ⊛ Tok κ₂ q₂) ⊛ Finishes) ⊛ Tok κ₃ q₃
 
   goes-h : (w : WayIn) (d : List ℕ) (u : Val) → LetIn w → ent 𝓤 (⋆ 𝓤 H A (Passed w d u ∷ [])) (Held 𝓤 H A mem run .pre (to-h w d u))
   goes-h w d u lets =
@@ -168,9 +168,9 @@ module _ {M : Type 1} (𝓤 : URA M) (H : Heap 𝓤) (A : Atoms 𝓤) (W : Given
         use2 W (raw (Gather 𝓤 H A mem run .pre (to-gather 𝓤 H A W mem run κ₁ q₁ list w))) (goes-gather 𝓤 H A W mem run κ₁ q₁ list w (LL.owed Y.the-type Y′.the-laws w (u ∷ []) isw .0 .1) (rw i (way-room (length (now list)) (admitted expected (now table))))) $
         -- [what is passed; the list; the way in's; the table's token; the table; the commands; its token; the finishes; its token; _12; …; _0; …]
         calls-at ! fm (Gather 𝓤 H A mem run) (known .1) (to-gather 𝓤 H A W mem run κ₁ q₁ list w) (and-then ! (load ! (from ! (stop !)) (look ! 27 refl)) (and-then ! (load ! (from ! (fld ! refl (stop !))) (look-in ! 21 (sub ! 0 refl (whole !)))) (no-more !))) (λ u′.
-        use1 W (later (some (λ (d : List ℕ). ((Tok κ₁ q₁ ⊛ ‵ ftrue) ⊛ ‵ (Array u8 1024 .own d (u′ ∷ []))) ⊛ raw (ensured 𝓤 H A g.ended (g.clauses 𝓤 H A mem run) (κ₁, tt) ((to-gather 𝓤 H A W mem run κ₁ q₁ list w) .0 .3) tt d)))) (id⊢ 𝓤 _) $ await ! tt $ pick ! (λ d.
-        split ! $ move ! (1 ∷ []) $ use1 W (raw (fact 𝓤 (Packs list w d))) (said-gather 𝓤 H A W mem run κ₁ q₁ list w d) $ heard ! (Packs list w d) (λ k. split ! $ move ! (1 ∷ []) $ peeks ! (Array u8 1024) (Is (Array u8 1024)) (shows 𝓤 H A (Array u8 1024)) d (u′ ∷ []) (λ isd.
-        land ! (from ! (stop !)) (init ! 20 refl (array-lawful 𝓤 H A W u8 (uint-lawful 𝓤 H A W w8) 1024 .typed d _ isd .0)) $
+        use1 W (later (some (λ (d : List ℕ). ((Tok κ₁ q₁ ⊛ ‵ ftrue) ⊛ ‵ (Array u8 2048 .own d (u′ ∷ []))) ⊛ raw (ensured 𝓤 H A g.ended (g.clauses 𝓤 H A mem run) (κ₁, tt) ((to-gather 𝓤 H A W mem run κ₁ q₁ list w) .0 .3) tt d)))) (id⊢ 𝓤 _) $ await ! tt $ pick ! (λ d.
+        split ! $ move ! (1 ∷ []) $ use1 W (raw (fact 𝓤 (Packs list w d))) (said-gather 𝓤 H A W mem run κ₁ q₁ list w d) $ heard ! (Packs list w d) (λ k. split ! $ move ! (1 ∷ []) $ peeks ! (Array u8 2048) (Is (Array u8 2048)) (shows 𝓤 H A (Array u8 2048)) d (u′ ∷ []) (λ isd.
+        land ! (from ! (stop !)) (init ! 20 refl (array-lawful 𝓤 H A W u8 (uint-lawful 𝓤 H A W w8) 2048 .typed d _ isd .0)) $
         -- [the bytes'; the list's token; the list; the way in's; the table's token; the table; the commands; its token; the finishes; its token; _12; …; _0; …]
         assigns ! (addr ! (from ! (fld ! refl (hop ! (look-in ! 26 (sub ! 0 refl (whole !))) (stop !))))) (from ! (stop !)) (init ! 16 refl (tt, tt)) $
         assigns ! (agg ! (and-then ! (load ! (from ! (stop !)) (look ! 16 refl)) (and-then ! (load ! (from ! (fld ! refl (stop !))) (look-in ! 26 (sub ! 1 refl (whole !)))) (no-more !)))) (from ! (stop !)) (init ! 14 refl (tt, (tt, (record { fits = gr .0 }, tt)))) $

@@ -12,13 +12,13 @@ use Rattle.desk.proofs.schedules.schedule_held.Tie as tie
 slice-aggregate-schedule-by : tie.Need-slice-aggregate-schedule-by
 slice-aggregate-schedule-by c =
     let b = c .before .before .before .before .before .before .before in
-    let full : length (b .args .t2) ≡ 1024 = b .good .1 .0 .1 .0 .1 in
+    let full : length (b .args .t2) ≡ 2048 = b .good .1 .0 .1 .0 .1 in
     rw length-take (omega (arith, full, b .pre .few))
 
 returns : tie.Need-returns
 returns c =
     let b = c .before .before .before .before .before .before .before .before .before .before .before .before .before .before in
-    let full : length (b .args .t2) ≡ 1024 = b .good .1 .0 .1 .0 .1 in
+    let full : length (b .args .t2) ≡ 2048 = b .good .1 .0 .1 .0 .1 in
     held-built (b .args .w .n) (b .args .t2) (omega (arith, full, b .pre .few)) (b .args .w .table) _ (c .before .before .before .before .before .before .before .before .before .table .given .1)
     _ _ _ _ _ (c .before .before .before .before .schedule-by .ensures)
 

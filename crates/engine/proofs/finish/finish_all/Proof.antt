@@ -25,7 +25,7 @@ slice-write-finishes : tie.Need-slice-write-finishes Inv-loop μ-loop
 slice-write-finishes c = omega (arith, c .before .before .before .before .before .loop-test .taken, c .before .before .before .before .before .before .loop .inv .1 .size, c .before .before .before .before .before .before .before .before .before .pre .1)
 
 loop-again : tie.Need-loop-again Inv-loop μ-loop
-loop-again c = let loop = c .before .before .before .before .before .before .loop in let start = c .before .before .before .before .before .before .before .before .before in let taken = c .before .before .before .before .before .loop-test .taken in let x = c .before .before .before .before .transaction-at in (omega (arith, taken), one-finished (start .args .t) _ (loop .k) _ (loop .finishes) (loop .inv .1) (omega (arith, taken, loop .inv .1 .size, start .pre .1)) (x .result) (x .ensures) (c .finish-of .result) (c .finish-of .ensures))
+loop-again c = let loop = c .before .before .before .before .before .before .loop in let start = c .before .before .before .before .before .before .before .before .before in let taken = c .before .before .before .before .before .loop-test .taken in let x = c .before .before .before .before .later-at in (omega (arith, taken), one-finished (start .args .t) _ (loop .k) _ (loop .finishes) (loop .inv .1) (omega (arith, taken, loop .inv .1 .size, start .pre .1)) (x .result) (x .ensures) (c .finish-of .result) (c .finish-of .ensures))
 
 returns : tie.Need-returns Inv-loop μ-loop
 returns c = let e : c .before .loop .k ≡ c .before .before .before .before .args .n = omega arith in rw e at (c .before .loop .inv .1)

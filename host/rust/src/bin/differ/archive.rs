@@ -6,7 +6,7 @@ pub use long::ENTRIES;
 use skvorzhan::raw::*;
 use std::mem::size_of;
 
-use crate::case::{fresh, Call, Case, State, BANKS, GROUPS, LAST, NUMBERS, REFRESH};
+use crate::case::{fresh, Call, Case, State, BANKS, GROUPS, LAST, LENT, NUMBERS, REFRESH};
 use crate::expected::Outcome;
 use crate::numbers::Noise;
 
@@ -73,6 +73,7 @@ fn controller(s: &State) -> Controller {
         last: [s[68], s[69], s[70], s[71]],
         groups,
         refresh: s[REFRESH],
+        lent: s[LENT],
     }
 }
 
@@ -86,7 +87,7 @@ fn state(c: &Controller) -> State {
     for (n, group) in s[GROUPS..REFRESH].chunks_exact_mut(3).zip(&c.groups) {
         n.copy_from_slice(&[group.act, group.rd, group.wr]);
     }
-    s[REFRESH] = c.refresh;
+    (s[REFRESH], s[LENT]) = (c.refresh, c.lent);
     s
 }
 
@@ -96,6 +97,12 @@ fn numbers(a: Answer) -> Vec<u32> {
 
 fn verdict(a: VerdictAnswer) -> Vec<u32> {
     vec![a.refused, a.position, a.edition, a.rule, a.copy, a.record]
+}
+
+fn transaction(a: TransactionAnswer) -> Vec<u32> {
+    let x = [a.kind, a.start, a.bi, a.bc].map(u32::from);
+    let head = [a.refused, a.position, a.edition];
+    [&head[..], &x, &[a.arrival]].concat()
 }
 
 fn captured(a: CaptureAnswer) -> Vec<u32> {
@@ -109,7 +116,7 @@ impl Archive {
             table: Region::new(LONGEST_TABLE),
             bytes: Region::new(LONGEST_BYTES),
             room: Region::new(MOST_ROOM),
-            slots: Region::new(4 * MOST_SLOTS),
+            slots: Region::new(8 * MOST_SLOTS),
             state: Region::new(size_of::<Controller>()),
             noise: Noise::new(MOST_ROOM),
         }
@@ -123,7 +130,7 @@ impl Archive {
         let list = self.bytes.hold(&whole, lies, noise, f);
         let t = self.table.hold(&case.table, lies, noise, f);
         let room = self.room.fill(case.room, lies, noise, f);
-        let slots = self.slots.fill(4 * case.slots, lies, noise, f);
+        let slots = self.slots.fill(case.bytes_of_slots(), lies, noise, f);
         let numbers_now: Vec<u8> = case.state.iter().flat_map(|n| n.to_le_bytes()).collect();
         let c = self.state.hold(&numbers_now, lies, noise, f) as *mut Controller;
         for region in [&mut self.bytes, &mut self.table] {
@@ -136,9 +143,10 @@ impl Archive {
         }
         let e = case.expected;
         let (tn, bn, rn, sn) = (case.table.len(), whole.len(), case.room, case.slots);
-        let xs = list as *const Transaction;
-        let finishes = slots as *mut u32;
-        let [v0, v1, v2, v3] = case.values;
+        let (xs, xn) = (list as *const Transaction, bn / 8);
+        let (finishes, places) = (slots as *mut u32, slots as *mut Transaction);
+        let [v0, v1, v2, v3, v4] = case.values;
+        let four = [v0, v1, v2, v3].map(|n| n as u8);
         let mut handed_back = None;
         let mut keep = |a: ControllerAnswer| {
             handed_back = Some(state(&a.controller));
@@ -164,14 +172,16 @@ impl Archive {
                     };
                     numbers(skv_write_group_table(numbers_, room, rn))
                 }
-                Call::ReadTransaction => {
-                    let a = skv_read_transaction(list, bn);
-                    let x = [a.kind, a.start, a.bi, a.bc].map(u32::from);
-                    vec![a.refused, a.position, a.edition, x[0], x[1], x[2], x[3]]
+                Call::ReadTransaction => transaction(skv_read_transaction(list, bn)),
+                Call::WriteTransaction => {
+                    let [kind, start, bi, bc] = four;
+                    numbers(skv_write_transaction(kind, start, bi, bc, room, rn))
                 }
-                Call::WriteTransaction => numbers(skv_write_transaction(
-                    v0 as u8, v1 as u8, v2 as u8, v3 as u8, room, rn,
-                )),
+                Call::ReadLater => transaction(skv_read_later(list, bn)),
+                Call::WriteLater => {
+                    let [kind, start, bi, bc] = four;
+                    numbers(skv_write_later(kind, start, bi, bc, v4, room, rn))
+                }
                 Call::ReadCommand => {
                     let a = skv_read_command(list, bn);
                     let (kind, bank) = (a.kind.into(), a.bank.into());
@@ -190,19 +200,17 @@ impl Archive {
                 Call::WriteCaptureRecord => numbers(skv_write_capture_record(
                     v0 as u16, v1 as u8, v2 as u8, room, rn,
                 )),
-                Call::ReadTransactions => numbers(skv_read_transactions(
-                    e,
-                    t,
-                    tn,
-                    list,
-                    bn,
-                    slots as *mut Transaction,
-                    sn,
-                )),
-                Call::Schedule => {
-                    numbers(skv_schedule(e, t, tn, xs, bn / 4, room, rn, finishes, sn))
+                Call::ReadTransactions => {
+                    numbers(skv_read_transactions(e, t, tn, list, bn, places, sn))
                 }
+                Call::ReadLaterTransactions => {
+                    numbers(skv_read_later_transactions(e, t, tn, list, bn, places, sn))
+                }
+                Call::Schedule => numbers(skv_schedule(e, t, tn, xs, xn, room, rn, finishes, sn)),
                 Call::ScheduleBytes => numbers(skv_schedule_bytes(
+                    e, t, tn, list, bn, room, rn, finishes, sn,
+                )),
+                Call::ScheduleLaterBytes => numbers(skv_schedule_later_bytes(
                     e, t, tn, list, bn, room, rn, finishes, sn,
                 )),
                 Call::Judge => verdict(skv_judge(e, t, tn, list, bn)),
@@ -210,19 +218,16 @@ impl Archive {
                 Call::JudgeCapture => captured(skv_judge_capture(e, t, tn, list, bn, room, rn)),
                 Call::Bound => numbers(skv_bound(e, t, tn, v0 as u8, v1 as u8)),
                 Call::Start => keep(skv_start(e, t, tn)),
-                Call::Run => numbers(skv_run(c, e, t, tn, xs, bn / 4, v0, room, rn)),
-                Call::Step => numbers(skv_step(c, e, t, tn, xs, bn / 4, room, rn)),
-                Call::RunBytes => keep(skv_run_bytes(
-                    controller(&case.state),
-                    e,
-                    t,
-                    tn,
-                    list,
-                    bn,
-                    v0,
-                    room,
-                    rn,
-                )),
+                Call::Run => numbers(skv_run(c, e, t, tn, xs, xn, v0, room, rn)),
+                Call::Step => numbers(skv_step(c, e, t, tn, xs, xn, room, rn)),
+                Call::RunBytes => {
+                    let c = controller(&case.state);
+                    keep(skv_run_bytes(c, e, t, tn, list, bn, v0, room, rn))
+                }
+                Call::RunLaterBytes => {
+                    let c = controller(&case.state);
+                    keep(skv_run_later_bytes(c, e, t, tn, list, bn, v0, room, rn))
+                }
             }
         };
         self.untouched(case, &whole)?;
@@ -235,11 +240,11 @@ impl Archive {
         })
     }
 
-    /// Decoded transactions are handed over whole.
+    /// Decoded transactions are handed over whole: in memory they are the bytes of the record of 8.
     fn handed_over(&self, case: &Case) -> Vec<u8> {
-        match case.call {
-            Call::Schedule | Call::Run | Call::Step => case.records().concat(),
-            _ => case.bytes.clone(),
+        match case.call.decoded() {
+            true => case.list().concat(),
+            false => case.bytes.clone(),
         }
     }
 

@@ -1,141 +1,35 @@
 //! One call with all that it is given, as plain numbers and bytes.
 
+mod call;
+mod state;
 mod text;
 
-use model::house::{due, REFRESH_BYTES};
+pub use call::*;
+pub use state::*;
+
+use model::house::{later, REFRESH_BYTES};
 use model::sent::TICK;
-
-#[derive(Debug, Clone, Copy, PartialEq, Eq)]
-pub enum Call {
-    ReadTable,
-    WriteTable,
-    WriteGroupTable,
-    ReadTransaction,
-    WriteTransaction,
-    ReadCommand,
-    WriteCommand,
-    ReadCaptureRecord,
-    WriteCaptureRecord,
-    ReadTransactions,
-    Schedule,
-    ScheduleBytes,
-    Judge,
-    JudgePattern,
-    JudgeCapture,
-    Bound,
-    Start,
-    Run,
-    Step,
-    RunBytes,
-}
-
 use Call::*;
-
-pub const COUNT: usize = 20;
-
-/// In the order of the header.
-pub const CALLS: [(Call, &str); COUNT] = [
-    (ReadTable, "skv_read_table"),
-    (WriteTable, "skv_write_table"),
-    (WriteGroupTable, "skv_write_group_table"),
-    (ReadTransaction, "skv_read_transaction"),
-    (WriteTransaction, "skv_write_transaction"),
-    (ReadCommand, "skv_read_command"),
-    (WriteCommand, "skv_write_command"),
-    (ReadCaptureRecord, "skv_read_capture_record"),
-    (WriteCaptureRecord, "skv_write_capture_record"),
-    (ReadTransactions, "skv_read_transactions"),
-    (Schedule, "skv_schedule"),
-    (ScheduleBytes, "skv_schedule_bytes"),
-    (Judge, "skv_judge"),
-    (JudgePattern, "skv_judge_pattern"),
-    (JudgeCapture, "skv_judge_capture"),
-    (Bound, "skv_bound"),
-    (Start, "skv_start"),
-    (Run, "skv_run"),
-    (Step, "skv_step"),
-    (RunBytes, "skv_run_bytes"),
-];
-
-impl Call {
-    pub fn name(self) -> &'static str {
-        CALLS[self as usize].1
-    }
-
-    pub fn runs(self) -> bool {
-        matches!(self, Run | Step | RunBytes)
-    }
-
-    /// Whether a table is lent, and with it an edition expected: all but the first nine, which read and write one record.
-    pub fn expects(self) -> bool {
-        self as usize >= ReadTransactions as usize
-    }
-
-    /// The numbers that it can be refused by, in the order of the checks.
-    pub fn refusals(self) -> &'static [usize] {
-        match self {
-            ReadTable | WriteTable | WriteGroupTable => &[1, 2],
-            ReadTransaction | WriteTransaction => &[3, 4],
-            ReadCommand | ReadCaptureRecord => &[7],
-            WriteCommand | WriteCaptureRecord => &[5],
-            ReadTransactions => &[1, 2, 10, 3, 4],
-            Schedule | ScheduleBytes => &[1, 2, 10, 3, 4, 5, 6],
-            Judge => &[1, 2, 10, 7],
-            JudgePattern => &[1, 2, 10, 7, 8],
-            JudgeCapture => &[1, 2, 10, 7, 11, 5],
-            Bound => &[1, 2, 10, 4],
-            Start => &[1, 2, 10],
-            Run | Step | RunBytes => &[1, 2, 10, 3, 4, 5, 9],
-        }
-    }
-
-    /// The size of what `bytes` holds.
-    pub fn record(self) -> usize {
-        match self {
-            Judge | JudgePattern => 8,
-            ReadTransaction | ReadCommand | ReadCaptureRecord => 1,
-            _ => 4,
-        }
-    }
-
-    /// How many commands there must be room for with such bytes: those due, or those of a capture.
-    pub fn room_in_commands(self, bytes: &[u8]) -> usize {
-        let records = records(bytes);
-        match self {
-            JudgeCapture => records.iter().filter(|x| !is_tick(x)).count(),
-            _ => due(&records),
-        }
-    }
-}
-
-/// A controller's numbers: edition, cycle, acts, datas; opened, act, rd, wr of each bank; the last four ACTs; act, rd, wr of each group; the last
-/// REF.
-pub type State = [u32; NUMBERS];
-pub const NUMBERS: usize = 97;
-pub const EDITION: usize = 0;
-pub const CYCLE: usize = 1;
-pub const ACTS: usize = 2;
-pub const DATAS: usize = 3;
-pub const BANKS: usize = 4;
-pub const LAST: usize = 68;
-pub const GROUPS: usize = 72;
-pub const REFRESH: usize = 96;
-
-/// Closed, and "never" throughout.
-pub fn fresh(edition: u32) -> State {
-    let mut s = [u32::MAX; NUMBERS];
-    s[EDITION] = edition;
-    s[CYCLE..BANKS].fill(0);
-    for opened in s[BANKS..LAST].iter_mut().step_by(4) {
-        *opened = 0;
-    }
-    s
-}
 
 /// Whole records of 4 bytes only.
 pub fn records(bytes: &[u8]) -> Vec<[u8; 4]> {
     let record = |x: &[u8]| [x[0], x[1], x[2], x[3]];
     bytes.chunks_exact(4).map(record).collect()
+}
+
+/// Transactions of so many bytes each, whole ones only, in 8 bytes: those of 4 arrive at 0.
+pub fn in_eight(bytes: &[u8], of_record: usize) -> Vec<[u8; 8]> {
+    let record = |x: &[u8]| std::array::from_fn(|at| x.get(at).copied().unwrap_or(0));
+    bytes.chunks_exact(of_record).map(record).collect()
+}
+
+/// Transactions that arrive at 0.
+pub fn at_once(list: &[[u8; 4]]) -> Vec<[u8; 8]> {
+    list.iter().map(|&x| later(x, 0)).collect()
+}
+
+pub fn arrival(x: &[u8; 8]) -> u32 {
+    u32::from_le_bytes([x[4], x[5], x[6], x[7]])
 }
 
 /// Of a capture record.
@@ -158,7 +52,7 @@ pub struct Case {
     /// The list, the schedule, the pattern, the capture, or the one record to be read.
     pub bytes: Vec<u8>,
     /// What is passed as plain numbers, in the order of the parameters.
-    pub values: [u32; 4],
+    pub values: [u32; 5],
     /// The size of the lent bytes.
     pub room: usize,
     /// The number of lent finishing cycles, or of places to decode into.
@@ -177,7 +71,7 @@ impl Case {
             expected: 7,
             table: Vec::new(),
             bytes: Vec::new(),
-            values: [0; 4],
+            values: [0; 5],
             room: 0,
             slots: 0,
             state: fresh(7),
@@ -186,17 +80,29 @@ impl Case {
         }
     }
 
-    /// The list of a call that takes decoded transactions.
-    pub fn records(&self) -> Vec<[u8; 4]> {
-        records(&self.bytes)
+    /// The transactions of the bytes.
+    pub fn list(&self) -> Vec<[u8; 8]> {
+        in_eight(&self.bytes, self.call.of_record())
+    }
+
+    /// Gives it a list, without the arrivals where its records have none.
+    pub fn lend(&mut self, list: &[[u8; 8]]) {
+        let size = self.call.of_record();
+        self.bytes = list.iter().flat_map(|x| &x[..size]).copied().collect();
+    }
+
+    /// The transaction that is written.
+    pub fn written(&self) -> [u8; 8] {
+        let [kind, start, bi, bc, arrival] = self.values;
+        later([kind, start, bi, bc].map(|n| n as u8), arrival)
     }
 
     /// The transactions that the call is given: its list, or the one to be read or written.
-    fn given(&self) -> Vec<[u8; 4]> {
+    fn given(&self) -> Vec<[u8; 8]> {
         match self.call {
-            WriteTransaction => vec![self.values.map(|n| n as u8)],
-            ReadTransaction | ReadTransactions => self.records(),
-            Schedule | ScheduleBytes | Run | Step | RunBytes => self.records(),
+            WriteTransaction | WriteLater => vec![self.written()],
+            ReadTransaction | ReadLater => self.list(),
+            call if call.is_given_a_list() => self.list(),
             _ => Vec::new(),
         }
     }
@@ -207,30 +113,45 @@ impl Case {
             true => self.numbers()[1],
             false => 16,
         };
-        let over = |x: &&[u8; 4]| u16::from(x[1]) + u16::from(x[2]) > banks;
-        let all = |x: &[u8; 4]| u16::from(x[2]) == banks;
+        let over = |x: &&[u8; 8]| u16::from(x[1]) + u16::from(x[2]) > banks;
+        let all = |x: &[u8; 8]| u16::from(x[2]) == banks;
         self.given().iter().filter(over).map(all).collect()
     }
 
     /// Whether there is a refresh among them.
     pub fn refreshes(&self) -> bool {
-        self.given().contains(&REFRESH_BYTES)
+        self.given().iter().any(|x| x[..4] == REFRESH_BYTES)
+    }
+
+    /// Whether one of them arrives after cycle 0.
+    pub fn arrives(&self) -> bool {
+        self.given().iter().any(|x| arrival(x) > 0)
+    }
+
+    /// Of a run: whether it is lent transactions that were not lent before.
+    pub fn lends_more(&self) -> bool {
+        self.call.runs() && (self.state[LENT] as usize) < self.list().len()
     }
 
     /// Of a capture, how many records are ticks, and how often the stamp goes round.
     pub fn ticks_and_wraps(&self) -> (usize, usize) {
-        let records = self.records();
+        let records = records(&self.bytes);
         let ticks = records.iter().filter(|x| is_tick(x)).count();
         let goes_round = |pair: &&[[u8; 4]]| stamp(&pair[1]) < stamp(&pair[0]);
         (ticks, records.windows(2).filter(goes_round).count())
     }
 
-    /// The records of the bytes, for a reader: commands as cycle, kind, bank and number; capture records as stamp, kind and bank.
+    /// The records of the bytes, for a reader: commands as cycle, kind, bank and number; capture records as stamp, kind and bank; transactions
+    /// of 8 bytes with their arrival.
     pub fn shown(&self) -> Vec<Vec<u32>> {
         let record = |x: &[u8]| match *x {
             [a, b, kind, bank] if self.call == JudgeCapture => {
                 let stamp = u16::from_le_bytes([a, b]);
                 vec![stamp.into(), kind.into(), bank.into()]
+            }
+            [kind, start, bi, bc, a, b, c, d] if self.call.is_given_a_list() => {
+                let four = [kind, start, bi, bc].map(u32::from);
+                [&four[..], &[u32::from_le_bytes([a, b, c, d])]].concat()
             }
             [a, b, c, d, kind, bank, e, f] => {
                 let cycle = u32::from_le_bytes([a, b, c, d]);
@@ -267,6 +188,11 @@ impl Case {
         let mut case = self.clone();
         case.expected = case.edition();
         case
+    }
+
+    /// Of finishing cycles, or of places to decode into.
+    pub fn bytes_of_slots(&self) -> usize {
+        self.slots * if self.call.decodes() { 8 } else { 4 }
     }
 
     /// The cycles asked for of a call that runs.

@@ -20,14 +20,8 @@ pub struct Outcome {
 /// times cycles; else by the model's controller.
 const BY_HISTORY: u64 = 100_000;
 
-pub fn transactions(list: &[[u8; 4]]) -> Vec<Transaction> {
-    let one = |&[kind, start, bi, bc]: &[u8; 4]| Transaction {
-        kind,
-        start,
-        bi,
-        bc,
-    };
-    list.iter().map(one).collect()
+pub fn transactions(list: &[[u8; 8]]) -> Vec<Transaction> {
+    list.iter().map(|x| Transaction::of(x)).collect()
 }
 
 pub fn controller(s: &State) -> Controller {
@@ -52,7 +46,7 @@ pub fn controller(s: &State) -> Controller {
             wr: n[2],
         };
     }
-    c.refresh = s[REFRESH];
+    (c.refresh, c.lent) = (s[REFRESH], s[LENT]);
     c
 }
 
@@ -66,7 +60,7 @@ pub fn state(c: &Controller) -> State {
     for (n, group) in s[GROUPS..REFRESH].chunks_exact_mut(3).zip(&c.groups) {
         n.copy_from_slice(&[group.act, group.rd, group.wr]);
     }
-    s[REFRESH] = c.refresh;
+    (s[REFRESH], s[LENT]) = (c.refresh, c.lent);
     s
 }
 
@@ -86,15 +80,17 @@ pub fn refused(answer: &[u32]) -> usize {
 
 pub fn expected(case: &Case, noise: &Noise) -> Outcome {
     let (e, table, bytes) = (case.expected, &case.table[..], &case.bytes[..]);
-    let [a, b, c, d] = case.values;
+    let [a, b, c, d, _] = case.values;
     let mut room = noise.lent(case.filling, case.room).to_vec();
-    let slots = noise.lent(case.filling, 4 * case.slots);
+    let slots = noise.lent(case.filling, case.bytes_of_slots());
     let mut finishes: Vec<u32> = words(slots);
-    let mut places = transactions(&records(slots));
+    let mut places = transactions(&in_eight(slots, 8));
     let mut run = controller(&case.state);
     let mut fresh = None;
-    let list = || transactions(&case.records());
+    let list = case.list();
+    let written = Transaction::of(&case.written());
     let whole = |edition| (edition, [0, 0]);
+    let decoded = |d: desk::Decoded| (d.edition, [d.transactions, 0]);
     let built = |s: desk::Scheduled| (s.edition, [s.commands, 0]);
     let ran = |r: desk::Ran| (r.edition, [r.commands, r.cycles]);
     let answer = match case.call {
@@ -103,13 +99,12 @@ pub fn expected(case: &Case, noise: &Noise) -> Outcome {
         Call::WriteGroupTable => {
             answer(desk::write_group_table(case.numbers(), &mut room).map(whole))
         }
-        Call::ReadTransaction => answer(
-            desk::read_transaction(bytes)
-                .map(|x| (0, [x.kind.into(), x.start.into(), x.bi.into(), x.bc.into()])),
-        ),
-        Call::WriteTransaction => answer(
-            desk::write_transaction(a as u8, b as u8, c as u8, d as u8, &mut room).map(whole),
-        ),
+        Call::ReadTransaction => answer(desk::read_transaction(bytes).map(five)),
+        Call::WriteTransaction => {
+            answer(desk::write_transaction(written.arriving(0), &mut room).map(whole))
+        }
+        Call::ReadLater => answer(desk::read_later(bytes).map(five)),
+        Call::WriteLater => answer(desk::write_later(written, &mut room).map(whole)),
         Call::ReadCommand => answer(desk::read_command(bytes).map(|c| {
             let (kind, bank) = (c.kind.into(), c.bank.into());
             (0, [c.cycle, kind, bank, c.transaction.into()])
@@ -125,17 +120,19 @@ pub fn expected(case: &Case, noise: &Noise) -> Outcome {
             answer(desk::write_capture_record(a as u16, b as u8, c as u8, &mut room).map(whole))
         }
         Call::ReadTransactions => {
-            let told = desk::read_transactions(e, table, bytes, &mut places);
-            answer(told.map(|d| (d.edition, [d.transactions, 0])))
+            answer(desk::read_transactions(e, table, bytes, &mut places).map(decoded))
         }
-        Call::Schedule => {
-            answer(schedule(e, table, &case.records(), &mut room, &mut finishes).map(built))
+        Call::ReadLaterTransactions => {
+            answer(desk::read_later_transactions(e, table, bytes, &mut places).map(decoded))
         }
-        Call::ScheduleBytes if bytes.len() % 4 == 0 => {
-            answer(schedule(e, table, &case.records(), &mut room, &mut finishes).map(built))
-        }
-        Call::ScheduleBytes => {
+        Call::ScheduleBytes if bytes.len() % 4 != 0 => {
             answer(desk::schedule_bytes(e, table, bytes, &mut room, &mut finishes).map(built))
+        }
+        Call::ScheduleLaterBytes if bytes.len() % 8 != 0 => {
+            answer(desk::schedule_later_bytes(e, table, bytes, &mut room, &mut finishes).map(built))
+        }
+        Call::Schedule | Call::ScheduleBytes | Call::ScheduleLaterBytes => {
+            answer(schedule(e, table, &list, &mut room, &mut finishes).map(built))
         }
         Call::Judge => answer(desk::judge(e, table, bytes).map(
             |(edition, verdict)| match verdict {
@@ -171,19 +168,20 @@ pub fn expected(case: &Case, noise: &Noise) -> Outcome {
             answer(told.map(whole))
         }
         Call::Run | Call::Step => {
-            answer(desk::run(&mut run, e, table, &list(), case.count(), &mut room).map(ran))
+            let list = transactions(&list);
+            answer(desk::run(&mut run, e, table, &list, case.count(), &mut room).map(ran))
         }
         Call::RunBytes => answer(desk::run_bytes(&mut run, e, table, bytes, a, &mut room).map(ran)),
+        Call::RunLaterBytes => {
+            answer(desk::run_later_bytes(&mut run, e, table, bytes, a, &mut room).map(ran))
+        }
     };
     Outcome {
         answer,
         room,
-        slots: match case.call {
-            Call::ReadTransactions => places
-                .iter()
-                .flat_map(|x| [x.kind, x.start, x.bi, x.bc])
-                .collect(),
-            _ => finishes.iter().flat_map(|n| n.to_le_bytes()).collect(),
+        slots: match case.call.decodes() {
+            true => places.iter().flat_map(|x| x.eight()).collect(),
+            false => finishes.iter().flat_map(|n| n.to_le_bytes()).collect(),
         },
         state: match fresh {
             Some(c) => Some(state(&c)),
@@ -191,6 +189,12 @@ pub fn expected(case: &Case, noise: &Noise) -> Outcome {
             None => None,
         },
     }
+}
+
+/// The numbers of a transaction that is read, and edition 0.
+fn five(x: Transaction) -> (u16, [u32; 5]) {
+    let [kind, start, bi, bc] = x.four().map(u32::from);
+    (0, [kind, start, bi, bc, x.arrival])
 }
 
 fn words(bytes: &[u8]) -> Vec<u32> {
@@ -201,7 +205,7 @@ fn words(bytes: &[u8]) -> Vec<u32> {
 fn schedule(
     e: u16,
     table: &[u8],
-    list: &[[u8; 4]],
+    list: &[[u8; 8]],
     room: &mut [u8],
     finishes: &mut [u32],
 ) -> Result<desk::Scheduled, Refusal> {
@@ -230,7 +234,7 @@ fn schedule(
 fn built(
     e: u16,
     table: &[u8],
-    list: &[[u8; 4]],
+    list: &[[u8; 8]],
 ) -> Result<(desk::Ran, Vec<u8>, Vec<u32>), Refusal> {
     let (_, mut fresh) = desk::start(e, table);
     let mut room = vec![0; room_for(list)];

@@ -1,5 +1,6 @@
 //! Cases: random and hostile, for every call.
 
+mod arrivals;
 mod captures;
 mod groups;
 mod lists;
@@ -18,7 +19,7 @@ pub use states::too_long;
 
 /// How often each call is made, in the order of the header.
 const SHARES: [usize; COUNT] = [
-    4, 3, 3, 2, 2, 1, 2, 1, 2, 6, 12, 8, 14, 10, 12, 3, 1, 14, 6, 8,
+    4, 3, 3, 2, 2, 2, 2, 1, 2, 1, 2, 4, 4, 12, 6, 6, 14, 10, 12, 3, 1, 14, 6, 6, 8,
 ];
 
 /// Case `index` of a seed.
@@ -43,32 +44,43 @@ pub fn case(seed: u64, index: u64) -> Case {
             case.table = bytes_of(&tables::numbers(r));
             case.room = size(r, 40);
         }
-        Call::ReadTransaction => case.bytes = record(r, 4),
-        Call::WriteTransaction => {
+        Call::ReadTransaction | Call::ReadLater => {
+            // For 16 banks and with refresh.
+            case.lend(&[lists::one(r, &whole(&GREATEST))]);
+            if r.one_in(4) {
+                case.bytes.resize(r.below(12), 1);
+            }
+        }
+        Call::WriteTransaction | Call::WriteLater => {
             let x = lists::one(r, &whole(&GREATEST));
-            case.values = x.map(u32::from);
-            case.room = size(r, 4);
+            let [kind, start, bi, bc] = [x[0], x[1], x[2], x[3]].map(u32::from);
+            let arrival = match case.call {
+                Call::WriteLater => arrival(&x),
+                _ => 0,
+            };
+            case.values = [kind, start, bi, bc, arrival];
+            case.room = size(r, case.call.of_record());
         }
         Call::ReadCommand => case.bytes = record(r, 8),
         Call::WriteCommand => {
-            case.values = [r.edge(), r.u8().into(), r.u8().into(), r.u32() & 0xffff];
+            case.values = [r.edge(), r.u8().into(), r.u8().into(), r.u32() & 0xffff, 0];
             case.room = room(r, 8);
         }
         Call::ReadCaptureRecord => case.bytes = record(r, 4),
         Call::WriteCaptureRecord => {
-            case.values = [r.u32() & 0xffff, r.u8().into(), r.u8().into(), 0];
+            case.values = [r.u32() & 0xffff, r.u8().into(), r.u8().into(), 0, 0];
             case.room = room(r, 4);
         }
-        Call::ReadTransactions => {
+        Call::ReadTransactions | Call::ReadLaterTransactions => {
             let table = tables::some(r, &mut case);
-            case.bytes = lists::some(r, &table);
-            case.slots = slots(r, case.bytes.len() / 4);
+            lists::some(r, &table, &mut case);
+            case.slots = slots(r, case.list().len());
         }
-        Call::Schedule | Call::ScheduleBytes => {
+        Call::Schedule | Call::ScheduleBytes | Call::ScheduleLaterBytes => {
             let table = tables::some(r, &mut case);
-            case.bytes = lists::some(r, &table);
-            case.room = room(r, room_for(&case.records()));
-            case.slots = slots(r, case.bytes.len() / 4);
+            lists::some(r, &table, &mut case);
+            case.room = room(r, room_for(&case.list()));
+            case.slots = slots(r, case.list().len());
         }
         Call::Judge => {
             let table = tables::for_judges(r, &mut case);
@@ -90,26 +102,23 @@ pub fn case(seed: u64, index: u64) -> Case {
                 1 => r.of_these(&[0, 16, 17, 255]),
                 _ => r.range(1, 16),
             };
-            case.values = [number(r), number(r), 0, 0];
+            case.values = [number(r), number(r), 0, 0, 0];
         }
         Call::Start => {
             tables::some(r, &mut case);
         }
-        Call::Run | Call::Step | Call::RunBytes => {
+        Call::Run | Call::Step | Call::RunBytes | Call::RunLaterBytes => {
             let table = tables::some(r, &mut case);
-            case.bytes = lists::some(r, &table);
+            lists::some(r, &table, &mut case);
             states::run(r, &table, &mut case);
         }
     }
     case
 }
 
-/// A record's bytes of about that size, a transaction's for 16 banks and with refresh.
+/// Any bytes of about that size.
 fn record(r: &mut Random, right: usize) -> Vec<u8> {
     let size = if r.one_in(4) { r.below(12) } else { right };
-    if right == 4 && size == 4 {
-        return lists::one(r, &whole(&GREATEST)).to_vec();
-    }
     (0..size).map(|_| r.u8()).collect()
 }
 
@@ -148,7 +157,8 @@ fn slots(r: &mut Random, due: usize) -> usize {
 }
 
 /// Cases that random ones seldom meet or may miss: the greatest sizes, a run that idles from the first cycle to the last, lists from every
-/// start, many refreshes, captures up to the last cycle, every count of groups, and every refusal of every call.
+/// start, many refreshes, captures up to the last cycle, every count of groups, the last arrivals and pieces cut at every place, and every
+/// refusal of every call.
 pub fn last() -> Vec<Case> {
     let table = |t: &model::desk::Table| bytes_of(t);
     let mut cases = Vec::new();
@@ -157,17 +167,21 @@ pub fn last() -> Vec<Case> {
     for (call, n, more) in [
         (Call::Schedule, 256, 0),
         (Call::ScheduleBytes, 256, 0),
+        (Call::ScheduleLaterBytes, 256, 0),
         (Call::Schedule, 256, 1),
         (Call::Schedule, 257, 0),
         (Call::ScheduleBytes, 257, 0),
+        (Call::ScheduleLaterBytes, 257, 0),
         (Call::Run, 256, 0),
         (Call::RunBytes, 257, 0),
+        (Call::RunLaterBytes, 257, 0),
     ] {
         let mut case = Case::new(call);
         case.table = table(&sixteen);
-        case.bytes = (0..n)
-            .flat_map(|i| [(i % 3 == 1) as u8, (i % 16) as u8, 16, 16])
+        let list: Vec<[u8; 4]> = (0..n)
+            .map(|i| [(i % 3 == 1) as u8, (i % 16) as u8, 16, 16])
             .collect();
+        case.lend(&at_once(&list));
         case.values[0] = u32::MAX;
         case.room = 8 * 69_632 - more;
         case.slots = n;
@@ -194,7 +208,7 @@ pub fn last() -> Vec<Case> {
     }
     let mut idles = Case::new(Call::Run);
     idles.table = table(&TABLE_A);
-    idles.bytes = vec![0, 0, 1, 1];
+    idles.lend(&at_once(&[[0, 0, 1, 1]]));
     idles.values[0] = u32::MAX;
     idles.room = 16;
     idles.state[BANKS] = 1;
@@ -203,6 +217,7 @@ pub fn last() -> Vec<Case> {
     cases.extend(refreshes::all());
     cases.extend(captures::last());
     cases.extend(groups::all());
+    cases.extend(arrivals::all());
     cases.extend(refusals::all());
     cases
 }
@@ -222,7 +237,7 @@ fn over_the_last_bank() -> Vec<Case> {
             for call in [Call::ReadTransactions, Call::Schedule, Call::RunBytes] {
                 let mut case = Case::new(call);
                 case.table = bytes_of(&table);
-                case.bytes = list.concat();
+                case.lend(&at_once(&list));
                 case.values[0] = u32::MAX;
                 case.room = room_for(&list);
                 case.slots = list.len();

@@ -2,7 +2,7 @@
 
 use std::time::{Duration, Instant};
 
-use model::house::{bytes_of, due, RFC, TABLE_A, TABLE_D};
+use model::house::{bytes_of, due, later, RFC, TABLE_A, TABLE_D};
 
 use crate::case::*;
 use crate::make::too_long;
@@ -57,7 +57,7 @@ fn cut(
                 next.room = next
                     .room
                     .saturating_sub(8 * next.call.room_in_commands(gone));
-                next.slots = next.slots.saturating_sub(size / 4);
+                next.slots = next.slots.saturating_sub(size / next.call.of_record());
                 next
             };
             let found = [with_less_room, next].iter().any(|next| {
@@ -151,7 +151,7 @@ fn changes(case: &Case) -> Vec<Change> {
             }
         }
     }
-    for i in 0..4 {
+    for i in 0..5 {
         all.push(Box::new(move |c| c.values[i] = 0));
         all.push(Box::new(move |c| c.values[i] = c.values[i].min(1)));
         all.push(Box::new(move |c| c.values[i] /= 2));
@@ -167,22 +167,25 @@ fn changes(case: &Case) -> Vec<Change> {
         }
     }
     // Records of a list: simplest numbers, with the room that goes with them, and without.
-    if case.call.record() == 4 && case.call != Call::JudgeCapture {
-        for at in (0..case.bytes.len() / 4 * 4).step_by(4).take(100) {
+    if case.call.is_given_a_list() {
+        arrivals(&mut all);
+        let size = case.call.of_record();
+        let end = case.bytes.len() / size * size;
+        for at in (0..end).step_by(size).take(100) {
             all.push(Box::new(move |c| {
-                let before = due(&c.records());
+                let before = due(&c.list());
                 for (k, simple) in [0, 0, 1, 1].into_iter().enumerate() {
                     set(c, at + k, simple);
                 }
-                c.room = (c.room + 8 * due(&c.records())).saturating_sub(8 * before);
+                c.room = (c.room + 8 * due(&c.list())).saturating_sub(8 * before);
             }));
         }
-        for at in (0..case.bytes.len() / 4 * 4).take(400) {
-            let simple = [0, 0, 1, 1][at % 4];
+        for at in (0..end).take(400) {
+            let simple = [0, 0, 1, 1, 0, 0, 0, 0][at % size];
             all.push(Box::new(move |c| {
-                let before = due(&c.records());
+                let before = due(&c.list());
                 if set(c, at, simple) {
-                    c.room = (c.room + 8 * due(&c.records())).saturating_sub(8 * before);
+                    c.room = (c.room + 8 * due(&c.list())).saturating_sub(8 * before);
                 }
             }));
             all.push(Box::new(move |c| {
@@ -203,6 +206,19 @@ fn changes(case: &Case) -> Vec<Change> {
     all.push(Box::new(|c| c.filling = 0));
     all.push(Box::new(|c| c.lies = 2));
     all
+}
+
+/// All arrivals 0, or each less than it was.
+fn arrivals(all: &mut Vec<Change>) {
+    for less in [|_| 0, |n: u32| n / 2, |n: u32| n.saturating_sub(1)] {
+        all.push(Box::new(move |c| {
+            if c.call.of_record() == 8 && c.bytes.len() % 8 == 0 {
+                let one = |x: &[u8; 8]| later([x[0], x[1], x[2], x[3]], less(arrival(x)));
+                let list: Vec<[u8; 8]> = c.list().iter().map(one).collect();
+                c.lend(&list);
+            }
+        }));
+    }
 }
 
 fn set(c: &mut Case, at: usize, to: u8) -> bool {

@@ -2,7 +2,7 @@
 
 use std::ops::RangeInclusive;
 
-use crate::case::{Call, Case, CALLS, COUNT};
+use crate::case::{Call, Case, CALLS, COUNT, CYCLE};
 use crate::expected::{refused, Outcome};
 use crate::groups::broken_by;
 
@@ -10,14 +10,18 @@ use crate::groups::broken_by;
 pub struct Tally {
     calls: [u64; COUNT],
     /// By the refusal's number; 0 is accepted.
-    refused: [[u64; 12]; COUNT],
+    refused: [[u64; 13]; COUNT],
     /// With another edition expected than the table's: those refused by what goes before it, 1 and 2, and in place of 10 what would be told
     /// with the table's own; 0 is nothing.
-    others: [[u64; 12]; COUNT],
+    others: [[u64; 13]; COUNT],
     /// Not refused, with a transaction that goes over the last bank; of these, with one that takes all banks.
     over: [[u64; 2]; COUNT],
     /// Not refused, with a refresh.
     refreshes: [u64; COUNT],
+    /// Not refused, with a transaction that arrives after cycle 0.
+    arrivals: [u64; COUNT],
+    /// Runs not refused, of a controller past cycle 0, that are lent more than before.
+    pieces: [u64; COUNT],
     /// Not refused, with a table of 40 bytes; of these, with several groups.
     groups: [[u64; 2]; COUNT],
     /// Schedules under a table of several groups that break rule 6, and rule 9: by a command of the own group alone, by one of another group
@@ -33,7 +37,7 @@ pub struct Tally {
     pub pins: u64,
 }
 
-fn by_number(counts: &[u64; 12], numbers: RangeInclusive<usize>) -> String {
+fn by_number(counts: &[u64; 13], numbers: RangeInclusive<usize>) -> String {
     let by: Vec<String> = numbers
         .filter(|&number| counts[number] > 0)
         .map(|number| format!("{number}: {}", counts[number]))
@@ -56,6 +60,9 @@ impl Tally {
             self.over[call as usize][0] += u64::from(!wraps.is_empty());
             self.over[call as usize][1] += u64::from(wraps.contains(&true));
             self.refreshes[call as usize] += u64::from(case.refreshes());
+            self.arrivals[call as usize] += u64::from(case.arrives());
+            let goes_on = case.state[CYCLE] > 0 && case.lends_more();
+            self.pieces[call as usize] += u64::from(goes_on);
             let long = call.expects() && case.table.len() == 40;
             self.groups[call as usize][0] += u64::from(long);
             self.groups[call as usize][1] += u64::from(long && case.numbers()[16] > 1);
@@ -109,6 +116,9 @@ impl Tally {
             }
         }
         for (at, (call, name)) in CALLS.iter().enumerate() {
+            if call.runs() && call.of_record() == 8 && self.pieces[at] == 0 {
+                all.push(format!("{name} with a new piece, in time"));
+            }
             for &number in call.refusals() {
                 if self.refused[at][number] == 0 {
                     all.push(format!("{name} by {number}"));
@@ -124,40 +134,51 @@ impl Tally {
 
     pub fn print(&self) {
         println!(
-            "{:25}{:>9}{:>9}  refused, by number; each again with all that is lent in read-only pages",
+            "{:28}{:>9}{:>9}  refused, by number; each again with all that is lent in read-only pages",
             "", "calls", "not ref."
         );
         for (at, (_, name)) in CALLS.iter().enumerate() {
-            let by = by_number(&self.refused[at], 1..=11);
+            let by = by_number(&self.refused[at], 1..=12);
             let (calls, accepted) = (self.calls[at], self.refused[at][0]);
-            println!("{name:25}{calls:>9}{accepted:>9}  {by}");
+            println!("{name:28}{calls:>9}{accepted:>9}  {by}");
         }
         println!("with another edition expected: refused as 1 and 2; as 10, by what else there was to refuse");
         for (at, (call, name)) in CALLS.iter().enumerate() {
             if call.expects() {
                 let [nothing, first, second, ..] = self.others[at];
-                let rest = by_number(&self.others[at], 3..=11);
-                println!("{name:25}  1: {first}, 2: {second}; 10 with nothing: {nothing}  {rest}");
+                let rest = by_number(&self.others[at], 3..=12);
+                println!("{name:28}  1: {first}, 2: {second}; 10 with nothing: {nothing}  {rest}");
             }
         }
         println!("not refused, with a transaction that goes over the last bank; of these, with one that takes all banks");
         for (at, (_, name)) in CALLS.iter().enumerate() {
             let [some, all] = self.over[at];
             if some > 0 {
-                println!("{name:25}{some:>9}{all:>9}");
+                println!("{name:28}{some:>9}{all:>9}");
             }
         }
-        let with = |&at: &usize| self.refreshes[at] > 0;
-        let by: Vec<String> = (0..COUNT)
-            .filter(with)
-            .map(|at| format!("{}: {}", CALLS[at].1, self.refreshes[at]))
-            .collect();
-        println!("not refused, with a refresh: {}", by.join(", "));
+        for (what, counts) in [
+            ("not refused, with a refresh", &self.refreshes),
+            (
+                "not refused, with a transaction that arrives later",
+                &self.arrivals,
+            ),
+            (
+                "not refused past cycle 0, and lent more than before",
+                &self.pieces,
+            ),
+        ] {
+            let by: Vec<String> = (0..COUNT)
+                .filter(|&at| counts[at] > 0)
+                .map(|at| format!("{}: {}", CALLS[at].1, counts[at]))
+                .collect();
+            println!("{what}: {}", by.join(", "));
+        }
         println!("not refused, by a table of 40 bytes; of these, with several groups");
         for (at, (_, name)) in CALLS.iter().enumerate() {
             let [some, several] = self.groups[at];
             if some > 0 {
-                println!("{name:25}{some:>9}{several:>9}");
+                println!("{name:28}{some:>9}{several:>9}");
             }
         }
         for (name, rules) in ["schedules", "patterns", "captures"]

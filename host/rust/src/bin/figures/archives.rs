@@ -2,8 +2,9 @@
 //! `build.rs` gives its calls names of their own.
 //!
 //! One from before the controller told the groups has a controller of 300 bytes, which ends in the last RD, WR and REF of all. Where a controller
-//! is fresh those are "never", as is all that the present one has from there on: so the older call is lent the present one's memory, and finds
-//! in its first 300 bytes what it would have started from.
+//! is fresh those are "never", as is all that the present one has from there on but for how many were lent: so the older call is lent the present
+//! one's memory, and finds in its first 300 bytes what it would have started from. One from before arrivals has transactions of 4 bytes, and is lent
+//! such.
 
 // `build.rs` says `before`; an older compiler doesn't know the lint.
 #![allow(unknown_lints, unexpected_cfgs)]
@@ -21,10 +22,27 @@ mod types {
     pub type Judge = unsafe extern "C" fn(u16, *const u8, usize, *const u8, usize) -> VerdictAnswer;
 }
 
+/// A list as it is lent: of decoded transactions as they are, and as they were before arrivals.
+pub struct List {
+    eight: Vec<Transaction>,
+    pub four: Vec<[u8; 4]>,
+}
+
+impl List {
+    pub fn of(list: &[Transaction]) -> List {
+        List {
+            eight: list.to_vec(),
+            four: list.iter().map(|x| [x.kind, x.start, x.bi, x.bc]).collect(),
+        }
+    }
+}
+
 #[derive(Clone, Copy)]
 pub struct Archive {
     /// What is put behind the name of each figure.
     pub name: &'static str,
+    /// Whether its transactions have an arrival.
+    arrivals: bool,
     schedule: types::Schedule<Transaction>,
     schedule_bytes: types::Schedule<u8>,
     step: types::Step,
@@ -33,6 +51,7 @@ pub struct Archive {
 
 const NOW: Archive = Archive {
     name: "proved",
+    arrivals: true,
     schedule: raw::skv_schedule,
     schedule_bytes: raw::skv_schedule_bytes,
     step: raw::skv_step,
@@ -53,6 +72,7 @@ mod before {
 
     pub const BEFORE: Archive = Archive {
         name: "proved, before",
+        arrivals: cfg!(before_has_arrivals),
         schedule: before_skv_schedule,
         schedule_bytes: before_skv_schedule_bytes,
         step: before_skv_step,
@@ -73,25 +93,24 @@ pub fn all() -> Vec<Archive> {
     vec![NOW]
 }
 
-/// Whether nothing was refused, of a list of either kind.
+/// Whether nothing was refused, of a list of either kind: where it starts, and how many entries it has.
 fn scheduled<T>(
     call: types::Schedule<T>,
     expected: u16,
     table: &[u8],
-    list: &[T],
+    (list, n): (*const T, usize),
     room: &mut [u8],
     finishes: &mut [u32],
 ) -> bool {
-    let (t, x, r, f) = (table, list, room, finishes);
+    let (t, r, f) = (table, room, finishes);
     let told = unsafe {
         let (room, finishes) = (r.as_mut_ptr(), f.as_mut_ptr());
-        let list = x.as_ptr();
         call(
             expected,
             t.as_ptr(),
             t.len(),
             list,
-            x.len(),
+            n,
             room,
             r.len(),
             finishes,
@@ -103,14 +122,23 @@ fn scheduled<T>(
 
 /// Whether nothing was refused; for a verdict, whether it accepts.
 impl Archive {
+    fn lent(&self, list: &List) -> (*const Transaction, usize) {
+        let at = match self.arrivals {
+            true => list.eight.as_ptr(),
+            false => list.four.as_ptr() as *const Transaction,
+        };
+        (at, list.four.len())
+    }
+
     pub fn schedule(
         &self,
         expected: u16,
         table: &[u8],
-        list: &[Transaction],
+        list: &List,
         room: &mut [u8],
         finishes: &mut [u32],
     ) -> bool {
+        let list = self.lent(list);
         scheduled(self.schedule, expected, table, list, room, finishes)
     }
 
@@ -122,6 +150,7 @@ impl Archive {
         room: &mut [u8],
         finishes: &mut [u32],
     ) -> bool {
+        let list = (list.as_ptr(), list.len());
         scheduled(self.schedule_bytes, expected, table, list, room, finishes)
     }
 
@@ -131,22 +160,14 @@ impl Archive {
         c: &mut Controller,
         expected: u16,
         table: &[u8],
-        list: &[Transaction],
+        list: &List,
         room: &mut [u8],
     ) -> usize {
-        let (t, x, r) = (table, list, room);
+        let (t, r) = (table, room);
+        let (list, n) = self.lent(list);
         let told = unsafe {
-            let (list, room) = (x.as_ptr(), r.as_mut_ptr());
-            (self.step)(
-                c,
-                expected,
-                t.as_ptr(),
-                t.len(),
-                list,
-                x.len(),
-                room,
-                r.len(),
-            )
+            let room = r.as_mut_ptr();
+            (self.step)(c, expected, t.as_ptr(), t.len(), list, n, room, r.len())
         };
         assert_eq!(told.refused, 0);
         told.count as usize

@@ -1,10 +1,10 @@
-//! The build of 256 mixed transactions, from the lent list and from its bytes, beside ordinary schedulers of two kinds: of table A, and of table D,
-//! which has groups. An archive from before a change is measured by the first alone.
+//! The build of 256 mixed transactions that arrive at 0, from the lent list and from its bytes, of 4 each and of 8, beside ordinary schedulers of two
+//! kinds: of table A, and of table D, which has groups. An archive from before a change is measured by the first alone.
 
 use model::house::{bytes_of, Numbers, TABLE_A, TABLE_D};
-use skvorzhan::{read_command, Transaction};
+use skvorzhan::{read_command, schedule_later_bytes, Transaction};
 
-use crate::archives::{self, Archive};
+use crate::archives::{self, Archive, List};
 use crate::{beside, due, for_model, ordinary, Side, EDITION};
 
 pub fn mixed(size: usize) -> Vec<Transaction> {
@@ -18,6 +18,7 @@ pub fn mixed(size: usize) -> Vec<Transaction> {
                 start: numbers.below(9 - bi) as u8,
                 bi: bi as u8,
                 bc: 1 + numbers.byte() % 4,
+                arrival: 0,
             }
         })
         .collect()
@@ -39,17 +40,17 @@ pub fn measure() {
 
 fn measure_by(name: &str, table: &[u8], archives: Vec<Archive>) {
     let list = &mixed(256)[..];
+    let lent = &List::of(list);
     let plain = &for_model(list)[..];
-    let bytes: Vec<u8> = (list.iter())
-        .flat_map(|x| [x.kind, x.start, x.bi, x.bc])
-        .collect();
-    let bytes = &bytes[..];
+    let bytes = &lent.four.concat()[..];
+    let laters: Vec<u8> = plain.iter().flat_map(|x| x.eight()).collect();
+    let laters = &laters[..];
     let mut ways: Vec<(String, Build)> = Vec::new();
     for archive in archives {
         let name = archive.name;
         ways.push((
             format!("{name}, lent list"),
-            Box::new(move |l| archive.schedule(EDITION, table, list, &mut l.room, &mut l.finishes)),
+            Box::new(move |l| archive.schedule(EDITION, table, lent, &mut l.room, &mut l.finishes)),
         ));
         ways.push((
             format!("{name}, bytes"),
@@ -58,6 +59,12 @@ fn measure_by(name: &str, table: &[u8], archives: Vec<Archive>) {
             }),
         ));
     }
+    ways.push((
+        "proved, bytes of 8".to_string(),
+        Box::new(move |l| {
+            schedule_later_bytes(EDITION, table, laters, &mut l.room, &mut l.finishes).is_ok()
+        }),
+    ));
     for (by_cycles, way) in [(true, "each cycle"), (false, "idle cycles passed over")] {
         ways.push((
             format!("ordinary, lent list, {way}"),

@@ -15,6 +15,7 @@ fn built(table: &[u8], size: usize, bi: u8, bc: u8) -> Vec<Sent> {
         start: 0,
         bi,
         bc,
+        arrival: 0,
     };
     let list: Vec<Transaction> = (0..size).map(one).collect();
     let (mut room, mut finishes) = (vec![0; 8 * due(&list)], vec![0; size]);

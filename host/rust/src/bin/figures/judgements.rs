@@ -15,6 +15,7 @@ fn list(size: usize, bi: u8, bc: u8, banks: u8) -> Vec<Transaction> {
         start: if bi < 8 { (i * 5 % starts) as u8 } else { 0 },
         bi,
         bc,
+        arrival: 0,
     };
     (0..size).map(one).collect()
 }

@@ -11,6 +11,7 @@ mod captures;
 mod judgements;
 mod ordinary;
 mod steps;
+mod waits;
 
 use std::time::Instant;
 
@@ -102,6 +103,7 @@ fn for_model(list: &[Transaction]) -> Vec<desk::Transaction> {
         start: x.start,
         bi: x.bi,
         bc: x.bc,
+        arrival: x.arrival,
     };
     list.iter().map(one).collect()
 }
@@ -128,4 +130,5 @@ fn main() {
     steps::measure(emulated);
     judgements::measure(emulated);
     captures::measure(emulated);
+    waits::measure(emulated);
 }

@@ -3,6 +3,7 @@
 use model::house::{bytes_of, TABLE_A};
 use skvorzhan::{start, Controller};
 
+use crate::archives::List;
 use crate::builds::mixed;
 use crate::{archives, beside, due, for_model, ordinary, Side, EDITION};
 
@@ -34,12 +35,13 @@ pub fn measure(emulated: bool) {
     let fresh = &start(EDITION, table).expect("the table is accepted");
     for size in [1, 16, 256] {
         let list = &mixed(size)[..];
+        let lent = &List::of(list);
         let plain = &for_model(list)[..];
         let mut ways: Vec<(String, Box<Step>)> = Vec::new();
         for archive in archives::all() {
             ways.push((
                 archive.name.to_string(),
-                Box::new(move |c, room| archive.step(c, EDITION, table, list, room)),
+                Box::new(move |c, room| archive.step(c, EDITION, table, lent, room)),
             ));
         }
         ways.push((

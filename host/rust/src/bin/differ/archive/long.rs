@@ -16,23 +16,26 @@ pub const ENTRIES: usize = 100_000_000;
 const AT_ONCE: Duration = Duration::from_millis(10);
 
 /// Each call that is lent a list, with the number that its length is refused by.
-const LENT_A_LIST: [(Call, usize); 9] = [
+const LENT_A_LIST: [(Call, usize); 12] = [
     (Call::ReadTransactions, 3),
+    (Call::ReadLaterTransactions, 3),
     (Call::Schedule, 3),
     (Call::ScheduleBytes, 3),
+    (Call::ScheduleLaterBytes, 3),
     (Call::Judge, 7),
     (Call::JudgePattern, 7),
     (Call::JudgeCapture, 7),
     (Call::Run, 3),
     (Call::Step, 3),
     (Call::RunBytes, 3),
+    (Call::RunLaterBytes, 3),
 ];
 
 impl Archive {
     /// How many calls were made, or what was wrong with one.
     pub fn long_lists(&mut self) -> Result<usize, String> {
         trap::at(trap::LONG);
-        let list = untouchable(4 * ENTRIES);
+        let list = untouchable(8 * ENTRIES);
         let right = bytes_of(&TABLE_A);
         let mut ccd_1 = right.clone();
         ccd_1[6] = 1;
@@ -92,15 +95,22 @@ impl Archive {
         }
         let (xs, finishes) = (list as *const Transaction, slots as *mut u32);
         let places = slots as *mut Transaction;
-        let (n, bytes, by_value) = (ENTRIES, 4 * ENTRIES, controller(&fresh(7)));
+        let (n, by_value) = (ENTRIES, controller(&fresh(7)));
+        let bytes = case.call.record() * ENTRIES;
         let began = Instant::now();
         let answer = unsafe {
             match case.call {
                 Call::ReadTransactions => {
-                    numbers(skv_read_transactions(e, t, tn, list, bytes, places, 16))
+                    numbers(skv_read_transactions(e, t, tn, list, bytes, places, 8))
                 }
+                Call::ReadLaterTransactions => numbers(skv_read_later_transactions(
+                    e, t, tn, list, bytes, places, 8,
+                )),
                 Call::Schedule => numbers(skv_schedule(e, t, tn, xs, n, room, 64, finishes, 16)),
                 Call::ScheduleBytes => numbers(skv_schedule_bytes(
+                    e, t, tn, list, bytes, room, 64, finishes, 16,
+                )),
+                Call::ScheduleLaterBytes => numbers(skv_schedule_later_bytes(
                     e, t, tn, list, bytes, room, 64, finishes, 16,
                 )),
                 Call::Judge => verdict(skv_judge(e, t, tn, list, bytes)),
@@ -108,6 +118,10 @@ impl Archive {
                 Call::JudgeCapture => captured(skv_judge_capture(e, t, tn, list, bytes, room, 64)),
                 Call::Run => numbers(skv_run(c, e, t, tn, xs, n, 9, room, 64)),
                 Call::Step => numbers(skv_step(c, e, t, tn, xs, n, room, 64)),
+                Call::RunLaterBytes => {
+                    let a = skv_run_later_bytes(by_value, e, t, tn, list, bytes, 9, room, 64);
+                    numbers(a.answer)
+                }
                 _ => numbers(skv_run_bytes(by_value, e, t, tn, list, bytes, 9, room, 64).answer),
             }
         };

@@ -25,11 +25,11 @@ fn unhex(text: &str) -> Result<Vec<u8>, String> {
 /// `NAME key=value ..`; bytes are hex, and of the state only what is not as in a fresh one of edition 7 is named, as place:number.
 impl fmt::Display for Case {
     fn fmt(&self, f: &mut fmt::Formatter) -> fmt::Result {
-        let [a, b, c, d] = self.values;
+        let [a, b, c, d, e] = self.values;
         write!(f, "{}", self.call.name())?;
         write!(f, " expected={}", self.expected)?;
         write!(f, " table={} bytes={}", hex(&self.table), hex(&self.bytes))?;
-        write!(f, " values={a},{b},{c},{d}")?;
+        write!(f, " values={a},{b},{c},{d},{e}")?;
         write!(f, " room={} slots={}", self.room, self.slots)?;
         let base = fresh(7);
         let changed = (0..NUMBERS).filter(|&i| self.state[i] != base[i]);

@@ -161,7 +161,7 @@ fn greatest() -> Case {
     let list: Vec<[u8; 4]> = (0..256).map(|k| [(k % 3 == 1) as u8, 0, 16, 16]).collect();
     let mut room = vec![0; room_for(&list)];
     let mut c = desk::start(edition, &table).1;
-    let list = transactions(&list);
+    let list = transactions(&at_once(&list));
     desk::run(&mut c, edition, &table, &list, u32::MAX, &mut room).expect("it's accepted");
     let mut case = whole(&records(&capture(&of_schedule(&room))));
     case.table = table;

@@ -34,7 +34,7 @@ fn built(t: &GroupTable) -> Vec<Case> {
     let list = [[1, banks - 1, banks, 1], [0, banks / 2, banks, 2]];
     let one = |call| {
         let mut case = of(call, t);
-        case.bytes = list.concat();
+        case.lend(&at_once(&list));
         case.room = room_for(&list);
         case.slots = list.len();
         let past = GROUPS + 3 * usize::from(t[16]);
@@ -119,9 +119,9 @@ fn states() -> Vec<Case> {
         for place in GROUPS..REFRESH {
             for stored in [99, 100] {
                 let mut case = of(Call::Run, &TABLE_D);
-                case.bytes = vec![kind, 1, 1, 1];
+                case.lend(&at_once(&[[kind, 1, 1, 1]]));
                 case.room = 16;
-                case.state[CYCLE] = 100;
+                (case.state[CYCLE], case.state[LENT]) = (100, 1);
                 case.state[ACTS] = acts;
                 case.state[BANKS + 4] = acts;
                 case.state[place] = stored;

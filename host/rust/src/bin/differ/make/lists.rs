@@ -1,9 +1,13 @@
 //! Lists of transactions.
 
 use model::desk::GroupTable;
-use model::house::{REFRESH_BYTES, RFC};
+use model::house::{arriving, later, REFRESH_BYTES, RFC};
 
+use crate::case::Case;
 use crate::numbers::Random;
+
+/// An arrival is at most this.
+pub const LATEST: u32 = 20_000_000;
 
 fn banks(t: &GroupTable) -> u8 {
     t[1] as u8
@@ -37,12 +41,51 @@ pub fn every_start(banks: u8) -> Vec<[u8; 4]> {
 }
 
 /// A transaction, often with a number at an edge or beyond it.
-pub fn one(r: &mut Random, t: &GroupTable) -> [u8; 4] {
+pub fn one(r: &mut Random, t: &GroupTable) -> [u8; 8] {
     let mut x = legal(r, t, 16, 16);
     if r.one_in(2) {
         spoil(r, &mut x, banks(t));
     }
-    x
+    let arrival = match r.below(6) {
+        0 => LATEST - 2 + r.range(0, 4),
+        1 => r.edge(),
+        _ => r.range(0, LATEST),
+    };
+    later(x, arrival)
+}
+
+/// So many arrivals: all at once, within one another's work, or long after it; seldom the last that there are, since the engine walks there.
+fn arrivals(r: &mut Random, size: usize) -> Vec<u32> {
+    let most = match r.below(40) {
+        0..=13 => 0,
+        14..=23 => 6,
+        24..=33 => 40,
+        34..=38 => 400,
+        _ => 60_000,
+    };
+    let most = most.min(1_000_000 / (1 + size as u32));
+    let mut arrival = if r.one_in(3) { r.range(0, most) } else { 0 };
+    let mut all: Vec<u32> = (0..size)
+        .map(|_| {
+            arrival += if r.one_in(2) { r.range(0, most) } else { 0 };
+            arrival
+        })
+        .collect();
+    if r.one_in(40_000) {
+        let from = r.below(size + 1);
+        all[from..].fill(LATEST);
+    }
+    all
+}
+
+/// One that is less than the one before it, or too late.
+fn spoil_arrivals(r: &mut Random, all: &mut [u32]) {
+    let at = r.below(all.len());
+    all[at] = match r.below(3) {
+        0 if at > 0 => all[at - 1].saturating_sub(1),
+        1 => all[at] / 2,
+        _ => r.of_these(&[LATEST + 1, LATEST + 256, 1 << 31, u32::MAX]),
+    };
 }
 
 fn spoil(r: &mut Random, x: &mut [u8; 4], banks: u8) {
@@ -93,8 +136,8 @@ pub fn widest(t: &GroupTable) -> u32 {
     t[2..].iter().fold(1, |most, &n| most.max(n.into()))
 }
 
-/// The bytes of a list, mostly accepted.
-pub fn some(r: &mut Random, t: &GroupTable) -> Vec<u8> {
+/// A list without arrivals, mostly accepted.
+pub fn plain(r: &mut Random, t: &GroupTable) -> Vec<[u8; 4]> {
     let banks = banks(t);
     let mut list = accepted(r, t);
     match r.below(16) {
@@ -112,11 +155,21 @@ pub fn some(r: &mut Random, t: &GroupTable) -> Vec<u8> {
         }
         _ => (),
     }
-    let mut bytes = list.concat();
-    if r.one_in(24) {
-        bytes.truncate(bytes.len().saturating_sub(1 + r.below(3)));
-    } else if r.one_in(40) {
-        bytes.extend([9, 9, 9].iter().take(1 + r.below(3)));
+    list
+}
+
+/// The bytes of a list for the case's call, mostly accepted.
+pub fn some(r: &mut Random, t: &GroupTable, case: &mut Case) {
+    let list = plain(r, t);
+    let mut at = arrivals(r, list.len());
+    if !list.is_empty() && r.one_in(14) {
+        spoil_arrivals(r, &mut at);
     }
-    bytes
+    case.lend(&arriving(&list, &at));
+    let (bytes, less) = (&mut case.bytes, case.call.of_record() - 1);
+    if r.one_in(24) {
+        bytes.truncate(bytes.len().saturating_sub(1 + r.below(less)));
+    } else if r.one_in(40) {
+        bytes.extend([9; 7].iter().take(1 + r.below(less)));
+    }
 }

@@ -36,7 +36,7 @@ fn whole(call: Call, table: &[u16; 16], list: &[[u8; 4]]) -> Case {
     case.table = bytes_of(table);
     case.expected = table[0];
     case.state = fresh(table[0].into());
-    case.bytes = list.concat();
+    case.lend(&at_once(list));
     case.values[0] = u32::MAX;
     case.room = room_for(list);
     case.slots = list.len();
@@ -46,7 +46,7 @@ fn whole(call: Call, table: &[u16; 16], list: &[[u8; 4]]) -> Case {
 /// A bank that no transaction closes is open: nothing goes up to the last cycle.
 fn never() -> Case {
     let mut case = whole(Call::Run, &REFRESHED, &[REFRESH_BYTES]);
-    case.state[CYCLE] = 99_000_000;
+    (case.state[CYCLE], case.state[LENT]) = (99_000_000, 1);
     case.state[BANKS + 4 * 7] = 1;
     case
 }

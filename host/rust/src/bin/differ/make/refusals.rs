@@ -1,6 +1,6 @@
 //! Every call refused by each number that it can be, with nothing else wrong.
 
-use model::house::{bytes_of, GROUPS, REFRESH_BYTES, RFC, TABLE_A, TABLE_D};
+use model::house::{bytes_of, later, GROUPS, REFRESH_BYTES, RFC, TABLE_A, TABLE_D};
 
 use crate::case::{GROUPS as STATE_GROUPS, *};
 
@@ -26,22 +26,23 @@ fn accepted(call: Call) -> Case {
         Call::WriteGroupTable => bytes_of(&TABLE_D),
         _ => bytes_of(&TABLE_A),
     };
-    case.bytes = match call {
-        Call::ReadTransaction => vec![0, 0, 1, 1],
-        Call::ReadCommand => vec![0; 8],
-        Call::Judge | Call::JudgePattern => Vec::new(),
-        Call::ReadCaptureRecord => vec![0; 4],
-        Call::JudgeCapture => CAPTURE.concat(),
-        _ => vec![1, 0, 1, 1, 0, 0, 1, 1],
-    };
+    match call {
+        Call::ReadTransaction | Call::ReadLater => case.lend(&at_once(&[[0, 0, 1, 1]])),
+        Call::ReadCommand => case.bytes = vec![0; 8],
+        Call::Judge | Call::JudgePattern => (),
+        Call::ReadCaptureRecord => case.bytes = vec![0; 4],
+        Call::JudgeCapture => case.bytes = CAPTURE.concat(),
+        _ => case.lend(&at_once(&[[1, 0, 1, 1], [0, 0, 1, 1]])),
+    }
     case.values = match call {
-        Call::WriteTransaction => [0, 0, 1, 1],
-        Call::Bound => [1, 1, 0, 0],
-        Call::Step => [0; 4],
-        _ => [40, 0, 0, 0],
+        Call::WriteTransaction | Call::WriteLater => [0, 0, 1, 1, 0],
+        Call::Bound => [1, 1, 0, 0, 0],
+        Call::Step => [0; 5],
+        _ => [40, 0, 0, 0, 0],
     };
     case.room = match call {
         Call::WriteTransaction => 4,
+        Call::WriteLater => 8,
         Call::WriteCommand | Call::Step => 8,
         Call::WriteCaptureRecord => 4,
         Call::JudgeCapture => 16,
@@ -54,6 +55,9 @@ fn accepted(call: Call) -> Case {
 
 /// An ACT at 65,535, a tick, and an RDA ten cycles after the ACT.
 const CAPTURE: [[u8; 4]; 3] = [[255, 255, 0, 0], [3, 0, 255, 0], [9, 0, 2, 0]];
+
+/// Arrivals that are too late.
+const LATE: [u32; 4] = [20_000_001, 20_000_256, 1 << 31, u32::MAX];
 
 /// A refresh that is none.
 const WITH_BC: [u8; 4] = [2, 0, 0, 1];
@@ -84,17 +88,36 @@ fn refuse(case: &mut Case, number: usize, way: u8) {
             };
             case.table[2 * place] = low;
         }
-        (3, Call::WriteTransaction) => case.room += 1,
-        (3, Call::Schedule | Call::Run | Call::Step) => case.bytes = [0, 0, 1, 1].repeat(257),
-        (3 | 7, _) => case.bytes.push(0),
-        (4, Call::WriteTransaction) if way > 1 => case.values = WITH_BC.map(u32::from),
-        (4, Call::WriteTransaction) => case.values[2] = 0,
+        (3, Call::WriteTransaction | Call::WriteLater) => case.room += 1 + usize::from(way) % 4,
+        (3, call) if call.decoded() => case.lend(&at_once(&[[0, 0, 1, 1]; 257])),
+        // Of a record of 8 bytes half a one, too.
+        (3, call) => {
+            let more = 1 + usize::from(way) % (call.of_record() - 1);
+            case.bytes.extend(&[0; 7][..more]);
+        }
+        (7, _) => case.bytes.push(0),
         (4, Call::Bound) => case.values[0] = if way > 1 { 0 } else { 9 },
+        (4, Call::WriteLater) if way > 3 => case.values[4] = LATE[usize::from(way) - 4],
+        (4, Call::WriteTransaction | Call::WriteLater) if way > 1 => {
+            case.values[..4].copy_from_slice(&WITH_BC.map(u32::from))
+        }
+        (4, Call::WriteTransaction | Call::WriteLater) => case.values[2] = 0,
+        // Less than the one before it.
+        (4, call) if way == 7 && call.of_record() == 8 && call.is_given_a_list() => {
+            case.lend(&[later([1, 0, 1, 1], 5), later([0, 0, 1, 1], 4)])
+        }
+        (4, call) if way > 3 && call.of_record() == 8 => {
+            let late = LATE[usize::from(way) - 4];
+            case.bytes[4..8].copy_from_slice(&late.to_le_bytes());
+        }
         // BI of the first.
         (4, _) if way < 2 => case.bytes[2] = 17,
-        (4, Call::ReadTransaction) => case.bytes = WITH_BC.to_vec(),
+        (4, Call::ReadTransaction | Call::ReadLater) => case.bytes[..4].copy_from_slice(&WITH_BC),
         // Table A has no refresh.
-        (4, _) if way == 2 => case.bytes[4..].copy_from_slice(&REFRESH_BYTES),
+        (4, call) if way == 2 => {
+            let second = call.of_record();
+            case.bytes[second..second + 4].copy_from_slice(&REFRESH_BYTES);
+        }
         (4, _) => {
             case.table[2 * RFC] = 50;
             case.bytes[..4].copy_from_slice(&WITH_BC);
@@ -114,9 +137,19 @@ fn refuse(case: &mut Case, number: usize, way: u8) {
             1 => case.state[EDITION] += 1 << 16,
             2 => case.state[LAST] = case.state[CYCLE],
             3 => case.state[REFRESH] = case.state[CYCLE],
+            4 => case.state[LENT] = 3,
             // The ACT, the RD and the WR of the table's one group.
-            way => case.state[STATE_GROUPS + usize::from(way - 4) % 3] = case.state[CYCLE],
+            way => case.state[STATE_GROUPS + usize::from(way - 5)] = case.state[CYCLE],
         },
+        // The first of them, or the second, arrives a cycle before, or many.
+        (12, _) => {
+            let list = [[1, 0, 1, 1], [0, 0, 1, 1]].map(|x| later(x, 8));
+            if way < 6 {
+                case.lend(&list);
+            }
+            case.state[CYCLE] = [9, 500][usize::from(way) % 2];
+            case.state[LENT] = u32::from(way / 2) % 2;
+        }
         _ => case.expected = 8,
     }
 }

@@ -4,7 +4,7 @@ use model::desk::{self, GroupTable, PatternVerdict};
 use model::house::{bytes_of, due, LONGS, RFC};
 
 use super::{lists, walk};
-use crate::case::{records as records_of, Case};
+use crate::case::{at_once, Case};
 use crate::expected::transactions;
 use crate::numbers::Random;
 
@@ -24,10 +24,8 @@ fn built(r: &mut Random, table: &GroupTable, most: usize) -> Vec<[u8; 8]> {
         }
     }
     let (edition, by) = (by[0], bytes_of(&by));
-    let list: Vec<[u8; 4]> = (0..20)
-        .map(|_| lists::some(r, table))
-        .filter(|list| list.len() % 4 == 0)
-        .map(|list| records_of(&list))
+    let list = (0..20)
+        .map(|_| lists::plain(r, table))
         .find(|list| due(list) <= most)
         .unwrap_or_default();
     let mut room = vec![0; 8 * most];
@@ -36,7 +34,7 @@ fn built(r: &mut Random, table: &GroupTable, most: usize) -> Vec<[u8; 8]> {
         &mut c,
         edition,
         &by,
-        &transactions(&list),
+        &transactions(&at_once(&list)),
         u32::MAX,
         &mut room,
     );

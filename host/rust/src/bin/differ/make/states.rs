@@ -1,4 +1,4 @@
-//! Controllers: reachable ones, reachable ones with a number changed, and arbitrary ones.
+//! Controllers: reachable ones, with the whole list lent before or a part of it, reachable ones with a number changed, and arbitrary ones.
 
 use model::desk::{self, GroupTable};
 use model::house::{self, bytes_of, due, queued, room_for};
@@ -17,21 +17,35 @@ const SHORT: u32 = 20_000;
 /// Where the stored cycles stand.
 fn stamps() -> impl Iterator<Item = usize> {
     let of_banks = (BANKS..LAST).filter(|i| (i - BANKS) % 4 != 0);
-    of_banks.chain(LAST..NUMBERS)
+    of_banks.chain(LAST..=REFRESH)
 }
 
-/// After so many cycles from a fresh start.
-fn reached(table: &GroupTable, case: &Case, cycles: u32) -> State {
+/// After so many cycles from a fresh start, in which the list was lent.
+pub fn reached(table: &GroupTable, list: &[[u8; 8]], cycles: u32) -> State {
     let (edition, table) = (table[0], bytes_of(table));
-    let list = transactions(&case.records());
-    let mut room = vec![0; room_for(&case.records())];
+    let mut room = vec![0; room_for(list)];
     let mut c = desk::start(edition, &table).1;
     // Refused for a list that is refused: then it stays fresh.
+    let list = transactions(list);
     let _ = desk::run(&mut c, edition, &table, &list, cycles, &mut room);
     state(&c)
 }
 
-fn later(s: &mut State, by: u32) {
+/// After a part of the list was lent for some cycles: mostly the rest is still in time, and else late by one cycle or more.
+fn after_a_piece(r: &mut Random, table: &GroupTable, list: &[[u8; 8]], cycles: u32) -> State {
+    let at = r.below(list.len() + 1);
+    let until = list.get(at).map_or(cycles, arrival);
+    let cycles = match r.below(6) {
+        0 => until,
+        1 => until.saturating_add(1),
+        2 => cycles,
+        _ => cycles.min(until),
+    };
+    // No further than is worth the time.
+    reached(table, &list[..at], cycles.min(LONG))
+}
+
+fn moved_on(s: &mut State, by: u32) {
     s[CYCLE] = s[CYCLE].wrapping_add(by);
     for i in stamps() {
         if s[i] != u32::MAX {
@@ -43,7 +57,7 @@ fn later(s: &mut State, by: u32) {
 /// So late that the last cycle is near.
 fn make_late(r: &mut Random, s: &mut State) {
     let before_last = r.of_these(&[1, 2, 20, 300]);
-    later(
+    moved_on(
         s,
         LAST_CYCLE
             .saturating_sub(s[CYCLE])
@@ -52,10 +66,11 @@ fn make_late(r: &mut Random, s: &mut State) {
 }
 
 fn change_one(r: &mut Random, table: &GroupTable, s: &mut State) {
-    let i = match r.below(5) {
+    let i = match r.below(6) {
         0 => r.below(4),
         1 => LAST + r.below(NUMBERS - LAST),
         2 => GROUPS + r.below(3 * groups(table)),
+        3 => LENT,
         _ => BANKS + r.below(64),
     };
     let near = [s[CYCLE].wrapping_sub(1), s[CYCLE], s[CYCLE].wrapping_add(1)];
@@ -84,7 +99,12 @@ fn plausible(r: &mut Random, table: &GroupTable, case: &Case) -> State {
     for opened in s[BANKS..LAST].iter_mut().step_by(4) {
         *opened = r.of_these(&[0, 0, 1, 1, 2, 255, 256, 1 << 16, 1 << 31]);
     }
-    let list = case.records();
+    let list = case.list();
+    s[LENT] = match r.below(6) {
+        0 => r.below(list.len() + 1) as u32,
+        1 => list.len() as u32 + r.range(0, 1),
+        _ => list.len() as u32,
+    };
     let [acts, datas] = both(&list);
     let gone = r.below(acts + 1);
     s[ACTS] = gone as u32;
@@ -100,13 +120,13 @@ fn groups(table: &GroupTable) -> usize {
 }
 
 /// How many each queue holds at first.
-fn both(list: &[[u8; 4]]) -> [usize; 2] {
+fn both(list: &[[u8; 8]]) -> [usize; 2] {
     let acts = list.iter().map(|x| queued(x)[0]).sum();
     [acts, due(list) - acts]
 }
 
 /// The data commands of the banks whose ACTs are among the first so many of the ACT queue. A REF has none.
-fn behind(list: &[[u8; 4]], mut acts: usize) -> usize {
+fn behind(list: &[[u8; 8]], mut acts: usize) -> usize {
     let mut datas = 0;
     for x in list {
         let [here, of_them] = queued(x);
@@ -129,10 +149,11 @@ fn some(r: &mut Random, table: &GroupTable, case: &Case) -> State {
         1 => r.below(150) as u32,
         _ => r.below(1500 + 20 * lists::widest(table) as usize) as u32,
     };
-    let mut s = match r.below(10) {
+    let mut s = match r.below(12) {
         0 => fresh(table[0].into()),
-        1..=6 => reached(table, case, cycles),
-        7 | 8 => plausible(r, table, case),
+        1..=5 => reached(table, &case.list(), cycles),
+        6..=8 => after_a_piece(r, table, &case.list(), cycles),
+        9 | 10 => plausible(r, table, case),
         _ => arbitrary(r),
     };
     if r.one_in(3) {
@@ -157,7 +178,7 @@ fn some(r: &mut Random, table: &GroupTable, case: &Case) -> State {
 
 /// The commands left, queue by queue.
 fn left(case: &Case) -> usize {
-    let [acts, datas] = both(&case.records());
+    let [acts, datas] = both(&case.list());
     acts.saturating_sub(case.state[ACTS] as usize)
         + datas.saturating_sub(case.state[DATAS] as usize)
 }
@@ -201,16 +222,20 @@ pub fn too_long(case: &Case) -> bool {
     if case.room < 8 * left(case).min(case.count() as usize) {
         return false;
     }
-    let list = transactions(&case.records());
+    let last_arrival = case.list().iter().map(arrival).fold(0, u32::max);
+    let list = transactions(&case.list());
     let mut room = vec![0; case.room];
     let mut c = controller(&case.state);
-    // No rule asks for more cycles than all numbers of the table together: what does not go within them never goes.
-    let wait = case.numbers()[2..].iter().map(|&n| u32::from(n)).sum();
+    // No rule asks for more cycles than all numbers of the table together: what does not go within them, once all have arrived, never goes.
+    let wait: u32 = case.numbers()[2..].iter().map(|&n| u32::from(n)).sum();
+    let wait = wait.max(1_000);
     let mut cycles = 0;
     while cycles <= LONG {
         match desk::run(&mut c, case.edition(), &case.table, &list, wait, &mut room) {
             Ok(told) if told.cycles < wait => return false,
-            Ok(told) if told.commands == 0 => return true,
+            Ok(told) if told.commands == 0 && c.cycle >= last_arrival.saturating_add(wait) => {
+                return true
+            }
             Ok(_) => cycles += wait,
             Err(_) => return false,
         }

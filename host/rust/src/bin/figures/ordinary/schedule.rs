@@ -62,11 +62,7 @@ pub fn schedule(
         .map(|x| in_act_queue(x) + in_data_queue(x))
         .sum();
     let due = due as usize;
-    if list.len() > 256
-        || !list.iter().all(|x| t.admits(x))
-        || room.len() < 8 * due
-        || finishes.len() < list.len()
-    {
+    if !t.admits_all(list) || room.len() < 8 * due || finishes.len() < list.len() {
         return None;
     }
     match t.groups {
@@ -98,7 +94,10 @@ fn scheduled<const SEVERAL: bool>(
             _ => i64::MAX,
         };
         let act_at = match list.get(acts.number) {
-            Some(x) => acts.goes_from(t, &state, x).max(cycle),
+            Some(x) => acts
+                .goes_from(t, &state, x)
+                .max(x.arrival.into())
+                .max(cycle),
             None => i64::MAX,
         };
         let at = data_at.min(act_at);
@@ -153,12 +152,6 @@ pub fn schedule_bytes(
     if bytes.len() % 4 != 0 {
         return None;
     }
-    let one = |x: &[u8]| Transaction {
-        kind: x[0],
-        start: x[1],
-        bi: x[2],
-        bc: x[3],
-    };
-    let list: Vec<Transaction> = bytes.chunks_exact(4).map(one).collect();
+    let list: Vec<Transaction> = bytes.chunks_exact(4).map(Transaction::of).collect();
     schedule(expected, table, &list, room, finishes, by_cycles)
 }

@@ -72,7 +72,7 @@ pub fn step(
     room: &mut [u8],
 ) -> Option<usize> {
     let t = &Times::read(expected, table)?;
-    if list.len() > 256 || !list.iter().all(|x| t.admits(x)) {
+    if !t.admits_all(list) {
         return None;
     }
     let acts: u32 = list.iter().map(in_act_queue).sum();
@@ -98,12 +98,19 @@ pub fn step(
     if c.datas > 0 && data_head(list, c.datas - 1)?.act >= c.acts {
         return None;
     }
+    // More lent before than the list has, or a late piece.
+    let (before, new) = (list.get(..c.lent as usize)?, &list[c.lent as usize..]);
+    if new.first().map_or(false, |x| x.arrival < c.cycle) {
+        return None;
+    }
+    c.lent = (before.len() + new.len()) as u32;
     if left == 0 {
         return Some(0);
     }
     let now = i64::from(c.cycle);
     c.cycle += 1;
-    if let Some(h) = data_head(list, c.datas).filter(|h| h.act < c.acts) {
+    let seen = |h: &Head| i64::from(h.x.arrival) <= now;
+    if let Some(h) = data_head(list, c.datas).filter(|h| h.act < c.acts && seen(h)) {
         let (bank, writes) = (t.bank(h.x, h.bank), usize::from(h.x.kind));
         let own = &mut c.banks[usize::from(bank)];
         let own_group = t.group_of(bank);
@@ -129,7 +136,7 @@ pub fn step(
             return Some(1);
         }
     }
-    let h = match act_head(list, c.acts) {
+    let h = match act_head(list, c.acts).filter(seen) {
         Some(h) if stored(c.refresh) + t.rfc <= now => h,
         _ => return Some(0),
     };

@@ -1,5 +1,6 @@
 //! The ordinary programs say what the model says.
 
+use super::times::LATEST;
 use super::*;
 use model::desk;
 use model::house::*;
@@ -9,15 +10,18 @@ use model::sent::{capture, of_schedule, tick, with_ticks, Sent, MOST_GAP};
 /// seldom where it has none.
 fn list(numbers: &mut Numbers, t: &[u16], size: usize) -> Vec<Transaction> {
     let banks = usize::from(t[1]);
+    let mut arrival = 0;
     let mut one = || {
+        // At once, a little later, and now and then before the one before it or after the last arrival there is.
+        arrival += numbers.of(&[0, 0, 0, 1, 7, 30]);
+        let arrival = match numbers.below(120) {
+            0 => arrival / 2,
+            1 => LATEST + 1,
+            _ => arrival,
+        };
         if numbers.below(if t[RFC] > 0 { 5 } else { 100 }) == 0 {
             let bc = (numbers.below(20) == 0).into();
-            return Transaction {
-                kind: REFRESH,
-                start: 0,
-                bi: 0,
-                bc,
-            };
+            return Transaction::of(&[REFRESH, 0, 0, bc]).arriving(arrival);
         }
         let (start, bi, bc) = match numbers.below(24) {
             0 => (numbers.below(banks), banks, 1),
@@ -25,12 +29,8 @@ fn list(numbers: &mut Numbers, t: &[u16], size: usize) -> Vec<Transaction> {
             2 if numbers.below(4) == 0 => (banks - 1, banks + 1, 1),
             _ => (numbers.below(banks), 1 + numbers.below(banks.min(4)), 3),
         };
-        Transaction {
-            kind: numbers.byte() % 2,
-            start: start as u8,
-            bi: bi as u8,
-            bc: 1 + numbers.byte() % bc,
-        }
+        let (kind, bc) = (numbers.byte() % 2, 1 + numbers.byte() % bc);
+        Transaction::of(&[kind, start as u8, bi as u8, bc]).arriving(arrival)
     };
     (0..size).map(|_| one()).collect()
 }
@@ -63,6 +63,7 @@ fn plain(c: &desk::Controller) -> skvorzhan::Controller {
             wr: g.wr,
         }),
         refresh: c.refresh,
+        lent: c.lent,
     }
 }
 
@@ -72,14 +73,14 @@ fn steps_as_the_model_says() {
     let mut numbers = Numbers(5);
     let tables = tables();
     let (mut told, mut refs) = ([0; 3], 0);
-    for round in 0..300 {
+    for round in 0..900 {
         let t = &tables[round % tables.len()][..];
         let (edition, table) = (t[0], bytes_of(t));
         let list = list(&mut numbers, t, round % 6);
         let (_, mut right) = desk::start(edition, &table);
         for _ in 0..numbers.below(300) {
             let bank = numbers.below(16);
-            match numbers.below(400) {
+            match numbers.below(450) {
                 0 => right.acts += 1,
                 1 => right.datas += 1,
                 2 => right.banks[bank].rd = right.cycle,
@@ -91,6 +92,9 @@ fn steps_as_the_model_says() {
                 8 => right.groups[bank % 8].act = right.cycle.saturating_sub(1),
                 9 => right.groups[bank % 8].rd = right.cycle.saturating_sub(1),
                 10 => right.groups[bank % 8].wr = right.cycle,
+                11 => right.lent += 1,
+                12 => right.lent = right.lent.saturating_sub(1),
+                13 => (right.acts, right.banks[bank].opened) = (1, 1),
                 _ => (),
             }
             let mut own = plain(&right);

@@ -1,0 +1,84 @@
+-- A list cut into pieces, run by the public calls and none refused, is run as the whole list.
+-- Assumes nothing.
+use Prim.Native.Nat.{ℕ, _*_}
+use native.Mathlib.Omega.{arith}
+use mathlib.Core.Bool.{true}
+use mathlib.Core.Path.{_≡_, refl, sym, ap, _∙_, subst}
+use mathlib.Core.List.{List, [], _∷_, _++_}
+use lib.ListN.{take}
+use Rattle.records.specs.Table.{Accepted}
+use Rattle.records.specs.Transaction.{listFits}
+use Rattle.records.specs.declared.table.Table.{Table}
+use Rattle.records.specs.declared.table.TableRead.{TableRead}
+use Rattle.records.specs.declared.table.TableRead.the-variants.{Read, Refused}
+use Rattle.records.specs.declared.transaction.Transaction.{Transaction}
+use Rattle.lists.specs.declared.check.Checked.{Checked}
+use Rattle.lists.specs.declared.check.Checked.the-variants.{Fine, Refused as NotFine}
+use Rattle.lists.specs.Check.{checkList}
+use Rattle.lists.proofs.Checks.{fine-fits}
+use Rattle.controller.specs.declared.controller.Controller.{Controller}
+use Rattle.controller.specs.declared.run.RunReport.{RunReport}
+use Rattle.controller.specs.declared.run.RunAnswer.the-variants.{Ran}
+use Rattle.controller.specs.Run.{RunLeft, runController}
+use Rattle.controller.specs.Pieces.{Lot, allOf, lotRun, AllRan, lastLeft, allWritten, AsWhole}
+use Rattle.controller.proofs.Pieces.{as-whole}
+use Rattle.desk.specs.Admit.{admitted}
+use Rattle.desk.specs.Running.{starting, runsChecked, running}
+use Rattle.desk.proofs.Laws.{read-accepted}
+use Rattle.demands.specs.Pieces.{PiecesAsWhole}
+
+-- by what `admit` answered
+abbrev over : TableRead → Controller → List Transaction → ℕ → List ℕ → RunLeft
+over a c l n b = running (λ τ. checkList τ l) a c l n b
+
+module _ (τ : Table) where
+  abbrev runs : Controller → List Transaction → ℕ → List ℕ → RunLeft
+  runs c l n b = runController c τ l n b
+
+  -- a run that is not refused is the controller's, over a list that fits
+  of-ran : (c : Controller) (l : List Transaction) (n : ℕ) (b : List ℕ) (x : RunReport) → over (Read τ) c l n b .told .answer ≡ Ran x
+      → (over (Read τ) c l n b ≡ runs c l n b) × (checkList τ l ≡ Fine)
+  unfolding running runsChecked
+  of-ran c l n b x e = on (checkList τ l) e
+    where
+      on : (d : Checked) → runsChecked d c τ l n b .told .answer ≡ Ran x → (runsChecked d c τ l n b ≡ runController c τ l n b) × (d ≡ Fine)
+      on Fine e = (refl, refl)
+      on (NotFine y) e = let z : _≡_ {A = ℕ} 0 1 = cc in absurd (omega arith)
+
+  -- the pieces alike
+  record Alike (ps : List Lot) (l : List Transaction) (c : Controller) : Type 0 where
+    allRan : AllRan runs ps l c
+    last : lastLeft runs ps l c ≡ lastLeft (over (Read τ)) ps l c
+    bytes : allWritten runs ps l c ≡ allWritten (over (Read τ)) ps l c
+
+  alike : (ps : List Lot) (l : List Transaction) (c : Controller) → AllRan (over (Read τ)) ps l c → Alike ps l c
+  alike [] l c a = record { allRan = tt; last = refl; bytes = refl }
+  alike (p ∷ ps) l c a =
+      let o = of-ran c (l ++ p .more) (p .count) (p .buffer) (p .report) (a .0) .0 in
+      let k = ap (λ (w : RunLeft). w .told .controller) o in
+      let rest = alike ps (l ++ p .more) (lotRun (over (Read τ)) p l c .told .controller) (a .1) in
+      record {
+        allRan = (ap (λ (w : RunLeft). w .told .answer) (sym o) ∙ a .0, subst (λ (d : Controller). AllRan runs ps (l ++ p .more) d) k (rest .allRan));
+        last = ap (λ (d : Controller). lastLeft runs ps (l ++ p .more) d) (sym k) ∙ rest .last;
+        bytes = ap (λ (w : RunLeft). take (8 * p .report .commands) (w .buffer) ++ allWritten runs ps (l ++ p .more) (w .told .controller)) (sym o)
+            ∙ ap (λ (y : List ℕ). take (8 * p .report .commands) (lotRun (over (Read τ)) p l c .buffer) ++ y) (rest .bytes);
+      }
+
+by-table : (a : TableRead) → ((τ : Table) → a ≡ Read τ → Accepted τ) → (ps : List Lot) → AsWhole (over a) (starting a .controller) ps
+unfolding starting running
+by-table (Read τ) acc ps =
+    record {
+      toEnd = λ a qs p e k n big b x y.
+          let s = starting (Read τ) .controller in
+          let same = alike τ ps [] s a in
+          let o = of-ran τ s (allOf ps) n b x y in
+          let w = as-whole τ (acc τ refl) ps (fine-fits τ (allOf ps) (o .1)) .toEnd (same .allRan) qs p e k n big b x (ap (λ (v : RunLeft). v .told .answer) (sym (o .0)) ∙ y) in (
+            sym (same .last) ∙ (w .0 ∙ ap (λ (v : RunLeft). v .told .controller) (sym (o .0))),
+            sym (same .bytes) ∙ (w .1 ∙ ap (λ (v : RunLeft). take (8 * x .commands) (v .buffer)) (sym (o .0))),
+            w .2,
+          );
+    }
+by-table (Refused r) acc ps = record { toEnd = λ a qs p e k n big b x y. let z : _≡_ {A = ℕ} 0 1 = cc in absurd (omega arith) }
+
+pub pieces-as-whole : (expected : ℕ) (table : List ℕ) → PiecesAsWhole expected table
+pieces-as-whole expected table = by-table (admitted expected table) (read-accepted expected table)

@@ -1,9 +1,0 @@
-use borrow.Author.Needs.{needs}
-use Rattle.records.proofs.transaction.transaction_refusal.Statement.{statement}
-use Rattle.records.proofs.transaction.transaction_refusal.Tie as tie
-
-returns : tie.Need-returns
-returns c = rw (c .first-failed .ensures, c .before .not-of .ensures, c .before .before .fits-in .ensures)
-
-pub transaction-refusal-spec : {M : Type 1} → statement M
-transaction-refusal-spec = tie.close (tie.spec (λ c κs. search needs) (λ c κs. search needs) (λ c κs. search needs) returns)

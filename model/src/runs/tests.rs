@@ -1,0 +1,101 @@
+//! What the cases meet.
+
+use super::*;
+use crate::house::*;
+use crate::records::EDITION;
+use std::collections::{BTreeMap, BTreeSet};
+
+/// What the paper prints for example 3, but for the last line, which request 4 gives.
+#[test]
+fn the_listing() {
+    let head = [
+        &[BUILD, 7, 0, 32][..],
+        &[32, 0, 2, 0, 8, 0],
+        &bytes_of(&TABLE_A),
+    ]
+    .concat();
+    let lists = lines(&[&head[..], &[1, 0, 1, 1, 0, 0, 1, 1]].concat());
+    let told = "build edition 7 commands 4\n0 ACT 0 0\n10 WRA 0 0\n44 ACT 0 1\n54 RDA 0 1\nfinish 0 10\nfinish 1 68\n";
+    assert_eq!(lists, told);
+    assert_eq!(lines(&head), "case\n");
+    assert_eq!(lines(&[&[6], &head[..]].concat()), "case\n");
+}
+
+/// Exactly where the table is accepted and its edition is not the expected one.
+#[test]
+fn number_10() {
+    let input = cases();
+    let mut rest = Bytes(&input);
+    let mut met: BTreeMap<&str, usize> = BTreeMap::new();
+    while let Some(case) = first_case(&mut rest) {
+        let (name, answer) = told(&case);
+        let edition = read_table(case.table).map_or(case.expected, |t| t[EDITION]);
+        let differ = edition != case.expected;
+        let refusal = Refusal {
+            number: 10,
+            position: edition.into(),
+            edition,
+        };
+        assert_eq!(answer == Err(refusal), differ);
+        *met.entry(name).or_default() += usize::from(differ);
+    }
+    assert!(met.len() == 5 && met.values().all(|&n| n > 1), "{met:?}");
+}
+
+/// All banks from every start are served, and a start or a BI one too great is refused, in builds and in runs.
+#[test]
+fn over_the_last_bank() {
+    let input = cases();
+    let mut rest = Bytes(&input);
+    let (mut served, mut refused) = (BTreeSet::new(), BTreeSet::new());
+    while let Some(case) = first_case(&mut rest) {
+        let (name, answer) = told(&case);
+        let (list, of_record) = match case.asked {
+            Asked::Build {
+                list, of_record, ..
+            } => (list, of_record),
+            Asked::Run {
+                list, of_record, ..
+            } => (list, of_record),
+            Asked::Bound(..) => continue,
+        };
+        let banks = case.table.get(2).copied().unwrap_or(0);
+        let records = list.chunks_exact(of_record);
+        let places = records.map(|x| (name, banks, x[1], x[2]));
+        match answer {
+            Ok(_) => served.extend(places),
+            Err(r) if r.number == 4 => refused.extend(places.skip(r.position as usize).take(1)),
+            Err(_) => (),
+        }
+    }
+    for banks in [1, 2, 3, 5, 7, 8, 11, 13, 15, 16] {
+        for start in 0..banks {
+            assert!(served.contains(&("build", banks, start, banks)));
+        }
+        assert!(refused.contains(&("build", banks, banks, 1)));
+        assert!(refused.contains(&("build", banks, 0, banks + 1)));
+    }
+    assert!(served.contains(&("run", 8, 3, 8)));
+    assert!(refused.contains(&("run", 8, 8, 1)));
+    assert!(refused.contains(&("run", 8, 7, 9)));
+}
+
+#[test]
+fn every_refusal() {
+    let input = cases();
+    assert!(input.len() < 196_608);
+    let told = lines(&input);
+    assert!(told.ends_with("\ncase\n"));
+    for (name, numbers) in [
+        ("build", &[1, 2, 3, 4, 5, 6, 10][..]),
+        ("build_later", &[1, 2, 3, 4, 5, 6, 10]),
+        ("run", &[1, 2, 3, 4, 5, 9, 10, 12]),
+        ("run_later", &[1, 2, 3, 4, 5, 9, 10, 12]),
+        ("bound", &[1, 2, 4, 10]),
+    ] {
+        for number in 1..=12 {
+            let start = format!("\n{name} refused {number} at ");
+            assert_eq!(told.contains(&start), numbers.contains(&number), "{start}");
+        }
+    }
+}
