@@ -19,7 +19,7 @@ use Rattle.lists.specs.Packed.{recordsOf}
 use Rattle.desk.specs.Admit.{admitted}
 use Rattle.desk.specs.Running.{starting, running}
 use Rattle.desk.specs.Numbers.{telling, tableNumbers, startNumbers}
-use Rattle.demands.specs.Handed.{A, D, inGroups, alone, fine, trace, gone, reached, lentBefore, told, judges, judgesBytes, Patterns, Traces, bounds, reads, Builds, BuildsBytes, runs, runsBytes, Writes}
+use Rattle.demands.specs.Handed.{A, D, inGroups, alone, fine, trace, never, gone, reached, lentBefore, told, judges, judgesBytes, Patterns, Traces, bounds, reads, Builds, BuildsBytes, runs, runsBytes, Writes}
 
 -- table D but for its banks and groups
 abbrev pub banked : ℕ → ℕ → List ℕ
@@ -31,10 +31,6 @@ within = command 0 Act 0 0 ∷ command 10 Rda 0 0 ∷ command 20 Act 4 1 ∷ com
 
 abbrev pub across : List Command
 across = command 0 Act 0 0 ∷ command 6 Act 1 1 ∷ command 10 Rda 0 0 ∷ command 16 Rda 1 1 ∷ []
-
--- the number that stands for "never"
-abbrev pub never : ℕ
-never = 4294967295
 
 -- ---- the record of 40 bytes
 

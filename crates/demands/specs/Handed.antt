@@ -87,6 +87,10 @@ tick t = captureRecord t 255 0
 abbrev pub seen : ℕ → ℕ → CaptureRecord
 seen t kind = captureRecord t kind 0
 
+-- the number that stands for "never"
+abbrev pub never : ℕ
+never = 4294967295
+
 -- a controller of an edition and a cycle, from whose queues so many commands have gone, and whose last REF went at a cycle; nothing else has
 -- happened to it, and nothing was lent to it before
 abbrev pub refreshed : ℕ → ℕ → ℕ → ℕ → ℕ → Controller
@@ -96,16 +100,16 @@ refreshed e t acts datas c =
       cycle = t;
       acts = acts;
       datas = datas;
-      banks = replicate 16 (record { opened = 0; act = 4294967295; rd = 4294967295; wr = 4294967295 });
-      last = replicate 4 4294967295;
-      groups = replicate 8 (record { act = 4294967295; rd = 4294967295; wr = 4294967295 });
+      banks = replicate 16 (record { opened = 0; act = never; rd = never; wr = never });
+      last = replicate 4 never;
+      groups = replicate 8 (record { act = never; rd = never; wr = never });
       refresh = c;
       lent = 0;
     }
 
 -- and one that never had a REF
 abbrev pub gone : ℕ → ℕ → ℕ → ℕ → Controller
-gone e t acts datas = refreshed e t acts datas 4294967295
+gone e t acts datas = refreshed e t acts datas never
 
 -- a controller, but for the latest ACT, RD and WR of a group
 abbrev pub reached : Controller → ℕ → ℕ → ℕ → ℕ → Controller
