@@ -2,10 +2,10 @@
 -- Assumes nothing.
 use Prim.Native.Nat.{ℕ, zero, suc, _*_, _%_, _/_}
 use native.Mathlib.Omega.{arith}
-use mathlib.Core.Bool.{Bool, true, false, not, _&&_, _||_}
+use mathlib.Core.Bool.{Bool, true, false, not, _||_}
 use mathlib.Core.Path.{_≡_, refl, sym, ap, subst}
 use mathlib.Core.List.{List, [], _∷_}
-use lib.Dec.{leb, ltb, eqb}
+use lib.Dec.{ltb, eqb}
 use lib.ListN.{length, replicate}
 use borrow.Author.Tests.{le-ltb}
 use Rattle.records.specs.declared.transaction.Transaction.{Transaction}
@@ -13,7 +13,7 @@ use Rattle.records.specs.Tests.{pick}
 use Rattle.records.specs.Told.{refusal, firstFailed, over}
 use Rattle.records.specs.declared.command.Kind.the-variants.{Act, Ref}
 use Rattle.records.specs.Table.{readTable}
-use Rattle.records.specs.Transaction.{recordSize, recordCount, listOf, fitsFrom}
+use Rattle.records.specs.Transaction.{recordSize, listOf, fitsFrom}
 use Rattle.records.specs.Command.{command, commandsIn, bytesOfAll}
 use Rattle.records.specs.House.{tableA, tableB, tableD}
 use Rattle.rules.specs.declared.verdict.Rule.the-variants.{Precharge, Rrd, Faw, End, Rfc}

@@ -7,7 +7,7 @@ use mathlib.Core.Path.{_≡_, refl, sym, ap, _∙_, subst, fun-ext}
 use mathlib.Core.List.{List, [], _∷_, _++_}
 use lib.ListN.{length, take}
 use Rattle.records.specs.Table.{Accepted}
-use Rattle.records.specs.Transaction.{laterFrom, laterIn, listFits}
+use Rattle.records.specs.Transaction.{laterFrom, laterIn}
 use Rattle.records.proofs.Listed.{past-record, first-record}
 use Rattle.records.specs.declared.table.Table.{Table}
 use Rattle.records.specs.declared.table.TableRead.{TableRead}

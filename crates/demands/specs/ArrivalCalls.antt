@@ -7,7 +7,7 @@ use lib.ListN.{length, set, replicate}
 use Rattle.records.specs.declared.transaction.Transaction.{Transaction}
 use Rattle.records.specs.Transaction.{arriving, readLater, writeTransaction, writeLater}
 use Rattle.records.specs.Command.{bytesOfAll}
-use Rattle.rules.specs.Worked.{read, refresh, thenRef, All}
+use Rattle.rules.specs.Worked.{refresh, thenRef, All}
 use Rattle.rules.specs.WorkedArrivals.{readAt, arrivals, arrivedSchedule}
 use Rattle.lists.specs.Packed.{recordsOf}
 use Rattle.controller.specs.declared.controller.Controller.{Controller}
