@@ -22,7 +22,7 @@ use Rattle.controller.specs.declared.controller.Controller.{Controller}
 use Rattle.controller.specs.declared.run.RunReport.{RunReport}
 use Rattle.controller.specs.declared.run.RunAnswer.the-variants.{Ran}
 use Rattle.controller.specs.Run.{RunLeft, runController}
-use Rattle.controller.specs.Pieces.{Lot, allOf, lotRun, AllRan, lastLeft, allWritten, AsWhole}
+use Rattle.controller.specs.Pieces.{Lot, allOf, allCycles, lotRun, AllRan, lastLeft, allWritten, AsWhole}
 use Rattle.controller.proofs.Pieces.{as-whole}
 use Rattle.desk.specs.Admit.{admitted}
 use Rattle.desk.specs.Running.{starting, runsChecked, running}
@@ -70,17 +70,33 @@ by-table : (a : TableRead) → ((τ : Table) → a ≡ Read τ → Accepted τ) 
 unfolding starting running
 by-table (Read τ) acc ps =
     record {
-      toEnd = λ a qs p e k n big b x y.
-          let s = starting (Read τ) .controller in
-          let same = alike τ ps [] s a in
+      alike = λ a n b x y z.
           let o = of-ran τ s (allOf ps) n b x y in
-          let w = as-whole τ (acc τ refl) ps (fine-fits τ (allOf ps) (o .1)) .toEnd (same .allRan) qs p e k n big b x (ap (λ (v : RunLeft). v .told .answer) (sym (o .0)) ∙ y) in (
-            sym (same .last) ∙ (w .0 ∙ ap (λ (v : RunLeft). v .told .controller) (sym (o .0))),
-            sym (same .bytes) ∙ (w .1 ∙ ap (λ (v : RunLeft). take (8 * x .commands) (v .buffer)) (sym (o .0))),
-            w .2,
+          let w = whole n b x y .alike (same a .allRan) n b x (ran n b x y) z in (
+            sym (same a .last) ∙ (w .0 ∙ ap (λ (v : RunLeft). v .told .controller) (sym (o .0))),
+            sym (same a .bytes) ∙ (w .1 ∙ ap (λ (v : RunLeft). take (8 * x .commands) (v .buffer)) (sym (o .0))),
           );
+      asMany = λ a b x y. whole (allCycles ps) b x y .asMany (same a .allRan) b x (ran (allCycles ps) b x y);
+      toEnd = λ a qs p e k n big b x y. whole n b x y .toEnd (same a .allRan) qs p e k n big b x (ran n b x y);
     }
-by-table (Refused r) acc ps = record { toEnd = λ a qs p e k n big b x y. let z : _≡_ {A = ℕ} 0 1 = cc in absurd (omega arith) }
+  where
+    s : Controller
+    s = starting (Read τ) .controller
+
+    same : AllRan (over (Read τ)) ps [] s → Alike τ ps [] s
+    same a = alike τ ps [] s a
+
+    ran : (n : ℕ) (b : List ℕ) (x : RunReport) → over (Read τ) s (allOf ps) n b .told .answer ≡ Ran x → runs τ s (allOf ps) n b .told .answer ≡ Ran x
+    ran n b x y = ap (λ (v : RunLeft). v .told .answer) (sym (of-ran τ s (allOf ps) n b x y .0)) ∙ y
+
+    whole : (n : ℕ) (b : List ℕ) (x : RunReport) → over (Read τ) s (allOf ps) n b .told .answer ≡ Ran x → AsWhole (runs τ) s ps
+    whole n b x y = as-whole τ (acc τ refl) ps (fine-fits τ (allOf ps) (of-ran τ s (allOf ps) n b x y .1))
+by-table (Refused r) acc ps =
+    record {
+      alike = λ a n b x y. let z : _≡_ {A = ℕ} 0 1 = cc in absurd (omega arith);
+      asMany = λ a b x y. let z : _≡_ {A = ℕ} 0 1 = cc in absurd (omega arith);
+      toEnd = λ a qs p e k n big b x y. let z : _≡_ {A = ℕ} 0 1 = cc in absurd (omega arith);
+    }
 
 -- ---- the bytes of a list's records hold the list, and are run as the list
 
