@@ -1,7 +1,7 @@
 //! The example files: an expected edition, a table and transactions as the listing reads them, or a capture as the trace does, or transactions
 //! that arrive later; with a text beside each that says what it holds.
 
-mod arrivals;
+pub mod arrivals;
 mod captures;
 mod text;
 
