@@ -6,8 +6,8 @@ use native.Mathlib.Numerals.{add-one}
 use Rattle.timing.specs.Kept.{told}
 use Rattle.timing.proofs.Telling.{told-at}
 use Rattle.broken.specs.ByState.{shutBy}
-use Rattle.judge.proofs.copy.all_shut.Statement.{statement}
-use Rattle.judge.proofs.copy.all_shut.Tie as tie
+use Rattle.copies.proofs.copy.all_shut.Statement.{statement}
+use Rattle.copies.proofs.copy.all_shut.Tie as tie
 
 abbrev Inv-loop : tie.InvT-loop
 Inv-loop banks s n shut₀ b₀ shut b = (b ≤ n) × (n ≡ banks) × (shut ≡ shutBy (told s) b)

@@ -24,8 +24,8 @@ use Rattle.rules.proofs.Judged.{holds}
 use Rattle.rules.proofs.Legal.{below}
 use Rattle.rules.proofs.JudgeState.{Judging, judging-broken, judging-note, judging-open}
 use Rattle.broken.specs.ByState.{foundBy, shutBy}
-use Rattle.judge.specs.Seen.{recordIn, before}
-use Rattle.judge.proofs.Seen.{left, left-none, left-next}
+use Rattle.copies.specs.Seen.{recordIn, before}
+use Rattle.copies.proofs.Seen.{left, left-none, left-next}
 
 -- i records of a copy are judged: the state sums up all before the next, and the verdict on what is left is that on the whole copy
 pub record Turn (τ : Table) (s : List ℕ) (d : ℕ) (h : List Command) (n i : ℕ) (st : State) : Type 0 where

@@ -29,9 +29,9 @@ use Rattle.timing.specs.Kept.{isClosing, stampOf, toldBank, toldGroup, told, sh
 use Rattle.timing.proofs.Telling.{told-at, actKept, told-act, dataKept, told-data, refKept, told-ref}
 use Rattle.broken.specs.ByState.{foundBy, groupsFar, ownFar, foundOn, foundRef}
 use Rattle.broken.proofs.Laws.{one-far, found-range, found-parts, found-refresh}
-use Rattle.judge.specs.Seen.{recordCount, recordIn, before, whole}
-use Rattle.judge.proofs.Seen.{left, room}
-use Rattle.judge.proofs.Turn.{Turn, turn-stops, turn-next}
+use Rattle.copies.specs.Seen.{recordCount, recordIn, before, whole}
+use Rattle.copies.proofs.Seen.{left, room}
+use Rattle.copies.proofs.Turn.{Turn, turn-stops, turn-next}
 
 -- what the code finds of a record that keeps rule 1: of a REF, where `rests` says whether every bank is at rest, and of another
 abbrev pub refFound : Table → Kept → Bool → Command → Found

@@ -16,7 +16,7 @@ use Rattle.rules.specs.State.{addIf}
 use Rattle.rules.specs.CycleRule.{actsIn, datasIn}
 use Rattle.rules.specs.Pattern.{moved, copy, onto}
 use Rattle.rules.proofs.Link.{Sums}
-use Rattle.judge.specs.Seen.{recordCount, recordIn, before, whole}
+use Rattle.copies.specs.Seen.{recordCount, recordIn, before, whole}
 
 -- a schedule is its copy 0 cycles later
 pub moved-none : (rs : List Command) → moved 0 rs ≡ rs

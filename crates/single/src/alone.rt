@@ -1,12 +1,12 @@
 // One copy of a schedule by a table of one group.
-use crate::copy::Copied;
-use crate::copy::all_shut;
-use crate::copy::end_of;
-use crate::copy::shift_of;
 use broken::alone::found_alone;
 use broken::found::found_ref;
 use broken::found::in_table;
 use commands::command::command_at;
+use copies::copy::Copied;
+use copies::copy::all_shut;
+use copies::copy::end_of;
+use copies::copy::shift_of;
 use records::table::Table;
 use records::tests::not_of;
 use rules::verdict::Found;
@@ -33,7 +33,7 @@ ghost use Rattle.rules.specs.Pattern.{copy};
 ghost use Rattle.rules.specs.State.{Held};
 ghost use Rattle.rules.proofs.JudgeState.{Judging};
 ghost use Rattle.timing.specs.Kept.{told};
-ghost use Rattle.judge.specs.Seen.{recordCount, whole};
+ghost use Rattle.copies.specs.Seen.{recordCount, whole};
 
 // Copy k + 1 of the schedule, after k copies that the state sums up, by a table of one group. The state is a local that is changed in place,
 // record by record; the one group stands at a known place, so that such a table does not pay for the others.

@@ -9,13 +9,13 @@ use Rattle.rules.specs.declared.verdict.Verdict.{Verdict}
 use Rattle.rules.specs.declared.verdict.Verdict.the-variants.{Accepted, Refused}
 use Rattle.rules.specs.declared.verdict.Rule.the-variants.{End}
 use Rattle.timing.specs.Kept.{told}
-use Rattle.judge.specs.Seen.{recordCount, whole}
-use Rattle.judge.proofs.Laws.{not-accepted}
-use Rattle.judge.proofs.Seen.{record-read}
-use Rattle.judge.proofs.Turn.{Turn, turn-start, turn-judging, turn-end}
-use Rattle.judge.proofs.InPlace.{low-bank, known, range-stops, ref-stops, ref-next, rule-stops, act-next, data-next, kept-room}
-use Rattle.judge.proofs.among.judge_among.Statement.{statement}
-use Rattle.judge.proofs.among.judge_among.Tie as tie
+use Rattle.copies.specs.Seen.{recordCount, whole}
+use Rattle.copies.proofs.Laws.{not-accepted}
+use Rattle.copies.proofs.Seen.{record-read}
+use Rattle.copies.proofs.Turn.{Turn, turn-start, turn-judging, turn-end}
+use Rattle.copies.proofs.InPlace.{low-bank, known, range-stops, ref-stops, ref-next, rule-stops, act-next, data-next, kept-room}
+use Rattle.several.proofs.among.judge_among.Statement.{statement}
+use Rattle.several.proofs.among.judge_among.Tie as tie
 
 abbrev Inv-loop : tie.InvT-loop
 Inv-loop t near away s length k n shift state₀ i₀ state i = Turn t s (length * k) (whole length s k) n i (told state) × (n ≡ recordCount s)

@@ -1,8 +1,8 @@
 use native.Mathlib.Omega.{arith}
 use mathlib.Core.Path.{refl}
-use Rattle.judge.proofs.Laws.{shift-small}
-use Rattle.judge.proofs.copy.shift_of.Statement.{statement}
-use Rattle.judge.proofs.copy.shift_of.Tie as tie
+use Rattle.copies.proofs.Laws.{shift-small}
+use Rattle.copies.proofs.copy.shift_of.Statement.{statement}
+use Rattle.copies.proofs.copy.shift_of.Tie as tie
 
 mul-result : tie.Need-mul-result
 mul-result c = record { fits = omega (arith, shift-small (c .args .length) (c .args .k) (omega arith) (c .pre)) }
