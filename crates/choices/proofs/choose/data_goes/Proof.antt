@@ -1,8 +1,8 @@
 use borrow.Author.Needs.{needs}
 use mathlib.Core.Path.{sym, _∙_}
 use borrow.Author.Tests.{lt-ltb, le-ltb}
-use Rattle.engine.proofs.choose.data_goes.Statement.{statement}
-use Rattle.engine.proofs.choose.data_goes.Tie as tie
+use Rattle.choices.proofs.choose.data_goes.Statement.{statement}
+use Rattle.choices.proofs.choose.data_goes.Tie as tie
 
 returns : tie.Need-returns
 returns c =

@@ -3,10 +3,10 @@ use native.Mathlib.Omega.{arith}
 use denote.Ref.{now}
 use Prim.Native.Nat.{_-_, _≤_}
 use mathlib.Core.Path.{_≡_, sym, ap}
-use Rattle.engine.specs.Build.{Finished}
-use Rattle.engine.proofs.Finishing.{not-yet, as-marked, one-finished}
-use Rattle.engine.proofs.finish.finish_all.Statement.{statement}
-use Rattle.engine.proofs.finish.finish_all.Tie as tie
+use Rattle.finishing.specs.Finish.{Finished}
+use Rattle.finishing.proofs.Finishing.{not-yet, as-marked, one-finished}
+use Rattle.finishing.proofs.finish.finish_all.Statement.{statement}
+use Rattle.finishing.proofs.finish.finish_all.Tie as tie
 
 abbrev Inv-loop : tie.InvT-loop
 Inv-loop t list n finishes₀ k₀ finishes k = (k ≤ n) × Finished t list k finishes₀ finishes

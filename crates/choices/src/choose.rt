@@ -18,7 +18,7 @@ ghost use lib.Dec.{ltb, leb};
 ghost use Rattle.rules.specs.Square.{square};
 ghost use Rattle.rules.specs.State.{past};
 ghost use Rattle.timing.specs.Kept.{stampOf, toldBank, toldGroup};
-ghost use Rattle.engine.specs.Choose.{commandOf, seenAt, dataFree, actFree};
+ghost use Rattle.choices.specs.Choose.{commandOf, seenAt, dataFree, actFree};
 
 // The command of a head, at cycle c.
 pub fn command_of(h: Head, c: u64) -> Command

@@ -1,7 +1,7 @@
 use borrow.Author.Needs.{needs}
 use mathlib.Core.Path.{sym, _∙_}
-use Rattle.engine.proofs.choose.act_goes.Statement.{statement}
-use Rattle.engine.proofs.choose.act_goes.Tie as tie
+use Rattle.choices.proofs.choose.act_goes.Statement.{statement}
+use Rattle.choices.proofs.choose.act_goes.Tie as tie
 
 returns : tie.Need-returns
 returns c = rw (sym (c .before .before .seen-at .ensures) ∙ c .before .if1 .taken) (c .kept-act-free .ensures)

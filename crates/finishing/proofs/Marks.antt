@@ -19,7 +19,7 @@ use Rattle.rules.specs.Pattern.{onto}
 use Rattle.rules.specs.Finish.{lastCommandIn, lastCommand}
 use Rattle.rules.proofs.TestLaws.{and-fst, and-snd}
 use Rattle.rules.proofs.Numbers.{same?}
-use Rattle.engine.specs.Build.{cycleOr, Marked}
+use Rattle.finishing.specs.Finish.{cycleOr, Marked}
 
 -- ---- one command more
 

@@ -10,7 +10,7 @@ ghost use lib.Dec.{ltb};
 ghost use lib.ListN.{length, getD};
 ghost use Rattle.records.specs.Tests.{pick, every};
 ghost use Rattle.records.specs.Command.{commandsFrom};
-ghost use Rattle.engine.specs.Build.{Marked, Finished};
+ghost use Rattle.finishing.specs.Finish.{Marked, Finished};
 
 // Stores the cycle of each data command, and of each REF, at its transaction's number, in the order of the commands, so that the last one stays.
 pub fn mark(bytes: &[u8], m: usize, finishes: &mut [u32])

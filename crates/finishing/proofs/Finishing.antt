@@ -12,7 +12,7 @@ use Rattle.records.specs.declared.transaction.Transaction.{Transaction}
 use Rattle.records.specs.Transaction.{laterAt}
 use Rattle.rules.specs.Finish.{finishOf}
 use Rattle.rules.proofs.Numbers.{same?}
-use Rattle.engine.specs.Build.{Finished}
+use Rattle.finishing.specs.Finish.{Finished}
 
 pub not-yet : (τ : Table) (s f : List ℕ) → Finished τ s 0 f f
 not-yet τ s f = record { size = refl; each = λ k h. absurd (omega arith); beyond = λ k h. refl }

@@ -3,10 +3,10 @@ use native.Mathlib.Omega.{arith}
 use Prim.Native.Nat.{_-_, _≤_}
 use mathlib.Core.Path.{_≡_}
 use Rattle.records.specs.Command.{commandsFrom}
-use Rattle.engine.specs.Build.{Marked}
-use Rattle.engine.proofs.Marks.{unmarked, in-range, stores, skips}
-use Rattle.engine.proofs.finish.mark.Statement.{statement}
-use Rattle.engine.proofs.finish.mark.Tie as tie
+use Rattle.finishing.specs.Finish.{Marked}
+use Rattle.finishing.proofs.Marks.{unmarked, in-range, stores, skips}
+use Rattle.finishing.proofs.finish.mark.Statement.{statement}
+use Rattle.finishing.proofs.finish.mark.Tie as tie
 
 abbrev Inv-loop : tie.InvT-loop
 Inv-loop bytes m finishes₀ j₀ finishes j = (j ≤ m) × Marked (commandsFrom bytes j 0) finishes₀ finishes
