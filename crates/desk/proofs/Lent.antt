@@ -31,7 +31,7 @@ use Rattle.controller.specs.declared.controller.Controller.{Controller}
 use Rattle.controller.specs.declared.run.RunTold.{RunTold}
 use Rattle.controller.specs.Controller.{tells}
 use Rattle.controller.specs.Run.{RunLeft, ranLeft, refusedLeft, leftBy, runController, LeavesRun}
-use Rattle.desk.specs.declared.admit.WayIn.{WayIn}
+use Rattle.admission.specs.declared.admit.WayIn.{WayIn}
 use Rattle.desk.specs.Admit.{admitted, noWay, wayIn, LetIn}
 use Rattle.desk.specs.Schedules.{BuildsChecked, Schedules}
 use Rattle.desk.specs.Running.{runsChecked, running, Runs, hasRun}

@@ -1,6 +1,5 @@
 // The desk: what the customer calls. Any bytes may be handed in; a call refuses what it cannot take, with the number, the position and the
 // edition of document 01, and then changes nothing.
-pub mod admit;
 pub mod bounding;
 pub mod judging;
 pub mod numbers;
