@@ -1,0 +1,27 @@
+-- The theorems about request 10.
+pub mod Tests
+pub mod Alike
+pub mod Records
+pub mod Least
+pub mod Totals
+pub mod PerBank
+pub mod DueCount
+pub mod Entries
+pub mod Order
+pub mod Counts
+pub mod Opened
+pub mod Faults
+pub mod Lowest
+pub mod Exactly
+pub mod Acts
+pub mod Going
+pub mod ActGoes
+pub mod Gone
+pub mod BuiltServes
+pub mod Sorted
+pub mod QueueOrder
+pub mod Scanning
+pub mod Noted
+pub mod Seen
+pub mod Passing
+pub mod Worked
