@@ -13,6 +13,7 @@ pub mod Opened
 pub mod Faults
 pub mod Lowest
 pub mod Exactly
+pub mod Unique
 pub mod Acts
 pub mod Going
 pub mod ActGoes

@@ -1,7 +1,10 @@
 // Does a schedule serve a list?
 use crate::answer::Served;
+use crate::answer::ServesAnswer;
 use crate::pass::pass;
+use judge::answer::schedule_refusal;
 use judge::schedule::verdict_on;
+use records::refusal::refuse;
 use records::table::Table;
 use rules::verdict::Verdict;
 ghost use mathlib.Core.Path.{_≡_};
@@ -12,6 +15,7 @@ ghost use Rattle.rules.specs.Verdict.{Legal};
 ghost use Rattle.heads.specs.Queue.{Listed};
 ghost use Rattle.judge.specs.Seen.{recordCount};
 ghost use Rattle.serves.specs.Serves.{Says};
+ghost use Rattle.serves.specs.Answer.{ServesAnswers};
 ghost use Rattle.serves.specs.Check.{answerOf};
 
 // The lowest number at fault, below n; else n where a number was outside the list.
@@ -50,4 +54,16 @@ pub fn serves(t: Table, list: &[u8], n: usize, s: &[u8]) -> Served
             return served(t, list, n, s);
         }
     }
+}
+
+// Number 7; then the answer, with the table's edition. The list is one that numbers 3 and 4 let pass.
+pub fn serves_schedule(t: Table, list: &[u8], n: usize, s: &[u8]) -> ServesAnswer
+    requires { ⌜ Listed t (now list) n ⌝ }
+    ensures { λ r. ⌜ ServesAnswers t (laterFrom (now (list .entry)) n 0) (now (s .entry)) r ⌝ }
+{
+    let z = schedule_refusal(s.len());
+    if z != 0 {
+        return ServesAnswer::Refused(refuse(z, 0, t.edition));
+    }
+    ServesAnswer::Told(t.edition, serves(t, list, n, s))
 }
