@@ -28,10 +28,12 @@ use Rattle.lists.proofs.Checks.{fine-sized, into-256, into-list, fine-fits}
 use Rattle.lists.specs.Packed.{packed, held as holding}
 use Rattle.lists.proofs.Packing.{length-packed, lent-held, widened}
 use Rattle.builder.specs.declared.build.BuildAnswer.{BuildAnswer}
+use Rattle.serves.specs.declared.answer.ServesAnswer.{ServesAnswer}
 use Rattle.controller.specs.declared.controller.Controller.{Controller}
 use Rattle.desk.specs.Admit.{expects, expecting, admitted, noWay, byLength}
 use Rattle.desk.specs.Schedules.{BuildsChecked, Schedules}
 use Rattle.desk.specs.Running.{runsChecked, running}
+use Rattle.desk.specs.Serving.{ServesChecked, Serving}
 
 -- ---- the table
 
@@ -142,3 +144,10 @@ unfolding running
 running-same f g (Read τ) c l m count b e s =
     ap (λ (d : Checked). runsChecked d c τ l count b) (e τ) ∙ ap (λ (k : List Transaction). runsChecked (g τ) c τ k count b) s
 running-same f g (Refused x) c l m count b e s = refl
+
+pub serving-same : (f g : Table → Checked) (a : TableRead) (l m : List Transaction) (s : List ℕ) (r : ServesAnswer) → ((τ : Table) → f τ ≡ g τ) → l ≡ m
+    → Serving f a l s r → Serving g a m s r
+unfolding Serving
+serving-same f g (Read τ) l m s r e k h =
+    subst (λ (z : List Transaction). ServesChecked (g τ) τ z s r) k (subst (λ (d : Checked). ServesChecked d τ l s r) (e τ) h)
+serving-same f g (Refused x) l m s r e k h = h

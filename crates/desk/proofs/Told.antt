@@ -34,6 +34,9 @@ use Rattle.lists.proofs.Packing.{lent-held, lent-check}
 use Rattle.lists.specs.declared.decode.Decoded.the-variants.{Refused as NotDone}
 use Rattle.lists.specs.declared.decode.Plan.{Plan}
 use Rattle.lists.specs.Decode.{plan}
+use Rattle.serves.specs.declared.answer.ServesAnswer.{ServesAnswer}
+use Rattle.serves.specs.declared.answer.ServesAnswer.the-variants.{Refused as NotTold}
+use Rattle.serves.specs.Answer.{ServesAnswers}
 use Rattle.controller.specs.declared.controller.Controller.{Controller}
 use Rattle.controller.specs.declared.run.RunTold.{RunTold}
 use Rattle.controller.specs.declared.run.RunAnswer.the-variants.{Refused as NotRun}
@@ -48,7 +51,8 @@ use Rattle.desk.specs.Bounds.{bounding}
 use Rattle.desk.specs.Transactions.{readingPlan}
 use Rattle.desk.specs.Schedules.{BuildsChecked, Schedules}
 use Rattle.desk.specs.Running.{starting, runsChecked, running}
-use Rattle.desk.proofs.Laws.{by-admitted, by-checked, schedules-same, running-same}
+use Rattle.desk.specs.Serving.{ServesChecked, Serving}
+use Rattle.desk.proofs.Laws.{by-admitted, by-checked, schedules-same, running-same, serving-same}
 
 module _ (w : ℕ) (s : List ℕ) (a : TableRead) (e : a ≡ admitted w s) where
   module _ (τ : Table) (t : a ≡ Read τ) where
@@ -89,6 +93,10 @@ module _ (w : ℕ) (s : List ℕ) (a : TableRead) (e : a ≡ admitted w s) where
     unfolding running
     run-read check c l count b₀ b r h = by-admitted (λ (z : TableRead). LeavesRun (running check z c l count b₀) r b) w s a (Read τ) e t h
 
+    pub serves-read : (check : Table → Checked) (l : List Transaction) (b : List ℕ) (r : ServesAnswer) → ServesChecked (check τ) τ l b r → Serving check (admitted w s) l b r
+    unfolding Serving
+    serves-read check l b r h = by-admitted (λ (z : TableRead). Serving check z l b r) w s a (Read τ) e t h
+
   module _ (x : Refusal) (t : a ≡ Refused x) where
     pub judge-refused : (b : List ℕ) → NotJudged x ≡ judging (admitted w s) b
     unfolding judging
@@ -127,6 +135,10 @@ module _ (w : ℕ) (s : List ℕ) (a : TableRead) (e : a ≡ admitted w s) where
     run-refused check c l count b =
         by-admitted (λ (z : TableRead). LeavesRun (running check z c l count b) (record { controller = c; answer = NotRun x }) b) w s a (Refused x) e t (refl, refl)
 
+    pub serves-refused : (check : Table → Checked) (l : List Transaction) (b : List ℕ) → Serving check (admitted w s) l b (NotTold x)
+    unfolding Serving
+    serves-refused check l b = by-admitted (λ (z : TableRead). Serving check z l b (NotTold x)) w s a (Refused x) e t refl
+
 -- two names of one list
 pub same-ran : (c : Controller) (τ : Table) (l m : List Transaction) → l ≡ m → (count : ℕ) (b₀ b : List ℕ) (r : RunTold)
     → LeavesRun (runController c τ l count b₀) r b → LeavesRun (runController c τ m count b₀) r b
@@ -153,6 +165,14 @@ module _ (τ : Table) (later : Bool) (s : List ℕ) (d : Checked) (e : d ≡ che
   ran-refused x t c l count b =
       by-checked (λ (z : Checked). LeavesRun (runsChecked z c τ l count b) (record { controller = c; answer = NotRun x }) b) τ later s d (NotFine x) e t (refl, refl)
 
+  pub serves-fine : d ≡ Fine → (l : List Transaction) (b : List ℕ) (r : ServesAnswer) → ServesAnswers τ l b r → ServesChecked (checkBytes later τ s) τ l b r
+  unfolding ServesChecked
+  serves-fine t l b r h = by-checked (λ (z : Checked). ServesChecked z τ l b r) τ later s d Fine e t h
+
+  pub serves-unfit : (x : Refusal) → d ≡ NotFine x → (l : List Transaction) (b : List ℕ) → ServesChecked (checkBytes later τ s) τ l b (NotTold x)
+  unfolding ServesChecked
+  serves-unfit x t l b = by-checked (λ (z : Checked). ServesChecked z τ l b (NotTold x)) τ later s d (NotFine x) e t refl
+
 -- by what the way in found: a, of the n records that the bytes s hold, which are lent on
 module _ (n : ℕ) (s : List ℕ) (inside : 8 * n ≤ length s) (a : TableRead) where
   module _ (τ : Table) (t : a ≡ Read τ) where
@@ -171,6 +191,13 @@ module _ (n : ℕ) (s : List ℕ) (inside : 8 * n ≤ length s) (a : TableRead) 
         (running-same (λ τ. checkBytes true τ (take (8 * n) s)) (λ τ. checkList τ (held n s)) a c (laterIn (take (8 * n) s)) (held n s) count b₀ (lent-check n s inside) (lent-held n s inside))
         (subst (λ (z : TableRead). LeavesRun (running (λ τ. checkBytes true τ (take (8 * n) s)) z c (laterIn (take (8 * n) s)) count b₀) r b) (sym t) h)
 
+    pub held-serves : (b : List ℕ) (r : ServesAnswer) → ServesChecked (checkBytes true τ (take (8 * n) s)) τ (laterIn (take (8 * n) s)) b r
+        → Serving (λ τ. checkList τ (held n s)) a (held n s) b r
+    unfolding Serving
+    held-serves b r h =
+        serving-same (λ τ. checkBytes true τ (take (8 * n) s)) (λ τ. checkList τ (held n s)) a (laterIn (take (8 * n) s)) (held n s) b r (lent-check n s inside) (lent-held n s inside)
+        (subst (λ (z : TableRead). Serving (λ τ. checkBytes true τ (take (8 * n) s)) z (laterIn (take (8 * n) s)) b r) (sym t) h)
+
 -- and where it refused
 module _ (check : Table → Checked) (a : TableRead) (x : Refusal) (t : a ≡ Refused x) (l : List Transaction) where
   pub held-not-built : (b f : List ℕ) → Schedules check a l b b f f (NotBuilt x)
@@ -180,3 +207,7 @@ module _ (check : Table → Checked) (a : TableRead) (x : Refusal) (t : a ≡ Re
   pub held-not-run : (c : Controller) (count : ℕ) (b : List ℕ) → LeavesRun (running check a c l count b) (record { controller = c; answer = NotRun x }) b
   unfolding running
   held-not-run c count b = subst (λ (z : TableRead). LeavesRun (running check z c l count b) (record { controller = c; answer = NotRun x }) b) (sym t) (refl, refl)
+
+  pub held-not-told : (b : List ℕ) → Serving check a l b (NotTold x)
+  unfolding Serving
+  held-not-told b = subst (λ (z : TableRead). Serving check z l b (NotTold x)) (sym t) refl
