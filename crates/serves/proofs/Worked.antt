@@ -32,7 +32,7 @@ use Rattle.serves.proofs.Acts.{atIn, at-in}
 use Rattle.serves.proofs.Lowest.{says}
 
 -- of k numbers from x on, the first that passes p; x + k where none does
-abbrev firstFrom : (ℕ → Bool) → ℕ → ℕ → ℕ
+abbrev pub firstFrom : (ℕ → Bool) → ℕ → ℕ → ℕ
 firstFrom p zero x = x
 firstFrom p (suc k) x = pick (p x) x (firstFrom p k (suc x))
 
@@ -45,13 +45,14 @@ first-from p (suc k) x m e f = on (p x) refl (first-from p k (suc x) m (omega (a
     on false q ih = ih (λ j h. ⊎-elim (f j) (λ z. let i : j ≡ x = omega (arith, z .1, h) in ap p i ∙ q) (from? j x))
 
 module _ (τ : Table) (l : List Transaction) (rs : List Command) where
-  abbrev lowest : ℕ
+  abbrev pub lowest : ℕ
   lowest = firstFrom (wrong (τ .banks) (length l) (atIn l) (onto rs [])) (leastBy (length l) (faulty (τ .banks) (length l) (atIn l)) (onto rs [])) 0
 
-  abbrev finds : Served
+  -- what the pass and the scan find is what is answered
+  abbrev pub finds : Served
   finds = answerOf (length l) lowest (anyOutside (length l) (onto rs []))
 
-  found : Accepted τ → listFits τ l ≡ true → Legal τ rs → leb (length rs) 69632 ≡ true → Says τ l rs finds
+  pub found : Accepted τ → listFits τ l ≡ true → Legal τ rs → leb (length rs) 69632 ≡ true → Says τ l rs finds
   found acc fit legal few =
       says τ (ranges τ acc .banks .most) l (each-fits τ acc l fit) (atIn l) (at-in l) rs legal (leb-true (length rs) 69632 few) lowest
       (first-from (wrong (τ .banks) (length l) (atIn l) (onto rs [])) (leastBy (length l) (faulty (τ .banks) (length l) (atIn l)) (onto rs [])) 0
