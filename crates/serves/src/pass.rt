@@ -12,7 +12,7 @@ ghost use Prim.Native.Nat.{_≤_};
 ghost use Rattle.records.specs.Command.{commandsIn};
 ghost use Rattle.rules.specs.Verdict.{Legal};
 ghost use Rattle.heads.specs.Queue.{Listed};
-ghost use Rattle.judge.specs.Seen.{recordCount};
+ghost use Rattle.copies.specs.Seen.{recordCount};
 ghost use Rattle.serves.specs.Check.{listedAt, seen, Finds};
 
 // The lowest transaction at fault, the list's length where none is; whether a record's number is outside the list.

@@ -13,7 +13,7 @@ ghost use Rattle.records.specs.Transaction.{laterFrom};
 ghost use Rattle.records.specs.Command.{commandsIn};
 ghost use Rattle.rules.specs.Verdict.{Legal};
 ghost use Rattle.heads.specs.Queue.{Listed};
-ghost use Rattle.judge.specs.Seen.{recordCount};
+ghost use Rattle.copies.specs.Seen.{recordCount};
 ghost use Rattle.serves.specs.Serves.{Says};
 ghost use Rattle.serves.specs.Answer.{ServesAnswers};
 ghost use Rattle.serves.specs.Check.{answerOf};
