@@ -6,8 +6,10 @@ use host::answer::RunAnswer;
 use host::running::skv_run;
 use host::running::skv_step;
 use host::schedules::skv_schedule;
+use host::serving::skv_serves;
 use host::transactions::skv_read_later_transactions;
 use host::transactions::skv_read_transactions;
+use host::verdict::ServesAnswer;
 use records::transaction::Transaction;
 
 pub(crate) fn host_read(expected: u16, table: &[u8], bytes: &[u8], list: [Transaction; 3]) {
@@ -30,6 +32,15 @@ pub(crate) fn host_schedule(
     finishes: &mut [u32],
 ) -> Answer {
     skv_schedule(expected, table, &list[..], commands, finishes)
+}
+
+pub(crate) fn host_serves(
+    expected: u16,
+    table: &[u8],
+    list: [Transaction; 3],
+    commands: &[u8],
+) -> ServesAnswer {
+    skv_serves(expected, table, &list[..], commands)
 }
 
 pub(crate) fn host_run(

@@ -102,7 +102,7 @@ pub(crate) fn verdict(a: VerdictAnswer) {
     text(b"\n");
 }
 
-fn refused(r: Refusal) {
+pub(crate) fn refused(r: Refusal) {
     text(b" refused");
     number(r.number as u32);
     number(r.position);

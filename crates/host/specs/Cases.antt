@@ -21,6 +21,8 @@ use Rattle.judge.specs.declared.answer.PatternJudged.the-variants.{Verdict as P
 use Rattle.capture.specs.declared.one_record.CaptureRecordRead.the-variants.{Read as RecordIs, Refused as NoRecord}
 use Rattle.capture.specs.declared.answer.CaptureJudged.the-variants.{Verdict as CaptureSays, Refused as NotCaptured}
 use Rattle.capture.specs.Record.{captureRecord}
+use Rattle.serves.specs.declared.answer.Served.the-variants.{Serves, Refused as Against, AtFault}
+use Rattle.serves.specs.declared.answer.ServesAnswer.the-variants.{Told, Refused as NotTold}
 use Rattle.builder.specs.declared.bound.BoundAnswer.the-variants.{Bound, Refused as NoBound}
 use Rattle.builder.specs.declared.build.BuildAnswer.the-variants.{Built, Refused as NotBuilt}
 use Rattle.lists.specs.declared.decode.Decoded.the-variants.{Done as Stored, Refused as NotStored}
@@ -31,8 +33,9 @@ use Rattle.host.specs.declared.answer.Answer.{Answer}
 use Rattle.host.specs.declared.reader.TransactionAnswer.{TransactionAnswer}
 use Rattle.host.specs.declared.verdict.VerdictAnswer.{VerdictAnswer}
 use Rattle.host.specs.declared.verdict.CaptureAnswer.{CaptureAnswer}
+use Rattle.host.specs.declared.verdict.ServesAnswer.{ServesAnswer}
 use Rattle.host.specs.Answers.{ofWritten, ofTable, ofTransaction, ofCommand, ofCaptureRecord, ofRead, ofBuild, ofBound, ofStart, ofRun, runOf}
-use Rattle.host.specs.Verdicts.{verdictOf, patternOf, captureOf}
+use Rattle.host.specs.Verdicts.{verdictOf, patternOf, captureOf, servesOf}
 
 -- number, position, edition, count, cycles
 abbrev pub plain : ℕ → ℕ → ℕ → ℕ → ℕ → Answer
@@ -45,6 +48,10 @@ verdict n p e rule copy i = record { refused = n; position = p; edition = e; rul
 -- number, position, edition, count, rule, record
 abbrev pub traced : ℕ → ℕ → ℕ → ℕ → ℕ → ℕ → CaptureAnswer
 traced n p e c rule i = record { refused = n; position = p; edition = e; count = c; rule = rule; «record» = i }
+
+-- number, position, edition, whether it serves, rule, record, transaction
+abbrev pub served : ℕ → ℕ → ℕ → ℕ → ℕ → ℕ → ℕ → ServesAnswer
+served n p e serves rule i x = record { refused = n; position = p; edition = e; serves = serves; rule = rule; «record» = i; transaction = x }
 
 -- number, position, edition, type, start, BI, BC, arrival
 abbrev pub transactionTold : ℕ → ℕ → ℕ → ℕ → ℕ → ℕ → ℕ → ℕ → TransactionAnswer
@@ -105,4 +112,10 @@ cases =
     ∷ (captureOf (CaptureSays 7 4 Accepted) ≡ traced 0 0 7 4 0 0)
     ∷ (captureOf (CaptureSays 7 4 (Refused Rc 3)) ≡ traced 0 0 7 4 5 3)
     ∷ (captureOf (NotCaptured no3) ≡ traced 3 5 7 0 0 0)
+    -- a schedule that serves the list, one that the judge refuses, and one that leaves transaction 3 at fault; transaction 0, and an empty list's length
+    ∷ (servesOf (Told 7 Serves) ≡ served 0 0 7 1 0 0 0)
+    ∷ (servesOf (Told 7 (Against Rfc 4)) ≡ served 0 0 7 0 12 4 0)
+    ∷ (servesOf (Told 7 (AtFault 3)) ≡ served 0 0 7 0 0 0 3)
+    ∷ (servesOf (Told 7 (AtFault 0)) ≡ served 0 0 7 0 0 0 0)
+    ∷ (servesOf (NotTold no3) ≡ served 3 5 7 0 0 0 0)
     ∷ []

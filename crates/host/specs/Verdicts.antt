@@ -1,5 +1,5 @@
--- "A verdict is acceptance, or a refusal that carries the rule inside it with the record number, from 0": the judges' answers as structs of the
--- desk's `Numbers`, with 0 for a value that the answer's case does not have.
+-- "A verdict is acceptance, or a refusal that carries the rule inside it with the record number, from 0": the judges' answers, and those on a schedule
+-- and a list, as structs of the desk's `Numbers`, with 0 for a value that the answer's case does not have.
 use Prim.Native.Nat.{ℕ}
 use Rattle.records.specs.declared.refusal.Refusal.{Refusal}
 use Rattle.rules.specs.declared.verdict.Verdict.{Verdict}
@@ -10,9 +10,14 @@ use Rattle.judge.specs.declared.answer.PatternJudged.{PatternJudged}
 use Rattle.judge.specs.declared.answer.PatternJudged.the-variants.{Verdict as PatternSays}
 use Rattle.capture.specs.declared.answer.CaptureJudged.{CaptureJudged}
 use Rattle.capture.specs.declared.answer.CaptureJudged.the-variants.{Verdict as CaptureSays}
-use Rattle.desk.specs.Numbers.{Numbers, refusing, judgedNumbers, patternNumbers, captureNumbers}
+use Rattle.serves.specs.declared.answer.Served.{Served}
+use Rattle.serves.specs.declared.answer.Served.the-variants.{Serves, Refused as Against, AtFault}
+use Rattle.serves.specs.declared.answer.ServesAnswer.{ServesAnswer as ServesTold}
+use Rattle.serves.specs.declared.answer.ServesAnswer.the-variants.{Told, Refused as NotTold}
+use Rattle.desk.specs.Numbers.{Numbers, refusing, judgedNumbers, patternNumbers, captureNumbers, servesNumbers}
 use Rattle.host.specs.declared.verdict.VerdictAnswer.{VerdictAnswer}
 use Rattle.host.specs.declared.verdict.CaptureAnswer.{CaptureAnswer}
+use Rattle.host.specs.declared.verdict.ServesAnswer.{ServesAnswer}
 use Rattle.host.specs.Answers.{value}
 
 -- the table's edition, the rule broken (0 where none is), the copy and the record in it
@@ -53,3 +58,17 @@ captureSaid e n v = captureOf (CaptureSays e n v)
 -- how many commands were written
 abbrev pub commandsWritten : CaptureJudged → ℕ
 commandsWritten r = value (captureNumbers r) 0
+
+-- on a schedule and a list: 1 where it serves, and else 0; the rule and the record of the judge's verdict; the transaction
+abbrev pub servesAnswer : Numbers → ℕ → ℕ → ℕ → ℕ → ServesAnswer
+servesAnswer a serves rule i x =
+    record { refused = a .refused; position = a .position; edition = a .edition; serves = serves; rule = rule; «record» = i; transaction = x }
+
+abbrev pub servedSaid : ℕ → Served → ServesAnswer
+servedSaid e Serves = servesAnswer (servesNumbers (Told e Serves)) 1 0 0 0
+servedSaid e (Against x i) = let a = servesNumbers (Told e (Against x i)) in servesAnswer a 0 (value a 0) (value a 1) 0
+servedSaid e (AtFault x) = let a = servesNumbers (Told e (AtFault x)) in servesAnswer a 0 0 0 (value a 0)
+
+abbrev pub servesOf : ServesTold → ServesAnswer
+servesOf (Told e a) = servedSaid e a
+servesOf (NotTold x) = servesAnswer (refusing x) 0 0 0 0

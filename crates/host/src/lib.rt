@@ -6,6 +6,7 @@ pub mod one_record;
 pub mod reader;
 pub mod running;
 pub mod schedules;
+pub mod serving;
 pub mod tracing;
 pub mod transactions;
 pub mod verdict;

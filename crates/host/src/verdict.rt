@@ -1,4 +1,4 @@
-// The judges' verdicts as structs of plain numbers.
+// The judges' verdicts, and whether a schedule serves a list, as structs of plain numbers.
 use crate::answer::from_16;
 use crate::answer::refused;
 use capture::answer::CaptureJudged;
@@ -8,9 +8,12 @@ use judge::answer::PatternJudged;
 use records::refusal::Refusal;
 use rules::verdict::PatternVerdict;
 use rules::verdict::Verdict;
+use serves::answer::Served;
 ghost use mathlib.Core.Path.{_≡_};
+ghost use mathlib.Core.List.{[]};
 ghost use Prim.Native.Nat.{_<_};
-ghost use Rattle.host.specs.Verdicts.{saying, notSaying, verdictSaid, verdictOf, patternSaid, patternOf, captureSaid, captureOf, commandsWritten};
+ghost use Rattle.host.specs.Verdicts.{saying, notSaying, verdictSaid, verdictOf, patternSaid, patternOf, captureSaid, captureOf, commandsWritten, servesAnswer, servedSaid, servesOf};
+ghost use Rattle.desk.specs.Numbers.{telling};
 
 // `rule` is 0 where the records are accepted; `copy` counts from 1, and is 0 for a schedule; `record` counts from 0.
 #[repr(C)]
@@ -32,6 +35,19 @@ pub struct CaptureAnswer {
     pub count: u32,
     pub rule: u32,
     pub record: u32,
+}
+
+// `serves` is 1 where the schedule serves the list, and else 0. Where it does not, `rule` is that of the judge's verdict, and `record` counts from 0;
+// or `rule` is 0, and `transaction` is the lowest at fault, or the list's length.
+#[repr(C)]
+pub struct ServesAnswer {
+    pub refused: u32,
+    pub position: u32,
+    pub edition: u32,
+    pub serves: u32,
+    pub rule: u32,
+    pub record: u32,
+    pub transaction: u32,
 }
 
 pub fn said(edition: u16, rule: u32, copy: u32, place: u32) -> VerdictAnswer
@@ -127,6 +143,56 @@ pub(crate) fn capture_of(j: CaptureJudged) -> CaptureAnswer
                 count: 0,
                 rule: 0,
                 record: 0,
+            }
+        }
+    }
+}
+
+pub fn serves_told(
+    edition: u16,
+    serves: u32,
+    rule: u32,
+    place: u32,
+    transaction: u32,
+) -> ServesAnswer
+    ensures { λ r. ⌜ r ≡ servesAnswer (telling edition []) serves rule place transaction ⌝ }
+{
+    ServesAnswer {
+        refused: 0,
+        position: 0,
+        edition: from_16(edition),
+        serves: serves,
+        rule: rule,
+        record: place,
+        transaction: transaction,
+    }
+}
+
+pub fn served_said(edition: u16, a: Served) -> ServesAnswer
+    ensures { λ r. ⌜ r ≡ servedSaid edition a ⌝ }
+{
+    match a {
+        Served::Serves => serves_told(edition, 1, 0, 0, 0),
+        Served::Refused(x, i) => serves_told(edition, 0, rule_number(x), i, 0),
+        Served::AtFault(x) => serves_told(edition, 0, 0, 0, x),
+    }
+}
+
+pub fn serves_of(s: serves::answer::ServesAnswer) -> ServesAnswer
+    ensures { λ r. ⌜ r ≡ servesOf s ⌝ }
+{
+    match s {
+        serves::answer::ServesAnswer::Told(e, a) => served_said(e, a),
+        serves::answer::ServesAnswer::Refused(x) => {
+            let r = refused(x);
+            ServesAnswer {
+                refused: r.refused,
+                position: r.position,
+                edition: r.edition,
+                serves: 0,
+                rule: 0,
+                record: 0,
+                transaction: 0,
             }
         }
     }
