@@ -1,9 +1,9 @@
 //! The house tables, tables in which one number outgrows the others, and what else the cases are made from.
 
 use crate::desk::{schedule_bytes, schedule_later_bytes, Transaction};
+pub use crate::records::{whole, B, GROUPS, LONGS, RFC};
 use crate::records::{GroupTable, Table, BANKS, EDITION, REFRESH};
 use crate::rules::{ACT, RDA, WRA};
-pub use crate::records::{whole, B, GROUPS, LONGS, RFC};
 
 pub const RC: usize = 7;
 pub const FAW: usize = 9;
@@ -125,6 +125,13 @@ pub fn command(cycle: u32, kind: u8, bank: u8, transaction: u16) -> [u8; 8] {
     let [c0, c1, c2, c3] = cycle.to_le_bytes();
     let [t0, t1] = transaction.to_le_bytes();
     [c0, c1, c2, c3, kind, bank, t0, t1]
+}
+
+/// Commands, each with its kind, bank and transaction number, in this order: so far apart that no distance of table A, with a refresh or
+/// without, is too short.
+pub fn loose(order: &[(u8, u8, u16)]) -> Vec<u8> {
+    let at = |(&(kind, bank, number), i): (_, u32)| command(60 * i, kind, bank, number);
+    order.iter().zip(0..).flat_map(at).collect()
 }
 
 /// The first so many bytes and the others, unless there are fewer.
