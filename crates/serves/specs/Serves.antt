@@ -25,7 +25,7 @@ use Rattle.serves.specs.declared.answer.Served.the-variants.{Serves, Ref
 
 -- ---- what is due, and what there is
 
--- a number for each kind, no two alike
+-- a number for each kind, no two alike: `kindNumber` may give a kind above 5 that of another
 abbrev pub kindCode : Kind → ℕ
 kindCode Act = 0
 kindCode Rd = 1
