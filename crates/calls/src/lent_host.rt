@@ -1,15 +1,15 @@
 // The same of the host's forms.
 use crate::told::answered;
+use answers::answer::Answer;
+use answers::answer::RunAnswer;
+use answers::verdict::ServesAnswer;
 use controller::controller::Controller;
-use host::answer::Answer;
-use host::answer::RunAnswer;
 use host::running::skv_run;
 use host::running::skv_step;
 use host::schedules::skv_schedule;
 use host::serving::skv_serves;
 use host::transactions::skv_read_later_transactions;
 use host::transactions::skv_read_transactions;
-use host::verdict::ServesAnswer;
 use records::transaction::Transaction;
 
 pub(crate) fn host_read(expected: u16, table: &[u8], bytes: &[u8], list: [Transaction; 3]) {

@@ -7,10 +7,10 @@ use crate::told::number;
 use crate::told::refused;
 use crate::told::small;
 use crate::told::text;
+use answers::verdict::ServesAnswer;
 use desk::numbers::rule_number;
 use host::serving::skv_serves_bytes;
 use host::serving::skv_serves_later_bytes;
-use host::verdict::ServesAnswer;
 use records::transaction::Transaction;
 use serves::answer::Served;
 

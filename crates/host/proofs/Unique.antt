@@ -17,9 +17,9 @@ use Rattle.desk.specs.Bounds.{bounding}
 use Rattle.desk.specs.Transactions.{reading}
 use Rattle.desk.specs.Running.{starting, running}
 use Rattle.desk.proofs.Unique.{only as desk-only}
-use Rattle.host.specs.declared.answer.Answer.{Answer}
-use Rattle.host.specs.Answers.{ofWritten, ofTable, ofTransaction, ofCommand, ofCaptureRecord, ofRead, ofBuild, ofBound, startOf, ofRun, runOf}
-use Rattle.host.specs.Verdicts.{verdictOf, patternOf, captureOf, servesOf}
+use Rattle.answers.specs.declared.answer.Answer.{Answer}
+use Rattle.answers.specs.Answers.{ofWritten, ofTable, ofTransaction, ofCommand, ofCaptureRecord, ofRead, ofBuild, ofBound, startOf, ofRun, runOf}
+use Rattle.answers.specs.Verdicts.{verdictOf, patternOf, captureOf, servesOf}
 use Rattle.host.specs.Promises.{Writes}
 use Rattle.host.specs.Only.{OnlyRecord, Only}
 

@@ -17,18 +17,18 @@ use Rattle.desk.specs.Tracing.{capturing}
 use Rattle.desk.specs.Bounds.{bounding}
 use Rattle.desk.specs.Transactions.{reading}
 use Rattle.desk.specs.Running.{starting, running}
-use Rattle.host.specs.declared.answer.Answer.{Answer}
-use Rattle.host.specs.declared.reader.TableAnswer.{TableAnswer}
-use Rattle.host.specs.declared.reader.TransactionAnswer.{TransactionAnswer}
-use Rattle.host.specs.declared.reader.CommandAnswer.{CommandAnswer}
-use Rattle.host.specs.declared.reader.CaptureRecordAnswer.{CaptureRecordAnswer}
-use Rattle.host.specs.declared.answer.StartAnswer.{StartAnswer}
-use Rattle.host.specs.declared.answer.RunAnswer.{RunAnswer}
-use Rattle.host.specs.declared.verdict.VerdictAnswer.{VerdictAnswer}
-use Rattle.host.specs.declared.verdict.CaptureAnswer.{CaptureAnswer}
-use Rattle.host.specs.declared.verdict.ServesAnswer.{ServesAnswer}
-use Rattle.host.specs.Answers.{ofTable, ofTransaction, ofCommand, ofCaptureRecord, ofBound, startOf}
-use Rattle.host.specs.Verdicts.{verdictOf}
+use Rattle.answers.specs.declared.answer.Answer.{Answer}
+use Rattle.answers.specs.declared.reader.TableAnswer.{TableAnswer}
+use Rattle.answers.specs.declared.reader.TransactionAnswer.{TransactionAnswer}
+use Rattle.answers.specs.declared.reader.CommandAnswer.{CommandAnswer}
+use Rattle.answers.specs.declared.reader.CaptureRecordAnswer.{CaptureRecordAnswer}
+use Rattle.answers.specs.declared.answer.StartAnswer.{StartAnswer}
+use Rattle.answers.specs.declared.answer.RunAnswer.{RunAnswer}
+use Rattle.answers.specs.declared.verdict.VerdictAnswer.{VerdictAnswer}
+use Rattle.answers.specs.declared.verdict.CaptureAnswer.{CaptureAnswer}
+use Rattle.answers.specs.declared.verdict.ServesAnswer.{ServesAnswer}
+use Rattle.answers.specs.Answers.{ofTable, ofTransaction, ofCommand, ofCaptureRecord, ofBound, startOf}
+use Rattle.answers.specs.Verdicts.{verdictOf}
 use Rattle.host.specs.Promises.{Writes, PatternSaid, Traces, ReadsInto, Scheduled, ServesSaid, RunsIn, RunsBack}
 
 -- x and y are two results that keep the promise; b and d, f and g, c and e are a buffer or a controller as either leaves it. First the calls

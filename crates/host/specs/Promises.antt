@@ -17,13 +17,13 @@ use Rattle.controller.specs.Run.{RunLeft}
 use Rattle.desk.specs.Judging.{PatternTold}
 use Rattle.desk.specs.Schedules.{Schedules}
 use Rattle.desk.specs.Serving.{Serving}
-use Rattle.host.specs.declared.answer.Answer.{Answer}
-use Rattle.host.specs.declared.answer.RunAnswer.{RunAnswer}
-use Rattle.host.specs.declared.verdict.VerdictAnswer.{VerdictAnswer}
-use Rattle.host.specs.declared.verdict.CaptureAnswer.{CaptureAnswer}
-use Rattle.host.specs.declared.verdict.ServesAnswer.{ServesAnswer}
-use Rattle.host.specs.Answers.{ofWritten, ofRead, ofBuild, ofRun, runOf}
-use Rattle.host.specs.Verdicts.{patternOf, captureOf, servesOf}
+use Rattle.answers.specs.declared.answer.Answer.{Answer}
+use Rattle.answers.specs.declared.answer.RunAnswer.{RunAnswer}
+use Rattle.answers.specs.declared.verdict.VerdictAnswer.{VerdictAnswer}
+use Rattle.answers.specs.declared.verdict.CaptureAnswer.{CaptureAnswer}
+use Rattle.answers.specs.declared.verdict.ServesAnswer.{ServesAnswer}
+use Rattle.answers.specs.Answers.{ofWritten, ofRead, ofBuild, ofRun, runOf}
+use Rattle.answers.specs.Verdicts.{patternOf, captureOf, servesOf}
 
 -- one record written: r is the answer, b what the buffer holds as the call returns
 abbrev pub Writes : Wrote → Answer → List ℕ → Type 0

@@ -1,6 +1,6 @@
 // Does a schedule serve a list?
-use crate::verdict::ServesAnswer;
-use crate::verdict::serves_of;
+use answers::verdict::ServesAnswer;
+use answers::verdict::serves_of;
 use desk::serving::serves;
 use desk::serving::serves_bytes;
 use desk::serving::serves_later_bytes;
