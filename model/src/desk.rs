@@ -36,6 +36,7 @@ pub use crate::rules::{PatternVerdict, Verdict};
 pub use crate::scheduler::{Bank, Group, State as Controller, NEVER};
 
 use crate::records::{EDITION, LATER, PLAIN};
+use crate::shortest::Asked;
 use crate::{capture, rules, scheduler};
 
 /// Numbers 1, 2 and 10, for every call that takes a table: "If they differ it's refused as number 10, position the table's edition,
@@ -201,6 +202,35 @@ pub fn judge_capture(
 pub fn bound(expected: u16, table: &[u8], bi: u8, bc: u8) -> Result<(u16, u64), Refusal> {
     let table = admit(expected, table)?;
     Ok((table[EDITION], scheduler::bound(&table, bi, bc)?))
+}
+
+/// What `shortest_pattern` answers: the least length, and how many records were written.
+#[derive(Debug, Clone, Copy, PartialEq, Eq)]
+pub struct Shortest {
+    pub edition: u16,
+    pub length: u32,
+    pub commands: u32,
+}
+
+/// Numbers 1, 2, 10, 4, 5 and 13: "give the least L for which some pattern .. is accepted by the pattern judge", up to the greatest length.
+pub fn shortest_pattern(
+    expected: u16,
+    table: &[u8],
+    kind: u8,
+    bi: u8,
+    bc: u8,
+    most: u32,
+    room: &mut [u8],
+) -> Result<Shortest, Refusal> {
+    let table = admit(expected, table)?;
+    let asked = Asked { kind, bi, bc, most };
+    let (length, commands) = crate::shortest::shortest(&table, &asked, room.len())?;
+    write_commands(&commands, room);
+    Ok(Shortest {
+        edition: table[EDITION],
+        length,
+        commands: commands.len() as u32,
+    })
 }
 
 /// Numbers 1, 2 and 10. Answers the edition, and hands over a fresh controller: of edition 0 when it refuses.

@@ -2,8 +2,8 @@
 //! against.
 //!
 //! The public calls are in `desk`, the house tables in `house`, captures are written by `sent`, and `pins` tells who holds the data pins.
-//! What the calls rest on is in `records`, `rules`, `scheduler` and `capture`; the other modules make the stored cases of the programs, the
-//! example files, and what must be printed for each.
+//! What the calls rest on is in `records`, `rules`, `scheduler`, `capture` and `shortest`; the other modules make the stored cases of the
+//! programs, the example files, and what must be printed for each.
 
 mod calls;
 mod capture;
@@ -16,12 +16,15 @@ pub mod house;
 mod inputs;
 pub mod listing;
 mod listings;
+pub mod pattern;
+mod patterns;
 pub mod pins;
 mod records;
 mod rules;
 mod runs;
 mod scheduler;
 pub mod sent;
+mod shortest;
 pub mod trace;
 mod traces;
 pub mod vectors;

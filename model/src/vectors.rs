@@ -1,11 +1,11 @@
-//! What the programs `hostile`, `verdicts`, `runs`, `listings` and `traces` are run on, and what they and `calls`, which is run on nothing, must
-//! write.
+//! What the programs `hostile`, `verdicts`, `runs`, `listings`, `traces` and `patterns` are run on, and what they and `calls`, which is run on
+//! nothing, must write.
 
 use std::fs;
 use std::io;
 use std::path::Path;
 
-use crate::{calls, hostile, listings, runs, traces, verdicts};
+use crate::{calls, hostile, listings, patterns, runs, traces, verdicts};
 
 /// A program's name, its input and its output.
 type Stored = (&'static str, Vec<u8>, String);
@@ -13,12 +13,13 @@ type Stored = (&'static str, Vec<u8>, String);
 pub fn all() -> Vec<Stored> {
     type Cases = fn() -> Vec<u8>;
     type Lines = fn(&[u8]) -> String;
-    let programs: [(&str, Cases, Lines); 6] = [
+    let programs: [(&str, Cases, Lines); 7] = [
         ("hostile", hostile::cases, hostile::lines),
         ("verdicts", verdicts::cases, verdicts::lines),
         ("runs", runs::cases, runs::lines),
         ("listings", listings::cases, listings::lines),
         ("traces", traces::cases, traces::lines),
+        ("patterns", patterns::cases, patterns::lines),
         ("calls", Vec::new, |_| calls::lines()),
     ];
     programs

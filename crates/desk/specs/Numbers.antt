@@ -26,6 +26,8 @@ use Rattle.capture.specs.declared.one_record.CaptureRecordRead.{CaptureRecordRe
 use Rattle.capture.specs.declared.one_record.CaptureRecordRead.the-variants.{Read as RecordIs, Refused as NoRecord}
 use Rattle.capture.specs.declared.answer.CaptureJudged.{CaptureJudged}
 use Rattle.capture.specs.declared.answer.CaptureJudged.the-variants.{Verdict as CaptureSays, Refused as NotCaptured}
+use Rattle.shortest.specs.declared.answer.ShortestAnswer.{ShortestAnswer}
+use Rattle.shortest.specs.declared.answer.ShortestAnswer.the-variants.{Pattern, Refused as NoPattern}
 use Rattle.builder.specs.declared.bound.BoundAnswer.{BoundAnswer}
 use Rattle.builder.specs.declared.bound.BoundAnswer.the-variants.{Bound, Refused as NoBound}
 use Rattle.builder.specs.declared.build.BuildAnswer.{BuildAnswer}
@@ -118,6 +120,11 @@ patternNumbers (PatternNotJudged x) = refusing x
 abbrev pub captureNumbers : CaptureJudged → Numbers
 captureNumbers (CaptureSays e n v) = telling e (n ∷ verdictValues v)
 captureNumbers (NotCaptured x) = refusing x
+
+-- the least length, and how many records were written
+abbrev pub shortestNumbers : ShortestAnswer → Numbers
+shortestNumbers (Pattern e L n) = telling e (L ∷ n ∷ [])
+shortestNumbers (NoPattern x) = refusing x
 
 -- ---- lists, schedules, the bound
 
