@@ -1,7 +1,7 @@
 //! The example files: an expected edition, a table and transactions as the listing reads them, a capture as the trace does, transactions that arrive
 //! later, or what is asked for as `pattern` does; with a text beside each that says what it holds.
 
-mod arrivals;
+pub mod arrivals;
 mod captures;
 mod patterns;
 mod text;

@@ -31,6 +31,7 @@ pub fn cases() -> Vec<u8> {
 fn inputs() -> Vec<Vec<u8>> {
     let mut inputs: Vec<Vec<u8>> = Vec::new();
     inputs.extend(examples::all().iter().map(|example| example.bytes()));
+    inputs.push(examples::arrivals::bytes());
     inputs.extend(short());
     inputs.extend(refused());
     inputs.extend(accepted());

@@ -3,6 +3,7 @@ use crate::told::decoded;
 use builder::build::BuildAnswer;
 use controller::controller::Controller;
 use controller::run::RunTold;
+use desk::read_later_transactions;
 use desk::read_transactions;
 use desk::run;
 use desk::schedule;
@@ -12,6 +13,12 @@ use records::transaction::Transaction;
 pub(crate) fn lent_read(expected: u16, table: &[u8], bytes: &[u8], list: [Transaction; 3]) {
     let mut places = list;
     let answer = read_transactions(expected, table, bytes, &mut places[..]);
+    decoded(answer, places);
+}
+
+pub(crate) fn lent_read_later(expected: u16, table: &[u8], bytes: &[u8], list: [Transaction; 3]) {
+    let mut places = list;
+    let answer = read_later_transactions(expected, table, bytes, &mut places[..]);
     decoded(answer, places);
 }
 

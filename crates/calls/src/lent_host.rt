@@ -6,12 +6,19 @@ use host::answer::RunAnswer;
 use host::running::skv_run;
 use host::running::skv_step;
 use host::schedules::skv_schedule;
+use host::transactions::skv_read_later_transactions;
 use host::transactions::skv_read_transactions;
 use records::transaction::Transaction;
 
 pub(crate) fn host_read(expected: u16, table: &[u8], bytes: &[u8], list: [Transaction; 3]) {
     let mut places = list;
     let answer = skv_read_transactions(expected, table, bytes, &mut places[..]);
+    answered(answer, places);
+}
+
+pub(crate) fn host_read_later(expected: u16, table: &[u8], bytes: &[u8], list: [Transaction; 3]) {
+    let mut places = list;
+    let answer = skv_read_later_transactions(expected, table, bytes, &mut places[..]);
     answered(answer, places);
 }
 

@@ -7,10 +7,12 @@ use crate::told::text;
 use host::one_record::GroupNumbers;
 use host::one_record::Numbers;
 use host::one_record::skv_read_command;
+use host::one_record::skv_read_later;
 use host::one_record::skv_read_table;
 use host::one_record::skv_read_transaction;
 use host::one_record::skv_write_command;
 use host::one_record::skv_write_group_table;
+use host::one_record::skv_write_later;
 use host::one_record::skv_write_table;
 use host::one_record::skv_write_transaction;
 use host::reader::CommandAnswer;
@@ -32,7 +34,10 @@ pub(crate) fn group_table_written(n: [u16; 20], table: &mut [u8]) {
 
 pub(crate) fn records_read(table: &[u8], bytes: &[u8]) {
     table_read(skv_read_table(table));
+    text(b"skv_read_transaction");
     transaction_read(skv_read_transaction(bytes));
+    text(b"skv_read_later");
+    transaction_read(skv_read_later(bytes));
     command_read(skv_read_command(bytes));
 }
 
@@ -55,7 +60,6 @@ fn twenty(n: [u16; 20]) {
 }
 
 fn transaction_read(a: TransactionAnswer) {
-    text(b"skv_read_transaction");
     number(a.refused);
     number(a.position);
     number(a.edition);
@@ -63,6 +67,7 @@ fn transaction_read(a: TransactionAnswer) {
     number(a.start as u32);
     number(a.bi as u32);
     number(a.bc as u32);
+    number(a.arrival);
     text(b"\n");
 }
 
@@ -83,6 +88,14 @@ pub(crate) fn transaction_written(x: Transaction) {
     let mut bytes = [255u8; 4];
     let room = &mut bytes[..];
     numbers(skv_write_transaction(x.kind, x.start, x.bi, x.bc, room));
+    hex(room);
+}
+
+pub(crate) fn later_written(x: Transaction) {
+    text(b"skv_write_later");
+    let mut bytes = [255u8; 8];
+    let room = &mut bytes[..];
+    numbers(skv_write_later(x.kind, x.start, x.bi, x.bc, x.arrival, room));
     hex(room);
 }
 

@@ -15,7 +15,6 @@ use records::refusal::Refusal;
 use records::transaction::Transaction;
 
 pub(crate) fn decoded(answer: Decoded, list: [Transaction; 3]) {
-    text(b"read_transactions");
     match answer {
         Decoded::Done(edition, n) => {
             small(edition);
@@ -27,7 +26,6 @@ pub(crate) fn decoded(answer: Decoded, list: [Transaction; 3]) {
 }
 
 pub(crate) fn answered(answer: Answer, list: [Transaction; 3]) {
-    text(b"skv_read_transactions");
     numbers(answer);
     transactions(list);
 }
@@ -48,6 +46,7 @@ fn transaction(x: Transaction) {
     number(x.start as u32);
     number(x.bi as u32);
     number(x.bc as u32);
+    number(x.arrival);
 }
 
 pub(crate) fn built(answer: BuildAnswer) {
@@ -127,6 +126,7 @@ pub(crate) fn controller(c: Controller) {
     all_groups(groups);
     text(b" ,");
     number(c.refresh);
+    number(c.lent);
 }
 
 fn all_banks(banks: [HostBank; 16]) {

@@ -22,8 +22,10 @@ use host::bounding::skv_bound;
 use host::judging::skv_judge;
 use host::judging::skv_judge_pattern;
 use host::running::skv_run_bytes;
+use host::running::skv_run_later_bytes;
 use host::running::skv_start;
 use host::schedules::skv_schedule_bytes;
+use host::schedules::skv_schedule_later_bytes;
 use records::transaction::Transaction;
 
 // The schedule of the list is judged, with all that lies beyond it in the room.
@@ -60,6 +62,17 @@ pub(crate) fn byte_schedules(expected: u16, table: &[u8], bytes: &[u8]) {
     let commands = &mut room[..];
     let finishes = &mut places[..];
     numbers(skv_schedule_bytes(expected, table, bytes, commands, finishes));
+    longs(finishes);
+    hex(commands);
+}
+
+pub(crate) fn later_schedules(expected: u16, table: &[u8], bytes: &[u8]) {
+    text(b"skv_schedule_later_bytes");
+    let mut room = [0u8; 96];
+    let mut places = [9u32; 4];
+    let commands = &mut room[..];
+    let finishes = &mut places[..];
+    numbers(skv_schedule_later_bytes(expected, table, bytes, commands, finishes));
     longs(finishes);
     hex(commands);
 }
@@ -102,6 +115,7 @@ pub(crate) fn runs(
     host_runs_of(c, expected, table, list, count);
     host_steps_of(c, expected, table, list);
     byte_runs_of(c, expected, table, bytes, count);
+    later_runs_of(c, expected, table, bytes, count);
 }
 
 fn runs_of(c: Controller, expected: u16, table: &[u8], list: [Transaction; 3], count: u32) {
@@ -141,6 +155,14 @@ fn byte_runs_of(c: Controller, expected: u16, table: &[u8], list: &[u8], count: 
     let mut bytes = [0u8; 96];
     let room = &mut bytes[..];
     host_ran(skv_run_bytes(c, expected, table, list, count, room));
+    hex(room);
+}
+
+fn later_runs_of(c: Controller, expected: u16, table: &[u8], list: &[u8], count: u32) {
+    text(b"skv_run_later_bytes");
+    let mut bytes = [0u8; 96];
+    let room = &mut bytes[..];
+    host_ran(skv_run_later_bytes(c, expected, table, list, count, room));
     hex(room);
 }
 

@@ -13,10 +13,10 @@ use Rattle.records.specs.declared.transaction.Transaction.{Transaction}
 use Rattle.rules.specs.declared.state.State.{State}
 use Rattle.rules.specs.State.{fresh}
 use Rattle.rules.specs.Run.{served, Ran as RanTo, run}
-use Rattle.rules.specs.Pieces.{lentRun, Piece, whole, inPieces, InTime}
+use Rattle.rules.specs.Pieces.{lend, lentRun, Piece, whole, inPieces, InTime, PiecesKept}
 use Rattle.rules.proofs.Lent.{run-lent}
 use Rattle.rules.proofs.Built.{run-ends}
-use Rattle.rules.proofs.Pieces.{pieces-kept}
+use Rattle.rules.proofs.Pieces.{run-counted, pieces-kept}
 use Rattle.controller.specs.declared.controller.Controller.{Controller}
 use Rattle.controller.specs.declared.run.RunReport.{RunReport}
 use Rattle.controller.specs.declared.run.RunAnswer.the-variants.{Ran}
@@ -102,22 +102,41 @@ module _ (τ : Table) where
   pub as-whole : Accepted τ → (ps : List Lot) → listFits τ (allOf ps) ≡ true → AsWhole runs (freshController τ) ps
   as-whole acc ps fit =
       record {
-        toEnd = λ a qs p e k n big b x y.
+        alike = λ a n b x y z.
             let w = cut ps [] (fresh τ) fresh-held (freshController τ) refl a in
-            let q = pieces-kept τ acc (pieces ps) (subst (λ (l : List Transaction). listFits τ l ≡ true) (sym (whole-is ps)) fit) (w .inTime) in
-            let end = q .ends (pieces qs) (pieceOf p) (ap pieces e ∙ pieces-end qs p) k in
-            let all = q .toEnd n end (lent-ends n big) ∙ ap (λ (l : List Transaction). lentRun n τ l (fresh τ)) (whole-is ps) in
-            let o = one-ran (allOf ps) (fresh τ) fresh-held n b x y in (
+            let o = one-ran (allOf ps) (fresh τ) fresh-held n b x y in
+            let many : lentRun n τ (allOf ps) (fresh τ) .cycles ≡ inPieces τ (pieces ps) [] (fresh τ) .cycles = sym (o .2) ∙ (sym z ∙ w .cycles) in
+            let all : inPieces τ (pieces ps) [] (fresh τ) ≡ lentRun n τ (allOf ps) (fresh τ) =
+            (kept-by a .oneRun
+            ∙ (ap (λ (l : List Transaction). lentRun (inPieces τ (pieces ps) [] (fresh τ) .cycles) τ l (fresh τ)) (whole-is ps)
+            ∙ (ap (λ (k : ℕ). lentRun k τ (allOf ps) (fresh τ)) (sym many)
+            ∙ sym (run-counted n τ (allOf ps) (lend (length (allOf ps)) (fresh τ)) [])))) in (
               w .controller ∙ (ap (λ (r : RanTo). kept (r .state)) all ∙ sym (ap (λ (v : RunLeft). v .told .controller) (o .0))),
               w .bytes
                   ∙ (ap (λ (r : RanTo). written (r .history)) all
                   ∙ (sym (written-at (lentRun n τ (allOf ps) (fresh τ) .history) b)
                   ∙ (ap (λ (m : ℕ). take (8 * m) (over (written (lentRun n τ (allOf ps) (fresh τ) .history)) b)) (sym (o .1))
                   ∙ sym (ap (λ (v : RunLeft). take (8 * x .commands) (v .buffer)) (o .0))))),
-              w .cycles ∙ (ap (λ (r : RanTo). r .cycles) all ∙ sym (o .2)),
             );
+        asMany = λ a b x y.
+            let w = cut ps [] (fresh τ) fresh-held (freshController τ) refl a in
+            let o = one-ran (allOf ps) (fresh τ) fresh-held (allCycles ps) b x y in
+            w .cycles
+            ∙ (ap (λ (r : RanTo). r .cycles) (kept-by a .oneRun)
+            ∙ (ap (λ (l : List Transaction). lentRun (inPieces τ (pieces ps) [] (fresh τ) .cycles) τ l (fresh τ) .cycles) (whole-is ps)
+            ∙ (ap (λ (k : ℕ). lentRun k τ (allOf ps) (fresh τ) .cycles) (sym (w .cycles)) ∙ sym (o .2))));
+        toEnd = λ a qs p e k n big b x y.
+            let w = cut ps [] (fresh τ) fresh-held (freshController τ) refl a in
+            let end = kept-by a .ends (pieces qs) (pieceOf p) (ap pieces e ∙ pieces-end qs p) k in
+            let all = kept-by a .toEnd n end (lent-ends n big) ∙ ap (λ (l : List Transaction). lentRun n τ l (fresh τ)) (whole-is ps) in
+            let o = one-ran (allOf ps) (fresh τ) fresh-held n b x y in w .cycles ∙ (ap (λ (r : RanTo). r .cycles) all ∙ sym (o .2));
       }
     where
+      kept-by : AllRan runs ps [] (freshController τ) → PiecesKept τ (pieces ps)
+      kept-by a =
+          pieces-kept τ acc (pieces ps) (subst (λ (l : List Transaction). listFits τ l ≡ true) (sym (whole-is ps)) fit)
+          (cut ps [] (fresh τ) fresh-held (freshController τ) refl a .inTime)
+
       lent-ends : (n : ℕ) → 100000000 ≤ n → served τ (whole (pieces ps)) (lentRun n τ (whole (pieces ps)) (fresh τ) .state) ≡ true
       lent-ends n big =
           subst (λ (l : List Transaction). served τ l (lentRun n τ l (fresh τ) .state) ≡ true) (sym (whole-is ps))

@@ -46,11 +46,18 @@ module _ (run : Controller → List Transaction → ℕ → List ℕ → RunLeft
   allWritten [] l c = []
   allWritten (p ∷ ps) l c = take (8 * p .report .commands) (lotRun p l c .buffer) ++ allWritten ps (l ++ p .more) (lotRun p l c .told .controller)
 
+  -- what the pieces leave is what one run leaves that reports x: the controller, and the commands
+  abbrev pub Alike : Controller → List Lot → RunLeft → RunReport → Type 0
+  Alike c ps w x = (lastLeft ps [] c ≡ w .told .controller) × (allWritten ps [] c ≡ take (8 * x .commands) (w .buffer))
+
   -- "From a fresh state, any cutting without refusal, run to the end, gives the commands of the whole list", and the controller and the cycles of
-  -- one run: to the end by 100,000,000 cycles of the last piece, and of the one run, which reports x
+  -- one run
   pub record AsWhole (c : Controller) (ps : List Lot) : Type 0 where
+    -- every run of the whole list that reports as many cycles as the pieces together leaves what they leave, to the end or not
+    pub alike : AllRan ps [] c → (n : ℕ) (b : List ℕ) (x : RunReport) → run c (allOf ps) n b .told .answer ≡ Ran x → allCycles ps ≡ x .cycles
+        → Alike c ps (run c (allOf ps) n b) x
+    -- one of just so many cycles reports them
+    pub asMany : AllRan ps [] c → (b : List ℕ) (x : RunReport) → run c (allOf ps) (allCycles ps) b .told .answer ≡ Ran x → allCycles ps ≡ x .cycles
+    -- and so do all runs to the end: a last piece, and a run of the whole list, that may take 100,000,000 cycles
     pub toEnd : AllRan ps [] c → (qs : List Lot) (p : Lot) → ps ≡ qs ++ p ∷ [] → 100000000 ≤ p .count
-        → (n : ℕ) → 100000000 ≤ n → (b : List ℕ) (x : RunReport) → run c (allOf ps) n b .told .answer ≡ Ran x
-        → (lastLeft ps [] c ≡ run c (allOf ps) n b .told .controller)
-        × (allWritten ps [] c ≡ take (8 * x .commands) (run c (allOf ps) n b .buffer))
-        × (allCycles ps ≡ x .cycles)
+        → (n : ℕ) → 100000000 ≤ n → (b : List ℕ) (x : RunReport) → run c (allOf ps) n b .told .answer ≡ Ran x → allCycles ps ≡ x .cycles

@@ -2,18 +2,18 @@
 -- Assumes nothing.
 use Prim.Native.Nat.{ℕ, zero, suc, _*_, _%_, _/_}
 use native.Mathlib.Omega.{arith}
-use mathlib.Core.Bool.{Bool, true, false, not, _&&_, _||_}
+use mathlib.Core.Bool.{Bool, true, false, not, _||_}
 use mathlib.Core.Path.{_≡_, refl, sym, ap, subst}
 use mathlib.Core.List.{List, [], _∷_}
-use lib.Dec.{leb, ltb, eqb}
+use lib.Dec.{ltb, eqb}
 use lib.ListN.{length, replicate}
 use borrow.Author.Tests.{le-ltb}
 use Rattle.records.specs.declared.transaction.Transaction.{Transaction}
-use Rattle.records.specs.Tests.{pick, every}
+use Rattle.records.specs.Tests.{pick}
 use Rattle.records.specs.Told.{refusal, firstFailed, over}
 use Rattle.records.specs.declared.command.Kind.the-variants.{Act, Ref}
 use Rattle.records.specs.Table.{readTable}
-use Rattle.records.specs.Transaction.{transactionsIn, fits}
+use Rattle.records.specs.Transaction.{recordSize, listOf, fitsFrom}
 use Rattle.records.specs.Command.{command, commandsIn, bytesOfAll}
 use Rattle.records.specs.House.{tableA, tableB, tableD}
 use Rattle.rules.specs.declared.verdict.Rule.the-variants.{Precharge, Rrd, Faw, End, Rfc}
@@ -42,7 +42,7 @@ use Rattle.desk.specs.Transactions.{reading}
 use Rattle.desk.specs.Schedules.{BuildsChecked, Schedules}
 use Rattle.desk.specs.Running.{runsChecked, running}
 use Rattle.desk.specs.Numbers.{Numbers, judgedNumbers, patternNumbers, captureNumbers, readNumbers, buildNumbers, runNumbers}
-use Rattle.demands.specs.Causes.{row, FirstRow, lowestOut, fewInto}
+use Rattle.demands.specs.Causes.{row, FirstRow, lowestOut, fewBytes, fewInto}
 use Rattle.demands.specs.Handed.{A, told, judgesBytes, Patterns, Traces, reads, Builds, BuildsBytes, runsBytes}
 use Rattle.desk.proofs.Unique.{only}
 use Rattle.demands.proofs.Causes.{causes}
@@ -62,8 +62,9 @@ module _ (e : ℕ) (t b₀ f₀ b f : List ℕ) (v : BuildAnswer) where
   pub build-tells : (l : List Transaction) → Schedules (λ τ. checkList τ l) (admitted e t) l b₀ b f₀ f v → Builds e t l b₀ f₀ (buildNumbers v) b f
   build-tells l w r b' f' p = let q = only e t .schedule l b₀ f₀ r v b' b f' f p w in (ap buildNumbers (q .0), q .1, q .2)
 
-  pub bytes-tell : (s : List ℕ) → Schedules (λ τ. checkBytes τ s) (admitted e t) (transactionsIn s) b₀ b f₀ f v → BuildsBytes e t s b₀ f₀ (buildNumbers v) b f
-  bytes-tell s w r b' f' p = let q = only e t .scheduleBytes s b₀ f₀ r v b' b f' f p w in (ap buildNumbers (q .0), q .1, q .2)
+  pub bytes-tell : (later : Bool) (s : List ℕ) → Schedules (λ τ. checkBytes later τ s) (admitted e t) (listOf later s) b₀ b f₀ f v
+      → BuildsBytes later e t s b₀ f₀ (buildNumbers v) b f
+  bytes-tell later s w r b' f' p = let q = only e t .scheduleBytes later s b₀ f₀ r v b' b f' f p w in (ap buildNumbers (q .0), q .1, q .2)
 
 -- a number that is not 0
 pub some : (n : ℕ) → suc n ≡ 0 → ⊥
@@ -113,42 +114,53 @@ module _ (s b : List ℕ) where
       by true e = (refl, refl)
       by false e = let q : _≡_ {A = ℕ} 0 1 = cc in absurd (omega arith)
 
-pub few-transactions : (s : List ℕ) (l : List Transaction) → length s ≡ 1024 → length l ≡ 256 → reads 7 A s l .refused ≡ 3 → ⊥
-few-transactions s l e k = not-three (fewInto s (length l)) (not (every (fits tableA) (transactionsIn s))) (lowestOut tableA (transactionsIn s)) (reads 7 A s l) good (causes 7 A .readTransactions s l)
+-- 256 records of either size, as many places; and one more
+pub few-transactions : (later : Bool) (s : List ℕ) (l : List Transaction) → length s ≡ 256 * recordSize later → length l ≡ 256 → reads later 7 A s l .refused ≡ 3 → ⊥
+few-transactions later s l e k =
+    not-three (fewInto later s (length l)) (not (fitsFrom 0 tableA (listOf later s))) (lowestOut tableA 0 (listOf later s)) (reads later 7 A s l) (good later e)
+    (causes 7 A .readTransactions later s l)
   where
-    good : fewInto s (length l) ≡ true
-    good = rw (e, k) refl
+    good : (b : Bool) → length s ≡ 256 * recordSize b → fewInto b s (length l) ≡ true
+    good true e = rw (e, k) refl
+    good false e = rw (e, k) refl
 
     not-three : (g b : Bool) (p : ℕ) (a : Numbers) → g ≡ true → FirstRow (row 3 0 (not g) ∷ row 4 p b ∷ []) a → a .refused ≡ 3 → ⊥
     not-three false b p a e f h = let z : _≡_ {A = ℕ} 0 1 = cc in omega arith
     not-three true true p a e f h = omega (arith, f .0, h)
     not-three true false p a e f h = omega (arith, f .0, h)
 
-pub many-transactions : (s : List ℕ) (l : List Transaction) → length s ≡ 1028 → length l ≡ 257 → reads 7 A s l ≡ told 3 0 7
+pub many-transactions : (later : Bool) (s : List ℕ) (l : List Transaction) → length s ≡ 257 * recordSize later → length l ≡ 257 → reads later 7 A s l ≡ told 3 0 7
 unfolding admitted readTable reading decoding checkInto
-many-transactions s l e k =
-    by (fewInto s (length l)) (rangeFrom 8 0 7 (transactionsIn s) 0) (ap (λ (n : ℕ). eqb (n % 4) 0 && (leb (n / 4) 256 && leb (n / 4) (length l))) e)
+many-transactions later s l e k = by (fewInto later s (length l)) (rangeFrom tableA 0 (listOf later s) 0) (over-256 later e)
   where
-    by : (g : Bool) (x : Checked) → g ≡ false → readNumbers (decodedBy (pick g x (NotFine (refusal 3 0 7))) tableA s l .answer) ≡ told 3 0 7
+    over-256 : (b : Bool) → length s ≡ 257 * recordSize b → fewInto b s (length l) ≡ false
+    over-256 true e = rw e refl
+    over-256 false e = rw e refl
+
+    by : (g : Bool) (x : Checked) → g ≡ false → readNumbers (decodedBy (pick g x (NotFine (refusal 3 0 7))) later tableA s l .answer) ≡ told 3 0 7
     by g x e = rw e refl
 
 -- the check of so many bytes
-bytes-many : (s : List ℕ) → length s ≡ 1028 → checkBytes tableA s ≡ NotFine (refusal 3 0 7)
+bytes-many : (later : Bool) (s : List ℕ) → length s ≡ 257 * recordSize later → checkBytes later tableA s ≡ NotFine (refusal 3 0 7)
 unfolding checkBytes
-bytes-many s e = by (eqb (length s % 4) 0 && leb (length s / 4) 256) (rangeFrom 8 0 7 (transactionsIn s) 0) (ap (λ (n : ℕ). eqb (n % 4) 0 && leb (n / 4) 256) e)
+bytes-many later s e = by (fewBytes later s) (rangeFrom tableA 0 (listOf later s) 0) (over-256 later e)
   where
+    over-256 : (b : Bool) → length s ≡ 257 * recordSize b → fewBytes b s ≡ false
+    over-256 true e = rw e refl
+    over-256 false e = rw e refl
+
     by : (g : Bool) (x : Checked) → g ≡ false → pick g x (NotFine (refusal 3 0 7)) ≡ NotFine (refusal 3 0 7)
     by g x e = rw e refl
 
-pub many-built : (s b f : List ℕ) → length s ≡ 1028 → BuildsBytes 7 A s b f (told 3 0 7) b f
+pub many-built : (later : Bool) (s b f : List ℕ) → length s ≡ 257 * recordSize later → BuildsBytes later 7 A s b f (told 3 0 7) b f
 unfolding admitted readTable Schedules BuildsChecked
-many-built s b f e =
-    bytes-tell 7 A b f b f (NotBuilt (refusal 3 0 7)) s
-    (subst (λ (c : Checked). BuildsChecked c tableA (transactionsIn s) b b f f (NotBuilt (refusal 3 0 7))) (sym (bytes-many s e)) (refl, refl, refl))
+many-built later s b f e =
+    bytes-tell 7 A b f b f (NotBuilt (refusal 3 0 7)) later s
+    (subst (λ (c : Checked). BuildsChecked c tableA (listOf later s) b b f f (NotBuilt (refusal 3 0 7))) (sym (bytes-many later s e)) (refl, refl, refl))
 
-pub many-run : (c : Controller) (s : List ℕ) (n room : ℕ) → length s ≡ 1028 → runsBytes 7 A c s n room ≡ told 3 0 7
+pub many-run : (later : Bool) (c : Controller) (s : List ℕ) (n room : ℕ) → length s ≡ 257 * recordSize later → runsBytes later 7 A c s n room ≡ told 3 0 7
 unfolding admitted readTable running runsChecked
-many-run c s n room e = ap (λ (d : Checked). runNumbers (runsChecked d c tableA (transactionsIn s) n (replicate room 9) .told .answer)) (bytes-many s e)
+many-run later c s n room e = ap (λ (d : Checked). runNumbers (runsChecked d c tableA (listOf later s) n (replicate room 9) .told .answer)) (bytes-many later s e)
 
 -- ---- patterns that are refused, for every number of copies
 

@@ -1,5 +1,6 @@
 -- The public calls on given bytes answer as the list says.
 -- Assumes nothing.
+use mathlib.Core.Bool.{false}
 use mathlib.Core.Path.{refl}
 use mathlib.Core.List.{[], _∷_, _++_}
 use lib.ListN.{replicate}
@@ -39,6 +40,7 @@ use Rattle.demands.specs.Handed.{A, B, R, fine, out}
 use Rattle.demands.specs.Calls.{recordCalls, judgeCalls, captureCalls, listCalls, scheduleCalls, runCalls, calls}
 use Rattle.demands.proofs.NeverRuns.{refused-start}
 use Rattle.demands.proofs.GroupCalls.{of-groups}
+use Rattle.demands.proofs.ArrivalCalls.{of-arrivals}
 use Rattle.demands.proofs.CallLaws.{_⨾_, pattern-tells, build-tells, bytes-tell, some, few-records, many-records, few-captured, many-captured, few-transactions, many-transactions, many-built, many-run, refused-37, left-open, refused-38, refused-49}
 
 of-records : All recordCalls
@@ -171,8 +173,8 @@ of-lists =
     ⨾ refl
     ⨾ refl
     ⨾ refl
-    ⨾ few-transactions
-    ⨾ many-transactions
+    ⨾ few-transactions false
+    ⨾ many-transactions false
     ⨾ tt
 
 of-schedules : All scheduleCalls
@@ -191,15 +193,15 @@ of-schedules =
     ⨾ build-tells 7 R (replicate 9 9) (8 ∷ []) (bytesOfAll (command 0 Ref 0 0 ∷ []) ++ (9 ∷ [])) (50 ∷ []) (Built 7 1) (refresh ∷ []) (refl, refl, record { schedule = command 0 Ref 0 0 ∷ []; built = record { cycles = 1; schedule = refl; acts = refl; datas = refl }; count = refl; buffer = refl; finishes = refl })
     ⨾ build-tells 7 A [] [] [] [] (NotBuilt (refusal 4 1 7)) (fine ∷ refresh ∷ []) (refl, refl, refl)
     ⨾ build-tells 7 A [] [] [] [] (NotBuilt (refusal 5 0 7)) (replicate 256 fine) (some 4, refl, refl, refl)
-    ⨾ bytes-tell 8 A [] [] [] [] (NotBuilt (refusal 10 7 7)) (0 ∷ []) (refl, refl, refl)
-    ⨾ bytes-tell 7 A (9 ∷ []) (8 ∷ []) (9 ∷ []) (8 ∷ []) (NotBuilt (refusal 3 0 7)) (recordsOf (out ∷ []) ++ (0 ∷ [])) (refl, refl, refl)
-    ⨾ bytes-tell 7 A (9 ∷ []) (8 ∷ []) (9 ∷ []) (8 ∷ []) (NotBuilt (refusal 4 1 7)) (recordsOf (fine ∷ out ∷ out ∷ [])) (refl, refl, refl)
-    ⨾ bytes-tell 7 A (replicate 15 9) [] (replicate 15 9) [] (NotBuilt (refusal 5 0 7)) (recordsOf (fine ∷ [])) (some 4, refl, refl, refl)
-    ⨾ bytes-tell 7 A (replicate 16 9) [] (replicate 16 9) [] (NotBuilt (refusal 6 0 7)) (recordsOf (fine ∷ [])) (some 5, refl, refl, refl)
-    ⨾ bytes-tell 7 A (replicate 17 9) (8 ∷ []) (bytesOfAll one ++ (9 ∷ [])) (24 ∷ []) (Built 7 2) (recordsOf (fine ∷ [])) (refl, refl, record { schedule = one; built = record { cycles = 11; schedule = refl; acts = refl; datas = refl }; count = refl; buffer = refl; finishes = refl })
-    ⨾ bytes-tell 7 R (replicate 8 9) (8 ∷ []) (bytesOfAll (command 0 Ref 0 0 ∷ [])) (50 ∷ []) (Built 7 1) (recordsOf (refresh ∷ [])) (refl, refl, record { schedule = command 0 Ref 0 0 ∷ []; built = record { cycles = 1; schedule = refl; acts = refl; datas = refl }; count = refl; buffer = refl; finishes = refl })
-    ⨾ bytes-tell 7 A [] [] [] [] (NotBuilt (refusal 4 1 7)) (recordsOf (fine ∷ refresh ∷ [])) (refl, refl, refl)
-    ⨾ many-built
+    ⨾ bytes-tell 8 A [] [] [] [] (NotBuilt (refusal 10 7 7)) false (0 ∷ []) (refl, refl, refl)
+    ⨾ bytes-tell 7 A (9 ∷ []) (8 ∷ []) (9 ∷ []) (8 ∷ []) (NotBuilt (refusal 3 0 7)) false (recordsOf false (out ∷ []) ++ (0 ∷ [])) (refl, refl, refl)
+    ⨾ bytes-tell 7 A (9 ∷ []) (8 ∷ []) (9 ∷ []) (8 ∷ []) (NotBuilt (refusal 4 1 7)) false (recordsOf false (fine ∷ out ∷ out ∷ [])) (refl, refl, refl)
+    ⨾ bytes-tell 7 A (replicate 15 9) [] (replicate 15 9) [] (NotBuilt (refusal 5 0 7)) false (recordsOf false (fine ∷ [])) (some 4, refl, refl, refl)
+    ⨾ bytes-tell 7 A (replicate 16 9) [] (replicate 16 9) [] (NotBuilt (refusal 6 0 7)) false (recordsOf false (fine ∷ [])) (some 5, refl, refl, refl)
+    ⨾ bytes-tell 7 A (replicate 17 9) (8 ∷ []) (bytesOfAll one ++ (9 ∷ [])) (24 ∷ []) (Built 7 2) false (recordsOf false (fine ∷ [])) (refl, refl, record { schedule = one; built = record { cycles = 11; schedule = refl; acts = refl; datas = refl }; count = refl; buffer = refl; finishes = refl })
+    ⨾ bytes-tell 7 R (replicate 8 9) (8 ∷ []) (bytesOfAll (command 0 Ref 0 0 ∷ [])) (50 ∷ []) (Built 7 1) false (recordsOf false (refresh ∷ [])) (refl, refl, record { schedule = command 0 Ref 0 0 ∷ []; built = record { cycles = 1; schedule = refl; acts = refl; datas = refl }; count = refl; buffer = refl; finishes = refl })
+    ⨾ bytes-tell 7 A [] [] [] [] (NotBuilt (refusal 4 1 7)) false (recordsOf false (fine ∷ refresh ∷ [])) (refl, refl, refl)
+    ⨾ many-built false
     ⨾ tt
 
 of-runs : All runCalls
@@ -247,8 +249,8 @@ of-runs =
     ⨾ refl
     ⨾ refl
     ⨾ refl
-    ⨾ many-run
+    ⨾ many-run false
     ⨾ tt
 
 pub called : All calls
-called = of-records ⨾ of-judges ⨾ of-captures ⨾ of-lists ⨾ of-schedules ⨾ of-runs ⨾ of-groups ⨾ tt
+called = of-records ⨾ of-judges ⨾ of-captures ⨾ of-lists ⨾ of-schedules ⨾ of-runs ⨾ of-groups ⨾ of-arrivals ⨾ tt

@@ -1,6 +1,6 @@
 -- Each call tells the first row of document 01's table that applies.
 -- Assumes nothing.
-use Prim.Native.Nat.{ℕ, suc, _+_, _-_, _*_, _/_, min}
+use Prim.Native.Nat.{ℕ, suc, _+_, _-_, _*_, min}
 use native.Mathlib.Omega.{arith}
 use native.Mathlib.Nat.{zero-add}
 use mathlib.Core.Bool.{Bool, true, false, not, _&&_}
@@ -14,15 +14,15 @@ use Rattle.records.specs.declared.table.TableRead.{TableRead}
 use Rattle.records.specs.declared.table.TableRead.the-variants.{Read, Refused}
 use Rattle.records.specs.declared.transaction.Transaction.{Transaction}
 use Rattle.records.specs.declared.refusal.Refusal.{Refusal}
-use Rattle.records.specs.Tests.{pick, every, within}
+use Rattle.records.specs.Tests.{pick, within}
 use Rattle.records.specs.Told.{refusal, firstFailed}
 use Rattle.records.specs.Table.{tableAt, inRange, tableSize, readTable}
-use Rattle.records.specs.Transaction.{transactionsIn, fits}
+use Rattle.records.specs.Transaction.{recordCount, listOf, fitsAfter, fitsFrom}
 use Rattle.records.specs.Command.{commandsIn}
 use Rattle.rules.specs.Queues.{actQueue, dataQueue}
 use Rattle.rules.specs.Verdict.{judge}
 use Rattle.rules.specs.Bound.{bound}
-use Rattle.rules.specs.Run.{run}
+use Rattle.rules.specs.Pieces.{isLate, lentRun}
 use Rattle.judge.specs.declared.answer.Judged.the-variants.{Verdict, Refused as NotJudged}
 use Rattle.judge.specs.declared.answer.PatternJudged.{PatternJudged}
 use Rattle.judge.specs.declared.answer.PatternJudged.the-variants.{Verdict as PatternVerdict, Refused as PatternNotJudged}
@@ -64,6 +64,10 @@ pub two : (n m : ℕ) (b c : Bool) (a : Numbers) → Tells a (firstFailed ((n, b
 two n m true c a t = t
 two n m false true a t = t
 two n m false false a t = t
+
+three : (n m k : ℕ) (b c d : Bool) (a : Numbers) → Tells a (firstFailed ((n, b) ∷ (m, c) ∷ (k, d) ∷ [])) 0 → FirstRow (row n 0 b ∷ row m 0 c ∷ row k 0 d ∷ []) a
+three n m k true c d a t = t
+three n m k false c d a t = two m k c d a t
 
 tells-same : (a b : Numbers) → a ≡ b → Tells a (b .refused) (b .position)
 tells-same a b e = (ap (λ (n : Numbers). n .refused) e, ap (λ (n : Numbers). n .position) e)
@@ -183,8 +187,8 @@ module _ (τ : Table) (c : Controller) (l : List Transaction) (n : ℕ) (b : Lis
   run-rows =
       let z = runRefusal τ l (tells c) n (length b) in
       let a = runNumbers (runsChecked Fine c τ l n b .told .answer) in
-      two 5 9 (ltb (length b) (8 * min n ((length (actQueue τ l) - c .acts) + (length (dataQueue τ l) - c .datas)))) (not (sound τ l (tells c))) a
-      (by-number (λ (w : RunLeft). runNumbers (w .told .answer)) z (ranLeft (τ .edition) (run n τ l (tells c) []) b) (refusedLeft (τ .edition) z c b) (refl, refl) (refl, refl))
+      three 5 9 12 (ltb (length b) (8 * min n ((length (actQueue τ l) - c .acts) + (length (dataQueue τ l) - c .datas)))) (not (sound τ l (tells c))) (isLate l (tells c)) a
+      (by-number (λ (w : RunLeft). runNumbers (w .told .answer)) z (ranLeft (τ .edition) (lentRun n τ l (tells c)) b) (refusedLeft (τ .edition) z c b) (refl, refl) (refl, refl))
 
 -- ---- all of them
 
@@ -218,14 +222,14 @@ module _ (expected : ℕ) (table : List ℕ) where
       rows : List Row
       rows = row 4 0 (not (within 1 16 bi && (within 1 16 bc && leb bi (t .banks)))) ∷ []
 
-  read-told : (s : List ℕ) (l : List Transaction)
-      → FirstRow (tableRows expected table (listRows t (fewInto s (length l)) (transactionsIn s) [])) (readNumbers (reading (admitted expected table) s l .answer))
+  read-told : (later : Bool) (s : List ℕ) (l : List Transaction)
+      → FirstRow (tableRows expected table (listRows t (fewInto later s (length l)) (listOf later s) [])) (readNumbers (reading later (admitted expected table) s l .answer))
   unfolding reading decoding
-  read-told s l =
-      by-table expected table (λ a n. n ≡ readNumbers (reading a s l .answer)) (listRows t (fewInto s (length l)) (transactionsIn s) []) (λ x a e. e)
-      (λ a e. by-list t (λ c n. n ≡ readNumbers (decodedBy c t s l .answer)) [] a (λ x e. e) (tells-same a (telling (t .edition) (length s / 4 ∷ [])))
-      (fewInto s (length l)) (transactionsIn s) (checkInto t s (length l)) (into-sized t s (length l)) e)
-      (readNumbers (reading (admitted expected table) s l .answer)) refl
+  read-told later s l =
+      by-table expected table (λ a n. n ≡ readNumbers (reading later a s l .answer)) (listRows t (fewInto later s (length l)) (listOf later s) []) (λ x a e. e)
+      (λ a e. by-list t (λ c n. n ≡ readNumbers (decodedBy c later t s l .answer)) [] a (λ x e. e) (tells-same a (telling (t .edition) (recordCount later (length s) ∷ [])))
+      (fewInto later s (length l)) (listOf later s) (checkInto later t s (length l)) (into-sized later t s (length l)) e)
+      (readNumbers (reading later (admitted expected table) s l .answer)) refl
 
   start-told : FirstRow (tableRows expected table []) (startNumbers (starting (admitted expected table) .answer))
   unfolding starting
@@ -274,8 +278,8 @@ module _ (expected : ℕ) (table : List ℕ) where
         bound = bound-said;
         readTransactions = read-told;
         schedule = λ l. build-told (λ τ. checkList τ l) (leb (length l) 256) l (list-sized t l);
-        scheduleBytes = λ s. build-told (λ τ. checkBytes τ s) (fewBytes s) (transactionsIn s) (bytes-sized t s);
+        scheduleBytes = λ later s. build-told (λ τ. checkBytes later τ s) (fewBytes later s) (listOf later s) (bytes-sized later t s);
         start = start-told;
         run = λ c l. run-told (λ τ. checkList τ l) (leb (length l) 256) l (list-sized t l) c;
-        runBytes = λ c s. run-told (λ τ. checkBytes τ s) (fewBytes s) (transactionsIn s) (bytes-sized t s) c;
+        runBytes = λ later c s. run-told (λ τ. checkBytes later τ s) (fewBytes later s) (listOf later s) (bytes-sized later t s) c;
       }

@@ -1,7 +1,7 @@
 -- Demand 1: a refused call leaves everything as it stood, and every answer names the table's edition.
 -- Assumes nothing.
-use Prim.Native.Nat.{ℕ, _+_, _/_, _%_}
-use mathlib.Core.Bool.{Bool, true, false, not, _&&_}
+use Prim.Native.Nat.{ℕ, _+_}
+use mathlib.Core.Bool.{Bool, true, false, not}
 use mathlib.Core.Path.{_≡_, refl, sym, ap, _∙_}
 use mathlib.Core.Logic.{_⊎_, inl, inr, ⊎-elim}
 use mathlib.Core.List.{List, [], _∷_}
@@ -17,12 +17,12 @@ use Rattle.records.specs.declared.refusal.Refusal.{Refusal}
 use Rattle.records.specs.Tests.{pick}
 use Rattle.records.specs.Told.{refusal, firstFailed}
 use Rattle.records.specs.Table.{tableAt, inRange, tableSize, tableRefusal, readTable, Accepted}
-use Rattle.records.specs.Transaction.{transactionsIn, fits}
+use Rattle.records.specs.Transaction.{listOf, fitsAfter}
 use Rattle.records.specs.Command.{commandsIn}
 use Rattle.records.proofs.Laws.{read-was, table-size}
 use Rattle.rules.specs.Verdict.{judge}
 use Rattle.rules.specs.Bound.{bound}
-use Rattle.rules.specs.Run.{run}
+use Rattle.rules.specs.Pieces.{lentRun}
 use Rattle.judge.specs.declared.answer.Judged.{Judged}
 use Rattle.judge.specs.declared.answer.Judged.the-variants.{Verdict, Refused as NotJudged}
 use Rattle.judge.specs.declared.answer.PatternJudged.{PatternJudged}
@@ -53,12 +53,13 @@ use Rattle.desk.specs.Transactions.{reading}
 use Rattle.desk.specs.Schedules.{BuildsChecked, Schedules}
 use Rattle.desk.specs.Running.{starting, runsChecked, running}
 use Rattle.desk.specs.Numbers.{judgedNumbers, patternNumbers, captureNumbers, boundNumbers, readNumbers, buildNumbers, startNumbers, runNumbers}
+use Rattle.demands.specs.Causes.{fewBytes, fewInto}
 use Rattle.demands.specs.Demands.{EitherSize, NotAdmitted, Demand1}
 use Rattle.desk.proofs.Laws.{expected-read, read-accepted}
 use Rattle.demands.proofs.Sizes.{either-size, neither-size}
 use Rattle.demands.proofs.Causes.{causes}
 use Rattle.demands.proofs.RecordCauses.{record-causes}
-use Rattle.demands.proofs.Stood.{unread, unbuilt, unrun, table-unwritten, group-table-unwritten, transaction-unwritten, command-unwritten, capture-unwritten}
+use Rattle.demands.proofs.Stood.{unread, unbuilt, unrun, table-unwritten, group-table-unwritten, transaction-unwritten, later-unwritten, command-unwritten, capture-unwritten}
 use Rattle.demands.proofs.Captures.{uncaptured, capture-names, capture-names-refused}
 
 -- ---- the table
@@ -124,31 +125,31 @@ admits e s τ r =
 -- ---- the check of a list names the table's edition
 
 module _ (τ : Table) (x : Refusal) where
-  range-names : (l : List Transaction) (k : ℕ) → rangeFrom (τ .banks) (τ .rfc) (τ .edition) l k ≡ NotFine x → x .edition ≡ τ .edition
+  range-names : (a : ℕ) (l : List Transaction) (k : ℕ) → rangeFrom τ a l k ≡ NotFine x → x .edition ≡ τ .edition
   unfolding rangeFrom
-  range-names [] k e = let z : _≡_ {A = ℕ} 0 1 = cc in absurd (omega arith)
-  range-names (t ∷ l) k e = on (fits τ t) e (range-names l (k + 1))
+  range-names a [] k e = let z : _≡_ {A = ℕ} 0 1 = cc in absurd (omega arith)
+  range-names a (t ∷ l) k e = on (fitsAfter a τ t) e (range-names (t .arrival) l (k + 1))
     where
-      on : (b : Bool) → pick b (rangeFrom (τ .banks) (τ .rfc) (τ .edition) l (k + 1)) (NotFine (refusal 4 k (τ .edition))) ≡ NotFine x
-          → (rangeFrom (τ .banks) (τ .rfc) (τ .edition) l (k + 1) ≡ NotFine x → x .edition ≡ τ .edition) → x .edition ≡ τ .edition
+      on : (b : Bool) → pick b (rangeFrom τ (t .arrival) l (k + 1)) (NotFine (refusal 4 k (τ .edition))) ≡ NotFine x
+          → (rangeFrom τ (t .arrival) l (k + 1) ≡ NotFine x → x .edition ≡ τ .edition) → x .edition ≡ τ .edition
       on true e ih = ih e
       on false e ih = let w : refusal 4 k (τ .edition) ≡ x = cc in ap (λ (y : Refusal). y .edition) (sym w)
 
   sized-names : (b : Bool) (l : List Transaction) → checkSized τ b l ≡ NotFine x → x .edition ≡ τ .edition
-  sized-names true l e = range-names l 0 e
+  sized-names true l e = range-names 0 l 0 e
   sized-names false l e = let w : refusal 3 0 (τ .edition) ≡ x = cc in ap (λ (y : Refusal). y .edition) (sym w)
 
   list-names : (l : List Transaction) → checkList τ l ≡ NotFine x → x .edition ≡ τ .edition
   unfolding checkList
   list-names l e = sized-names (leb (length l) 256) l e
 
-  bytes-names : (s : List ℕ) → checkBytes τ s ≡ NotFine x → x .edition ≡ τ .edition
+  bytes-names : (later : Bool) (s : List ℕ) → checkBytes later τ s ≡ NotFine x → x .edition ≡ τ .edition
   unfolding checkBytes
-  bytes-names s e = sized-names (eqb (length s % 4) 0 && leb (length s / 4) 256) (transactionsIn s) e
+  bytes-names later s e = sized-names (fewBytes later s) (listOf later s) e
 
-  into-names : (s : List ℕ) (places : ℕ) → checkInto τ s places ≡ NotFine x → x .edition ≡ τ .edition
+  into-names : (later : Bool) (s : List ℕ) (places : ℕ) → checkInto later τ s places ≡ NotFine x → x .edition ≡ τ .edition
   unfolding checkInto
-  into-names s places e = sized-names (eqb (length s % 4) 0 && (leb (length s / 4) 256 && leb (length s / 4) places)) (transactionsIn s) e
+  into-names later s places e = sized-names (fewInto later s places) (listOf later s) e
 
 -- ---- what each answer names, by what `admit` answered
 
@@ -202,14 +203,14 @@ bound-names (Read τ) bi bc =
     either boundNames (eqb z 0) (Bound (τ .edition) (bound τ bi bc)) (NoBound (refusal z 0 (τ .edition))) (τ .edition) refl refl
 bound-names (Refused x) bi bc = refl
 
-read-names : (a : TableRead) → (s : List ℕ) (l : List Transaction) → readNames (reading a s l .answer) ≡ told a
+read-names : (a : TableRead) (later : Bool) (s : List ℕ) (l : List Transaction) → readNames (reading later a s l .answer) ≡ told a
 unfolding reading decoding
-read-names (Read τ) s l = on (checkInto τ s (length l)) (λ x. into-names τ x s (length l))
+read-names (Read τ) later s l = on (checkInto later τ s (length l)) (λ x. into-names τ x later s (length l))
   where
-    on : (c : Checked) → ((x : Refusal) → c ≡ NotFine x → x .edition ≡ τ .edition) → readNames (decodedBy c τ s l .answer) ≡ τ .edition
+    on : (c : Checked) → ((x : Refusal) → c ≡ NotFine x → x .edition ≡ τ .edition) → readNames (decodedBy c later τ s l .answer) ≡ τ .edition
     on Fine n = refl
     on (NotFine x) n = n x refl
-read-names (Refused x) s l = refl
+read-names (Refused x) later s l = refl
 
 -- the check of the list names the table's edition where it refuses
 abbrev NamesIts : (Table → Checked) → Type 0
@@ -243,7 +244,7 @@ module _ (c : Controller) (l : List Transaction) (n : ℕ) (b : List ℕ) where
   unfolding runsChecked runController
   runs-names τ Fine k =
       let z = runRefusal τ l (tells c) n (length b) in
-      either leftNames (eqb z 0) (ranLeft (τ .edition) (run n τ l (tells c) []) b) (refusedLeft (τ .edition) z c b) (τ .edition) refl refl
+      either leftNames (eqb z 0) (ranLeft (τ .edition) (lentRun n τ l (tells c)) b) (refusedLeft (τ .edition) z c b) (τ .edition) refl refl
   runs-names τ (NotFine x) k = k x refl
 
   run-names : (check : Table → Checked) → NamesIts check → (a : TableRead) → leftNames (running check a c l n b) ≡ told a
@@ -262,23 +263,24 @@ demand-1 expected table =
       admits = admits expected table;
       causes = causes expected table;
       recordCauses = record-causes;
-      unread = unread a;
+      unread = λ later. unread later a;
       unbuilt = λ check l b₀ b f₀ f x. unbuilt l b₀ b f₀ f x check a;
       unrun = λ check c l n b x. unrun c l n b x check a;
       uncaptured = uncaptured a;
       tableUnwritten = table-unwritten;
       groupTableUnwritten = group-table-unwritten;
       transactionUnwritten = transaction-unwritten;
+      laterUnwritten = later-unwritten;
       commandUnwritten = command-unwritten;
       captureUnwritten = capture-unwritten;
       judge = λ s. judge-names a s ∙ e;
       pattern = λ s L r p. pattern-names a s L r p ∙ e;
       capture = λ s b. capture-told a s b ∙ e;
       bound = λ bi bc. bound-names a bi bc ∙ e;
-      read = λ s l. read-names a s l ∙ e;
+      read = λ later s l. read-names a later s l ∙ e;
       schedule = λ l b₀ b f₀ f r p. schedule-names l b₀ b f₀ f (λ τ. checkList τ l) (λ τ x. list-names τ x l) a r p ∙ e;
-      scheduleBytes = λ s b₀ b f₀ f r p. schedule-names (transactionsIn s) b₀ b f₀ f (λ τ. checkBytes τ s) (λ τ x. bytes-names τ x s) a r p ∙ e;
+      scheduleBytes = λ later s b₀ b f₀ f r p. schedule-names (listOf later s) b₀ b f₀ f (λ τ. checkBytes later τ s) (λ τ x. bytes-names τ x later s) a r p ∙ e;
       start = start-names a ∙ e;
       run = λ c l n b. run-names c l n b (λ τ. checkList τ l) (λ τ x. list-names τ x l) a ∙ e;
-      runBytes = λ c s n b. run-names c (transactionsIn s) n b (λ τ. checkBytes τ s) (λ τ x. bytes-names τ x s) a ∙ e;
+      runBytes = λ later c s n b. run-names c (listOf later s) n b (λ τ. checkBytes later τ s) (λ τ x. bytes-names τ x later s) a ∙ e;
     }

@@ -1,5 +1,6 @@
 -- The public calls on tables of 40 bytes answer as the list says.
 -- Assumes nothing.
+use mathlib.Core.Bool.{false}
 use mathlib.Core.Path.{refl}
 use mathlib.Core.List.{[], _∷_, _++_}
 use lib.ListN.{replicate}
@@ -102,7 +103,7 @@ of-schedules =
     ⨾ refl
     ⨾ refl
     ⨾ build-tells 7 D (replicate 32 9) (8 ∷ 8 ∷ []) (bytesOfAll within) (24 ∷ 44 ∷ []) (Built 7 4) (read 0 1 1 ∷ read 4 1 1 ∷ []) (refl, refl, record { schedule = within; built = record { cycles = 31; schedule = refl; acts = refl; datas = refl }; count = refl; buffer = refl; finishes = refl })
-    ⨾ bytes-tell 7 D (replicate 33 9) (8 ∷ 8 ∷ []) (bytesOfAll within ++ (9 ∷ [])) (24 ∷ 44 ∷ []) (Built 7 4) (recordsOf (read 0 1 1 ∷ read 4 1 1 ∷ [])) (refl, refl, record { schedule = within; built = record { cycles = 31; schedule = refl; acts = refl; datas = refl }; count = refl; buffer = refl; finishes = refl })
+    ⨾ bytes-tell 7 D (replicate 33 9) (8 ∷ 8 ∷ []) (bytesOfAll within ++ (9 ∷ [])) (24 ∷ 44 ∷ []) (Built 7 4) false (recordsOf false (read 0 1 1 ∷ read 4 1 1 ∷ [])) (refl, refl, record { schedule = within; built = record { cycles = 31; schedule = refl; acts = refl; datas = refl }; count = refl; buffer = refl; finishes = refl })
     ⨾ build-tells 7 D (replicate 32 9) (8 ∷ 8 ∷ []) (bytesOfAll across) (24 ∷ 30 ∷ []) (Built 7 4) (read 0 1 1 ∷ read 1 1 1 ∷ []) (refl, refl, record { schedule = across; built = record { cycles = 17; schedule = refl; acts = refl; datas = refl }; count = refl; buffer = refl; finishes = refl })
     ⨾ build-tells 7 D (replicate 15 9) [] (replicate 15 9) [] (NotBuilt (refusal 5 0 7)) (read 0 1 1 ∷ []) (some 4, refl, refl, refl)
     ⨾ tt

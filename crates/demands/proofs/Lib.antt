@@ -13,6 +13,7 @@ pub mod NeverRuns
 pub mod Pieces
 pub mod CallLaws
 pub mod GroupCalls
+pub mod ArrivalCalls
 pub mod Calls
 pub mod Traces
 pub mod OneGroup

@@ -2,14 +2,14 @@
 -- Assumes nothing.
 use Prim.Native.Nat.{ℕ}
 use native.Mathlib.Omega.{arith}
-use mathlib.Core.Bool.{true}
+use mathlib.Core.Bool.{Bool, true}
 use mathlib.Core.Path.{_≡_, refl, sym, ap, _∙_, subst}
 use mathlib.Core.List.{List}
 use Rattle.records.specs.declared.table.Table.{Table}
 use Rattle.records.specs.declared.table.TableRead.{TableRead}
 use Rattle.records.specs.declared.table.TableRead.the-variants.{Read}
 use Rattle.records.specs.declared.transaction.Transaction.{Transaction}
-use Rattle.records.specs.Transaction.{transactionsIn, listFits}
+use Rattle.records.specs.Transaction.{listOf, listFits}
 use Rattle.records.specs.Command.{commandsIn}
 use Rattle.records.specs.Table.{Accepted}
 use Rattle.rules.specs.declared.verdict.Verdict.the-variants.{Accepted as Passed}
@@ -48,8 +48,8 @@ module _ (τ : Table) (s : List ℕ) where
   unfolding PatternTold
   all-legal L p = p .2
 
-  bytes-fit : checkBytes τ s ≡ Fine → listFits τ (transactionsIn s) ≡ true
-  bytes-fit e = fine-fits τ (transactionsIn s) (into-list τ s 256 (into-256 τ s ∙ e))
+  bytes-fit : (later : Bool) → checkBytes later τ s ≡ Fine → listFits τ (listOf later s) ≡ true
+  bytes-fit later e = fine-fits τ (listOf later s) (into-list later τ s 256 (into-256 later τ s ∙ e))
 
 -- ---- a list of which a schedule or a run was answered was found fine
 
@@ -103,7 +103,7 @@ module _ (expected : ℕ) (table : List ℕ) (τ : Table) (read : admitted expec
         capture = λ s b e n y h.
             let k = traces expected table τ read .shown s b e n Passed y h in (k .0, k .2, k .4, legal-pins τ acc (k .0) (sym (k .3)));
         schedule = λ l. built-kept (λ τ. checkList τ l) l (fine-fits τ l);
-        scheduleBytes = λ s. built-kept (λ τ. checkBytes τ s) (transactionsIn s) (bytes-fit τ s);
+        scheduleBytes = λ later s. built-kept (λ τ. checkBytes later τ s) (listOf later s) (bytes-fit τ s later);
         run = λ l. run-kept (λ τ. checkList τ l) l (fine-fits τ l);
-        runBytes = λ s. run-kept (λ τ. checkBytes τ s) (transactionsIn s) (bytes-fit τ s);
+        runBytes = λ later s. run-kept (λ τ. checkBytes later τ s) (listOf later s) (bytes-fit τ s later);
       }

@@ -13,7 +13,7 @@ use Rattle.records.specs.declared.refusal.Written.the-variants.{Done, Refused a
 use Rattle.records.specs.Told.{refusal, over, Wrote}
 use Rattle.records.specs.Little.{bytes16}
 use Rattle.records.specs.Table.{tableOf, groupTableOf, tableAt, inRange, tableSize, tableRefusal, tableRefusalBy, readTable, writeTable, writeGroupTable}
-use Rattle.records.specs.Transaction.{transactionAt, fitsIn, transactionRefusal, readTransaction, writeTransaction, bytesOf as transactionBytes}
+use Rattle.records.specs.Transaction.{transactionAt, laterAt, fitsBy, transactionRefusal, laterRefusal, readTransaction, writeTransaction, readLater, writeLater, laterBytes, bytesOf as transactionBytes}
 use Rattle.records.specs.Command.{commandAt, commandRefusal, roomRefusal, readCommand, writeCommand, bytesOf as commandBytes}
 use Rattle.capture.specs.declared.one_record.CaptureRecordRead.the-variants.{Read as RecordIs, Refused as NoRecord}
 use Rattle.capture.specs.Record.{recordAt, bytesOfRecord, recordRefusal, readCaptureRecord, recordRoom, writeCaptureRecord}
@@ -27,7 +27,7 @@ module _ (s : List ℕ) where
   kept z = record { answer = NotWritten (refusal z 0 0); buffer = s }
 
   pub record-causes : RecordCauses s
-  unfolding readTable writeTable writeGroupTable readTransaction writeTransaction readCommand writeCommand readCaptureRecord writeCaptureRecord
+  unfolding readTable writeTable writeGroupTable readTransaction writeTransaction readLater writeLater readCommand writeCommand readCaptureRecord writeCaptureRecord
   record-causes =
       record {
         tableRead =
@@ -44,12 +44,20 @@ module _ (s : List ℕ) where
             (by-number (λ (w : Wrote). writtenNumbers (w .answer)) z (record { answer = Done (groupTableOf l .edition); buffer = over (bytes16 l) s }) (kept z) (refl, refl) (refl, refl));
         transactionRead =
             let z = transactionRefusal (length s) (transactionAt s 0) in
-            two 3 4 (not (eqb (length s) 4)) (not (fitsIn 16 1 (transactionAt s 0))) (transactionNumbers (readTransaction s))
+            two 3 4 (not (eqb (length s) 4)) (not (fitsBy 0 16 1 (transactionAt s 0))) (transactionNumbers (readTransaction s))
             (by-number transactionNumbers z (TransactionIs (transactionAt s 0)) (NoTransaction (refusal z 0 0)) (refl, refl) (refl, refl));
         transactionWritten = λ x.
             let z = transactionRefusal (length s) x in
-            two 3 4 (not (eqb (length s) 4)) (not (fitsIn 16 1 x)) (writtenNumbers (writeTransaction x s .answer))
+            two 3 4 (not (eqb (length s) 4)) (not (fitsBy 0 16 1 x)) (writtenNumbers (writeTransaction x s .answer))
             (by-number (λ (w : Wrote). writtenNumbers (w .answer)) z (record { answer = Done 0; buffer = over (transactionBytes x) s }) (kept z) (refl, refl) (refl, refl));
+        laterRead =
+            let z = laterRefusal (length s) (laterAt s 0) in
+            two 3 4 (not (eqb (length s) 8)) (not (fitsBy 20000000 16 1 (laterAt s 0))) (transactionNumbers (readLater s))
+            (by-number transactionNumbers z (TransactionIs (laterAt s 0)) (NoTransaction (refusal z 0 0)) (refl, refl) (refl, refl));
+        laterWritten = λ x.
+            let z = laterRefusal (length s) x in
+            two 3 4 (not (eqb (length s) 8)) (not (fitsBy 20000000 16 1 x)) (writtenNumbers (writeLater x s .answer))
+            (by-number (λ (w : Wrote). writtenNumbers (w .answer)) z (record { answer = Done 0; buffer = over (laterBytes x) s }) (kept z) (refl, refl) (refl, refl));
         commandRead =
             let z = commandRefusal (length s) in
             one 7 (not (eqb (length s) 8)) (commandNumbers (readCommand s))

@@ -2,39 +2,38 @@
 -- judge as it stands there, it serves every transaction within its bound, and transactions added at the end move nothing.
 -- Assumes nothing.
 use Prim.Native.Nat.{ℕ, suc, _+_, _*_, _/_, _%_, _≤_, _<_}
-use mathlib.Core.Bool.{true, false}
+use mathlib.Core.Bool.{Bool, true, false}
 use mathlib.Core.Path.{_≡_, refl, sym, ap, _∙_, subst}
 use mathlib.Core.Option.{some}
 use mathlib.Core.List.{List}
 use native.Mathlib.Omega.{arith}
 use native.Mathlib.Nat.{zero-add}
-use lib.Dec.{leb}
 use lib.ListN.{length, getElem?, getD, take, drop, take-append-drop, List·getD-append}
 use lib.Seq.{drop-at}
-use borrow.Author.Tests.{leb-true, le-leb, le-ltb, eq-eqb}
+use borrow.Author.Tests.{le-leb, le-ltb, eq-eqb}
 use Rattle.records.specs.declared.table.Table.{Table}
 use Rattle.records.specs.declared.table.TableRead.{TableRead}
 use Rattle.records.specs.declared.table.TableRead.the-variants.{Read}
 use Rattle.records.specs.declared.transaction.Transaction.{Transaction}
 use Rattle.records.specs.declared.command.Command.{Command}
-use Rattle.records.specs.Tests.{every}
 use Rattle.records.specs.Told.{over}
 use Rattle.records.specs.Table.{Accepted}
-use Rattle.records.specs.Transaction.{transactionsIn, isRefresh, fits, listFits}
+use Rattle.records.specs.Transaction.{recordSize, listOf, isRefresh, fits, listFits}
 use Rattle.records.specs.Command.{commandsIn, bytesOfAll}
-use Rattle.records.proofs.Laws.{and-left, and-right}
+use Rattle.records.proofs.Arrivals.{few-listed, each-listed}
 use Rattle.records.proofs.Written.{length-bytes, bytes-stand, read-whole}
 use Rattle.rules.specs.declared.verdict.Verdict.the-variants.{Accepted as Passed}
 use Rattle.rules.specs.Queues.{actQueue, dataQueue}
 use Rattle.rules.specs.Verdict.{Legal}
 use Rattle.rules.specs.Finish.{finishOf, countFrom, finish}
-use Rattle.rules.specs.Bound.{bound, span}
+use Rattle.rules.specs.Bound.{bound, span, startAt}
 use Rattle.rules.specs.Promise.{cycleOf, Kept, lastCommandCycle}
 use Rattle.rules.proofs.TestLaws.{OnSome, every-at}
-use Rattle.rules.proofs.Fit.{is-fit, plain-fit}
+use Rattle.rules.proofs.Fit.{is-fit, plain-fit, all-fit}
+use Rattle.rules.proofs.Queue.{act-length, data-length}
 use Rattle.rules.proofs.Ranges.{ranges}
 use Rattle.rules.proofs.Promises.{kept}
-use Rattle.heads.proofs.Laws.{acts-due, datas-due}
+use Rattle.heads.proofs.Laws.{acts-most, datas-most}
 use Rattle.judge.specs.declared.answer.Judged.the-variants.{Verdict}
 use Rattle.judge.specs.Answer.{scheduleRefusal}
 use Rattle.judge.proofs.Accepts.{judge-accepts}
@@ -47,27 +46,21 @@ use Rattle.builder.specs.Bound.{boundTold}
 use Rattle.builder.specs.Build.{buildRefusal, LeavesBuild}
 use Rattle.lists.specs.declared.check.Checked.{Checked}
 use Rattle.lists.specs.Check.{checkList, checkBytes}
-use Rattle.lists.specs.Packed.{packed}
 use Rattle.lists.proofs.Checks.{bytes-list, fits-fine}
-use Rattle.lists.proofs.Packing.{length-packed, held-whole, lent-held, lent-check}
 use Rattle.desk.specs.Admit.{admitted}
 use Rattle.desk.specs.Judging.{judging}
 use Rattle.desk.specs.Bounds.{bounding}
 use Rattle.desk.specs.Schedules.{BuildsChecked, Schedules}
 use Rattle.demands.specs.Demands.{Demand3, Room}
-use Rattle.desk.proofs.Laws.{read-accepted, fine-listed, schedules-same}
+use Rattle.desk.proofs.Laws.{read-accepted, schedules-same}
 
 -- ---- the built schedule's bytes pass the judge
 
 -- no list that fits puts more commands into the queues than the judge takes
 few-due : (τ : Table) → Accepted τ → (l : List Transaction) → listFits τ l ≡ true → length (actQueue τ l) + length (dataQueue τ l) ≤ 69632
 few-due τ acc l fit =
-    let few : length l ≤ 256 = leb-true (length l) 256 (and-left (leb (length l) 256) (every (fits τ) l) fit) in
-    let s = packed (length l) l in
-    let inside : 4 * length l ≤ length s = omega (arith, few, length-packed l (length l) few) in
-    let fine = lent-check (length l) s inside τ ∙ ap (checkList τ) (held-whole l) ∙ fits-fine τ l fit in
-    let k = fine-listed τ (take (4 * length l) s) (checkBytes τ (take (4 * length l) s)) acc refl fine in
-    subst (λ (m : List Transaction). length (actQueue τ m) + length (dataQueue τ m) ≤ 69632) (lent-held (length l) s inside ∙ held-whole l) (omega (arith, acts-due k, datas-due k))
+    let each = all-fit τ (ranges τ acc .banks .least) l (each-listed τ l fit) in
+    omega (arith, act-length τ l, data-length τ l, acts-most τ l each, datas-most τ l each, few-listed τ l fit)
 
 -- number 7 does not refuse so many records
 few-judged : (size n : ℕ) → size ≡ 8 * n → n ≤ 69632 → scheduleRefusal size ≡ 0
@@ -151,16 +144,17 @@ module _ (expected : ℕ) (table : List ℕ) (τ : Table) (read : admitted expec
         finishes = stands;
         later = finish-later τ l rs f₀ f (k .finishes);
         served = q .finishes;
+        notBefore = q .notBefore;
         first = q .firstIn;
         next = q .nextIn;
-        firstFinish = λ x at. subst (λ (z : ℕ). z ≤ finishOf τ x (span τ x)) (sym (stands 0 x at)) (q .firstFinish x at);
+        firstFinish = λ x at. subst (λ (z : ℕ). z ≤ finishOf τ x (startAt x 0 + span τ x)) (sym (stands 0 x at)) (q .firstFinish x at);
         nextFinish = λ j w x was at.
-            subst (λ (z : ℕ). z ≤ finishOf τ x (countFrom τ w (lastCommandCycle j rs) + span τ x)) (sym (stands (suc j) x at)) (q .nextFinish j w x was at);
+            subst (λ (z : ℕ). z ≤ finishOf τ x (startAt x (countFrom τ w (lastCommandCycle j rs)) + span τ x)) (sym (stands (suc j) x at)) (q .nextFinish j w x was at);
         fits = λ j x at. subst (λ (z : ℕ). z < 4294967296) (sym (stands j x at)) (q .finishFits j x at);
         told = λ j x at er. (
           rw er,
           of-bytes (λ (a : TableRead). bounding a (x .bi) (x .bc) ≡ Bound (τ .edition) (bound τ (x .bi) (x .bc)))
-              (bound-told τ acc x (subst (OnSome (λ y. fits τ y ≡ true)) at (every-at (fits τ) l j (and-right (leb (length l) 256) (every (fits τ) l) fit))) er),
+              (bound-told τ acc x (subst (OnSome (λ y. fits τ y ≡ true)) at (every-at (fits τ) l j (each-listed τ l fit))) er),
         );
         unmoved = λ j. q .unmoved (take j l) (drop j l) (sym (take-append-drop j l));
       }
@@ -177,11 +171,11 @@ demand-3 expected table τ read l fit b₀ b f₀ f room r h =
     serves expected table τ read l fit b₀ b f₀ f room r
     (fits-builds τ l fit b₀ b f₀ f r (subst (λ (a : TableRead). Schedules (λ τ. checkList τ l) a l b₀ b f₀ f r) read h))
 
--- the same of a list's bytes
-pub demand-3-bytes : (expected : ℕ) (table : List ℕ) (τ : Table) → admitted expected table ≡ Read τ → (s : List ℕ) → length s % 4 ≡ 0 → listFits τ (transactionsIn s) ≡ true
-    → (b₀ b f₀ f : List ℕ) → Room τ (transactionsIn s) b₀ f₀
-    → (r : BuildAnswer) → Schedules (λ τ. checkBytes τ s) (admitted expected table) (transactionsIn s) b₀ b f₀ f r → Demand3 expected table τ (transactionsIn s) b₀ b f₀ f r
-demand-3-bytes expected table τ read s whole fit b₀ b f₀ f room r h =
-    demand-3 expected table τ read (transactionsIn s) fit b₀ b f₀ f room r
-    (schedules-same (λ τ. checkBytes τ s) (λ τ. checkList τ (transactionsIn s)) (admitted expected table) (transactionsIn s) (transactionsIn s) b₀ b f₀ f r
-    (λ τ. bytes-list τ s whole) refl h)
+-- the same of a list's bytes, records of 8 where `later`, else of 4
+pub demand-3-bytes : (expected : ℕ) (table : List ℕ) (τ : Table) → admitted expected table ≡ Read τ → (later : Bool) (s : List ℕ) → length s % recordSize later ≡ 0
+    → listFits τ (listOf later s) ≡ true → (b₀ b f₀ f : List ℕ) → Room τ (listOf later s) b₀ f₀
+    → (r : BuildAnswer) → Schedules (λ τ. checkBytes later τ s) (admitted expected table) (listOf later s) b₀ b f₀ f r → Demand3 expected table τ (listOf later s) b₀ b f₀ f r
+demand-3-bytes expected table τ read later s whole fit b₀ b f₀ f room r h =
+    demand-3 expected table τ read (listOf later s) fit b₀ b f₀ f room r
+    (schedules-same (λ τ. checkBytes later τ s) (λ τ. checkList τ (listOf later s)) (admitted expected table) (listOf later s) (listOf later s) b₀ b f₀ f r
+    (λ τ. bytes-list later τ s whole) refl h)

@@ -18,7 +18,7 @@ use Rattle.records.specs.Tests.{pick}
 use Rattle.records.specs.Told.{refusal, over, Wrote}
 use Rattle.records.specs.Little.{bytes16}
 use Rattle.records.specs.Table.{tableOf, groupTableOf, tableRefusalBy, writeTable, writeGroupTable}
-use Rattle.records.specs.Transaction.{transactionRefusal, writeTransaction, bytesOf as transactionBytes}
+use Rattle.records.specs.Transaction.{transactionRefusal, laterRefusal, writeTransaction, writeLater, laterBytes, bytesOf as transactionBytes}
 use Rattle.records.specs.Command.{roomRefusal, writeCommand, bytesOf as commandBytes}
 use Rattle.capture.specs.declared.one_record.CaptureRecord.{CaptureRecord}
 use Rattle.capture.specs.Record.{bytesOfRecord, recordRoom, writeCaptureRecord}
@@ -35,10 +35,10 @@ use Rattle.desk.specs.Transactions.{reading}
 use Rattle.desk.specs.Schedules.{BuildsChecked, Schedules}
 use Rattle.desk.specs.Running.{runsChecked, running}
 
-pub unread : (a : TableRead) (s : List ℕ) (l : List Transaction) (x : Refusal) → reading a s l .answer ≡ NotDone x → reading a s l .list ≡ l
+pub unread : (later : Bool) (a : TableRead) (s : List ℕ) (l : List Transaction) (x : Refusal) → reading later a s l .answer ≡ NotDone x → reading later a s l .list ≡ l
 unfolding reading
-unread (Read τ) s l x e = decode-kept τ s l .refused x e
-unread (Refused y) s l x e = refl
+unread later (Read τ) s l x e = decode-kept later τ s l .refused x e
+unread later (Refused y) s l x e = refl
 
 module _ (l : List Transaction) (b₀ b f₀ f : List ℕ) (x : Refusal) where
   unbuilt-checked : (c : Checked) (τ : Table) → BuildsChecked c τ l b₀ b f₀ f (NotBuilt x) → (b ≡ b₀) × (f ≡ f₀)
@@ -93,6 +93,10 @@ group-table-unwritten l s x e =
 pub transaction-unwritten : (t : Transaction) (s : List ℕ) (x : Refusal) → writeTransaction t s .answer ≡ NotWritten x → writeTransaction t s .buffer ≡ s
 unfolding writeTransaction
 transaction-unwritten t s x e = unwritten (transactionRefusal (length s) t) (record { answer = Done 0; buffer = over (transactionBytes t) s }) s x e (done-not 0)
+
+pub later-unwritten : (t : Transaction) (s : List ℕ) (x : Refusal) → writeLater t s .answer ≡ NotWritten x → writeLater t s .buffer ≡ s
+unfolding writeLater
+later-unwritten t s x e = unwritten (laterRefusal (length s) t) (record { answer = Done 0; buffer = over (laterBytes t) s }) s x e (done-not 0)
 
 pub command-unwritten : (c : Command) (s : List ℕ) (x : Refusal) → writeCommand c s .answer ≡ NotWritten x → writeCommand c s .buffer ≡ s
 unfolding writeCommand

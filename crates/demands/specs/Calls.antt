@@ -1,6 +1,7 @@
 -- The public calls on given bytes, as a single list under a single claim: each case of each answer with its numbers, for each two neighbouring
 -- checks of a call an input that fails both, and each limit and one beyond it.
 use Prim.Native.Nat.{ℕ}
+use mathlib.Core.Bool.{false}
 use mathlib.Core.Path.{_≡_}
 use mathlib.Core.List.{List, [], _∷_, _++_}
 use lib.ListN.{length, replicate}
@@ -26,7 +27,8 @@ use Rattle.desk.specs.Running.{starting, running}
 use Rattle.demands.specs.Runs.{NeverRuns}
 use Rattle.desk.specs.Numbers.{telling, tableNumbers, transactionNumbers, commandNumbers, captureRecordNumbers, captureNumbers, startNumbers}
 use Rattle.demands.specs.GroupCalls.{groupCalls}
-use Rattle.demands.specs.Handed.{A, B, C, A50, ccd1, cut, withRfc, R, R200, alone, fine, out, trace, tick, seen, refreshed, gone, told, judges, judgesBytes, Patterns, Traces, bounds, reads, Builds, BuildsBytes, runs, runsBytes, Writes}
+use Rattle.demands.specs.ArrivalCalls.{arrivalCalls}
+use Rattle.demands.specs.Handed.{A, B, C, A50, ccd1, cut, withRfc, R, R200, alone, fine, out, trace, tick, seen, refreshed, gone, lentBefore, told, judges, judgesBytes, Patterns, Traces, bounds, reads, Builds, BuildsBytes, runs, runsBytes, Writes}
 
 -- ---- the calls on one record
 
@@ -45,14 +47,14 @@ recordCalls =
     ∷ Writes (writeTable (house 32 6 1024) (replicate 33 9)) (told 1 0 0) (replicate 33 9)
     ∷ Writes (writeTable (house 32 6 1024) (replicate 32 9)) (told 2 0 0) (replicate 32 9)
     -- a transaction: banks counts as 16; 3 before 4
-    ∷ (transactionNumbers (readTransaction (1 ∷ 15 ∷ 16 ∷ 16 ∷ [])) ≡ telling 0 (1 ∷ 15 ∷ 16 ∷ 16 ∷ []))
+    ∷ (transactionNumbers (readTransaction (1 ∷ 15 ∷ 16 ∷ 16 ∷ [])) ≡ telling 0 (1 ∷ 15 ∷ 16 ∷ 16 ∷ 0 ∷ []))
     ∷ (transactionNumbers (readTransaction (1 ∷ 16 ∷ 1 ∷ 1 ∷ [])) ≡ told 4 0 0)
     ∷ (transactionNumbers (readTransaction (1 ∷ 16 ∷ 1 ∷ 1 ∷ 0 ∷ [])) ≡ told 3 0 0)
     ∷ Writes (writeTransaction fine (replicate 4 9)) (telling 0 []) (0 ∷ 0 ∷ 1 ∷ 1 ∷ [])
     ∷ Writes (writeTransaction (read 16 1 1) (replicate 4 9)) (told 4 0 0) (replicate 4 9)
     ∷ Writes (writeTransaction (read 16 1 1) (replicate 5 9)) (told 3 0 0) (replicate 5 9)
     -- a refresh, "accepted where no table is given"; with BI 1; a type above 2
-    ∷ (transactionNumbers (readTransaction (2 ∷ 0 ∷ 0 ∷ 0 ∷ [])) ≡ telling 0 (2 ∷ 0 ∷ 0 ∷ 0 ∷ []))
+    ∷ (transactionNumbers (readTransaction (2 ∷ 0 ∷ 0 ∷ 0 ∷ [])) ≡ telling 0 (2 ∷ 0 ∷ 0 ∷ 0 ∷ 0 ∷ []))
     ∷ (transactionNumbers (readTransaction (2 ∷ 0 ∷ 1 ∷ 0 ∷ [])) ≡ told 4 0 0)
     ∷ (transactionNumbers (readTransaction (3 ∷ 0 ∷ 1 ∷ 1 ∷ [])) ≡ told 4 0 0)
     ∷ Writes (writeTransaction refresh (replicate 4 9)) (telling 0 []) (2 ∷ 0 ∷ 0 ∷ 0 ∷ [])
@@ -173,20 +175,20 @@ listCalls =
     ∷ (bounds 7 A 1 17 ≡ told 4 0 7)
     ∷ (bounds 7 A 1 0 ≡ told 4 0 7)
     -- transactions read: 10 before 3, 3 before 4; exactly as many places, one more, and one fewer
-    ∷ (reads 8 A (0 ∷ []) [] ≡ told 10 7 7)
-    ∷ (reads 7 A (recordsOf (out ∷ []) ++ (0 ∷ [])) (out ∷ out ∷ []) ≡ told 3 0 7)
-    ∷ (reads 7 A (recordsOf (fine ∷ out ∷ [])) (out ∷ []) ≡ told 3 0 7)
-    ∷ (reads 7 A (recordsOf (fine ∷ out ∷ [])) (out ∷ out ∷ []) ≡ told 4 1 7)
-    ∷ (reads 7 A (recordsOf (fine ∷ fine ∷ [])) (out ∷ out ∷ []) ≡ telling 7 (2 ∷ []))
-    ∷ (reading (admitted 7 A) (recordsOf (fine ∷ fine ∷ [])) (out ∷ out ∷ []) .list ≡ fine ∷ fine ∷ [])
-    ∷ (reading (admitted 7 A) (recordsOf (fine ∷ [])) (out ∷ out ∷ []) .list ≡ fine ∷ out ∷ [])
-    ∷ (reads 7 A [] [] ≡ telling 7 (0 ∷ []))
+    ∷ (reads false 8 A (0 ∷ []) [] ≡ told 10 7 7)
+    ∷ (reads false 7 A (recordsOf false (out ∷ []) ++ (0 ∷ [])) (out ∷ out ∷ []) ≡ told 3 0 7)
+    ∷ (reads false 7 A (recordsOf false (fine ∷ out ∷ [])) (out ∷ []) ≡ told 3 0 7)
+    ∷ (reads false 7 A (recordsOf false (fine ∷ out ∷ [])) (out ∷ out ∷ []) ≡ told 4 1 7)
+    ∷ (reads false 7 A (recordsOf false (fine ∷ fine ∷ [])) (out ∷ out ∷ []) ≡ telling 7 (2 ∷ []))
+    ∷ (reading false (admitted 7 A) (recordsOf false (fine ∷ fine ∷ [])) (out ∷ out ∷ []) .list ≡ fine ∷ fine ∷ [])
+    ∷ (reading false (admitted 7 A) (recordsOf false (fine ∷ [])) (out ∷ out ∷ []) .list ≡ fine ∷ out ∷ [])
+    ∷ (reads false 7 A [] [] ≡ telling 7 (0 ∷ []))
     -- a refresh, and where RFC is 0
-    ∷ (reads 7 R (recordsOf (fine ∷ refresh ∷ [])) (out ∷ out ∷ []) ≡ telling 7 (2 ∷ []))
-    ∷ (reads 7 A (recordsOf (fine ∷ refresh ∷ [])) (out ∷ out ∷ []) ≡ told 4 1 7)
+    ∷ (reads false 7 R (recordsOf false (fine ∷ refresh ∷ [])) (out ∷ out ∷ []) ≡ telling 7 (2 ∷ []))
+    ∷ (reads false 7 A (recordsOf false (fine ∷ refresh ∷ [])) (out ∷ out ∷ []) ≡ told 4 1 7)
     -- 256 transactions as bytes, and one more, with places enough
-    ∷ ((s : List ℕ) (l : List Transaction) → length s ≡ 1024 → length l ≡ 256 → reads 7 A s l .refused ≡ 3 → ⊥)
-    ∷ ((s : List ℕ) (l : List Transaction) → length s ≡ 1028 → length l ≡ 257 → reads 7 A s l ≡ told 3 0 7)
+    ∷ ((s : List ℕ) (l : List Transaction) → length s ≡ 1024 → length l ≡ 256 → reads false 7 A s l .refused ≡ 3 → ⊥)
+    ∷ ((s : List ℕ) (l : List Transaction) → length s ≡ 1028 → length l ≡ 257 → reads false 7 A s l ≡ told 3 0 7)
     ∷ []
 
 -- ---- schedules
@@ -211,15 +213,15 @@ scheduleCalls =
     -- 256 decoded transactions are not too many
     ∷ Builds 7 A (replicate 256 fine) [] [] (told 5 0 7) [] []
     -- the same of a list's bytes
-    ∷ BuildsBytes 8 A (0 ∷ []) [] [] (told 10 7 7) [] []
-    ∷ BuildsBytes 7 A (recordsOf (out ∷ []) ++ (0 ∷ [])) (9 ∷ []) (8 ∷ []) (told 3 0 7) (9 ∷ []) (8 ∷ [])
-    ∷ BuildsBytes 7 A (recordsOf (fine ∷ out ∷ out ∷ [])) (9 ∷ []) (8 ∷ []) (told 4 1 7) (9 ∷ []) (8 ∷ [])
-    ∷ BuildsBytes 7 A (recordsOf (fine ∷ [])) (replicate 15 9) [] (told 5 0 7) (replicate 15 9) []
-    ∷ BuildsBytes 7 A (recordsOf (fine ∷ [])) (replicate 16 9) [] (told 6 0 7) (replicate 16 9) []
-    ∷ BuildsBytes 7 A (recordsOf (fine ∷ [])) (replicate 17 9) (8 ∷ []) (telling 7 (2 ∷ [])) (bytesOfAll one ++ (9 ∷ [])) (24 ∷ [])
-    ∷ BuildsBytes 7 R (recordsOf (refresh ∷ [])) (replicate 8 9) (8 ∷ []) (telling 7 (1 ∷ [])) (bytesOfAll (command 0 Ref 0 0 ∷ [])) (50 ∷ [])
-    ∷ BuildsBytes 7 A (recordsOf (fine ∷ refresh ∷ [])) [] [] (told 4 1 7) [] []
-    ∷ ((s b f : List ℕ) → length s ≡ 1028 → BuildsBytes 7 A s b f (told 3 0 7) b f)
+    ∷ BuildsBytes false 8 A (0 ∷ []) [] [] (told 10 7 7) [] []
+    ∷ BuildsBytes false 7 A (recordsOf false (out ∷ []) ++ (0 ∷ [])) (9 ∷ []) (8 ∷ []) (told 3 0 7) (9 ∷ []) (8 ∷ [])
+    ∷ BuildsBytes false 7 A (recordsOf false (fine ∷ out ∷ out ∷ [])) (9 ∷ []) (8 ∷ []) (told 4 1 7) (9 ∷ []) (8 ∷ [])
+    ∷ BuildsBytes false 7 A (recordsOf false (fine ∷ [])) (replicate 15 9) [] (told 5 0 7) (replicate 15 9) []
+    ∷ BuildsBytes false 7 A (recordsOf false (fine ∷ [])) (replicate 16 9) [] (told 6 0 7) (replicate 16 9) []
+    ∷ BuildsBytes false 7 A (recordsOf false (fine ∷ [])) (replicate 17 9) (8 ∷ []) (telling 7 (2 ∷ [])) (bytesOfAll one ++ (9 ∷ [])) (24 ∷ [])
+    ∷ BuildsBytes false 7 R (recordsOf false (refresh ∷ [])) (replicate 8 9) (8 ∷ []) (telling 7 (1 ∷ [])) (bytesOfAll (command 0 Ref 0 0 ∷ [])) (50 ∷ [])
+    ∷ BuildsBytes false 7 A (recordsOf false (fine ∷ refresh ∷ [])) [] [] (told 4 1 7) [] []
+    ∷ ((s b f : List ℕ) → length s ≡ 1028 → BuildsBytes false 7 A s b f (told 3 0 7) b f)
     ∷ []
 
 -- ---- the running controller
@@ -241,8 +243,8 @@ runCalls =
     ∷ (runs 7 A (gone 7 0 0 0) (fine ∷ out ∷ []) 1 0 ≡ told 4 1 7)
     ∷ (runs 7 A (gone 8 0 0 0) (fine ∷ []) 1 7 ≡ told 5 0 7)
     ∷ (runs 7 A (gone 8 0 0 0) (fine ∷ []) 1 8 ≡ told 9 0 7)
-    ∷ (runs 7 A (gone 7 99999999 0 0) (fine ∷ []) 0 0 ≡ telling 7 (0 ∷ 0 ∷ []))
-    ∷ (runs 7 A (gone 7 100000000 0 0) (fine ∷ []) 0 0 ≡ told 9 0 7)
+    ∷ (runs 7 A (lentBefore 1 (gone 7 99999999 0 0)) (fine ∷ []) 0 0 ≡ telling 7 (0 ∷ 0 ∷ []))
+    ∷ (runs 7 A (lentBefore 1 (gone 7 100000000 0 0)) (fine ∷ []) 0 0 ≡ told 9 0 7)
     ∷ (runs 7 A (gone 7 0 2 0) (fine ∷ []) 0 0 ≡ told 9 0 7)
     ∷ (runs 7 A (gone 7 0 1 2) (fine ∷ []) 0 0 ≡ told 9 0 7)
     ∷ (runs 7 A (gone 7 0 0 1) (fine ∷ []) 0 0 ≡ told 9 0 7)
@@ -266,17 +268,17 @@ runCalls =
     ∷ (runs 7 R (gone 7 0 1 0) (refresh ∷ fine ∷ []) 99 16 ≡ telling 7 (2 ∷ 11 ∷ []))
     ∷ (runs 7 R (gone 7 0 1 1) (refresh ∷ fine ∷ []) 0 0 ≡ told 9 0 7)
     ∷ (runs 7 R (gone 7 0 2 1) (refresh ∷ fine ∷ []) 0 0 ≡ telling 7 (0 ∷ 0 ∷ []))
-    ∷ (runs 7 R (refreshed 7 5 1 0 5) (refresh ∷ fine ∷ []) 0 0 ≡ told 9 0 7)
-    ∷ (runs 7 R (refreshed 7 6 1 0 5) (refresh ∷ fine ∷ []) 99 16 ≡ telling 7 (2 ∷ 60 ∷ []))
+    ∷ (runs 7 R (lentBefore 2 (refreshed 7 5 1 0 5)) (refresh ∷ fine ∷ []) 0 0 ≡ told 9 0 7)
+    ∷ (runs 7 R (lentBefore 2 (refreshed 7 6 1 0 5)) (refresh ∷ fine ∷ []) 99 16 ≡ telling 7 (2 ∷ 60 ∷ []))
     -- the same of a list's bytes
-    ∷ (runsBytes 8 A (gone 7 0 0 0) (0 ∷ []) 1 0 ≡ told 10 7 7)
-    ∷ (runsBytes 7 A (gone 7 0 0 0) (recordsOf (out ∷ []) ++ (0 ∷ [])) 1 0 ≡ told 3 0 7)
-    ∷ (runsBytes 7 A (gone 7 0 0 0) (recordsOf (fine ∷ out ∷ [])) 1 0 ≡ told 4 1 7)
-    ∷ (runsBytes 7 A (gone 8 0 0 0) (recordsOf (fine ∷ [])) 1 7 ≡ told 5 0 7)
-    ∷ (runsBytes 7 A (gone 8 0 0 0) (recordsOf (fine ∷ [])) 1 8 ≡ told 9 0 7)
-    ∷ (runsBytes 7 A (gone 7 0 0 0) (recordsOf (fine ∷ [])) 99 16 ≡ telling 7 (2 ∷ 11 ∷ []))
-    ∷ ((c : Controller) (s : List ℕ) (n room : ℕ) → length s ≡ 1028 → runsBytes 7 A c s n room ≡ told 3 0 7)
+    ∷ (runsBytes false 8 A (gone 7 0 0 0) (0 ∷ []) 1 0 ≡ told 10 7 7)
+    ∷ (runsBytes false 7 A (gone 7 0 0 0) (recordsOf false (out ∷ []) ++ (0 ∷ [])) 1 0 ≡ told 3 0 7)
+    ∷ (runsBytes false 7 A (gone 7 0 0 0) (recordsOf false (fine ∷ out ∷ [])) 1 0 ≡ told 4 1 7)
+    ∷ (runsBytes false 7 A (gone 8 0 0 0) (recordsOf false (fine ∷ [])) 1 7 ≡ told 5 0 7)
+    ∷ (runsBytes false 7 A (gone 8 0 0 0) (recordsOf false (fine ∷ [])) 1 8 ≡ told 9 0 7)
+    ∷ (runsBytes false 7 A (gone 7 0 0 0) (recordsOf false (fine ∷ [])) 99 16 ≡ telling 7 (2 ∷ 11 ∷ []))
+    ∷ ((c : Controller) (s : List ℕ) (n room : ℕ) → length s ≡ 1028 → runsBytes false 7 A c s n room ≡ told 3 0 7)
     ∷ []
 
 abbrev pub calls : List (Type 0)
-calls = All recordCalls ∷ All judgeCalls ∷ All captureCalls ∷ All listCalls ∷ All scheduleCalls ∷ All runCalls ∷ All groupCalls ∷ []
+calls = All recordCalls ∷ All judgeCalls ∷ All captureCalls ∷ All listCalls ∷ All scheduleCalls ∷ All runCalls ∷ All groupCalls ∷ All arrivalCalls ∷ []

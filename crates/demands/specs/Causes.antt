@@ -12,9 +12,9 @@ use Rattle.records.specs.declared.command.Command.{Command}
 use Rattle.records.specs.Tests.{pick, within}
 use Rattle.records.specs.Table.{tableOf, groupTableOf, tableAt, inRange, tableSize, readTable, writeTable, writeGroupTable}
 use Rattle.records.specs.Transaction.{transactionAt, laterAt, recordSize, recordCount, listOf, fitsBy, fitsAfter, fitsFrom, readTransaction, writeTransaction, readLater, writeLater}
-use Rattle.rules.specs.Pieces.{isLate}
 use Rattle.records.specs.Command.{readCommand, writeCommand}
 use Rattle.rules.specs.Queues.{actQueue, dataQueue}
+use Rattle.rules.specs.Pieces.{isLate}
 use Rattle.judge.specs.declared.answer.PatternJudged.{PatternJudged}
 use Rattle.capture.specs.declared.one_record.CaptureRecord.{CaptureRecord}
 use Rattle.capture.specs.Record.{readCaptureRecord, writeCaptureRecord}

@@ -15,11 +15,11 @@ use Rattle.records.specs.declared.transaction.Transaction.{Transaction}
 use Rattle.records.specs.declared.command.Command.{Command}
 use Rattle.records.specs.declared.refusal.Refusal.{Refusal}
 use Rattle.records.specs.declared.refusal.Written.the-variants.{Refused as NotWritten}
-use Rattle.records.specs.Tests.{pick}
+use Rattle.records.specs.Tests.{pick, every}
 use Rattle.records.specs.Told.{refusal}
 use Rattle.records.specs.Little.{num, num32}
 use Rattle.records.specs.Table.{tableAt, inRange, readTable, writeTable, writeGroupTable, Accepted}
-use Rattle.records.specs.Transaction.{transactionsIn, isRefresh, writeTransaction}
+use Rattle.records.specs.Transaction.{listOf, isRefresh, writeTransaction, writeLater}
 use Rattle.records.specs.Command.{commandsIn, bytesOfAll, readCommand, writeCommand}
 use Rattle.rules.specs.declared.state.Stamp.the-variants.{At}
 use Rattle.rules.specs.declared.verdict.Rule.{Rule}
@@ -31,8 +31,8 @@ use Rattle.rules.specs.Pattern.{onto, copy, endToEnd, copies, EveryNumberLegal}
 use Rattle.rules.specs.Queues.{actQueue, dataQueue}
 use Rattle.rules.specs.CycleRule.{Built as IsBuilt}
 use Rattle.rules.specs.Finish.{lastCommand, finishOf, countFrom, finish}
-use Rattle.rules.specs.Bound.{bound, span}
-use Rattle.rules.specs.Promise.{ofFirst, cycleOf, lastCommandCycle}
+use Rattle.rules.specs.Bound.{bound, span, startAt}
+use Rattle.rules.specs.Promise.{ofFirst, cycleOf, lastCommandCycle, arrived}
 use Rattle.rules.specs.Demands.{FineTo}
 use Rattle.judge.specs.declared.answer.Judged.the-variants.{Verdict}
 use Rattle.judge.specs.declared.answer.PatternJudged.{PatternJudged}
@@ -91,23 +91,25 @@ pub record Demand1 (expected : ℕ) (table : List ℕ) : Type 0 where
   pub tableUnwritten : (l s : List ℕ) (x : Refusal) → writeTable l s .answer ≡ NotWritten x → writeTable l s .buffer ≡ s
   pub groupTableUnwritten : (l s : List ℕ) (x : Refusal) → writeGroupTable l s .answer ≡ NotWritten x → writeGroupTable l s .buffer ≡ s
   pub transactionUnwritten : (t : Transaction) (s : List ℕ) (x : Refusal) → writeTransaction t s .answer ≡ NotWritten x → writeTransaction t s .buffer ≡ s
+  pub laterUnwritten : (t : Transaction) (s : List ℕ) (x : Refusal) → writeLater t s .answer ≡ NotWritten x → writeLater t s .buffer ≡ s
   pub commandUnwritten : (c : Command) (s : List ℕ) (x : Refusal) → writeCommand c s .answer ≡ NotWritten x → writeCommand c s .buffer ≡ s
   pub captureUnwritten : (c : CaptureRecord) (s : List ℕ) (x : Refusal) → writeCaptureRecord c s .answer ≡ NotWritten x → writeCaptureRecord c s .buffer ≡ s
-  -- the table's edition, in every answer and every refusal, whichever was expected
+  -- the table's edition, in every answer and every refusal, whichever was expected; bytes of a list are records of 8 where `later`, else of 4
   pub judge : (s : List ℕ) → judgedNumbers (judging (admitted expected table) s) .edition ≡ editionOf (readTable table)
   pub pattern : (s : List ℕ) (L : ℕ) (r : PatternJudged) → PatternTold (admitted expected table) s L r → patternNumbers r .edition ≡ editionOf (readTable table)
   pub capture : (s b : List ℕ) → captureNumbers (capturing (admitted expected table) s b .answer) .edition ≡ editionOf (readTable table)
   pub bound : (bi bc : ℕ) → boundNumbers (bounding (admitted expected table) bi bc) .edition ≡ editionOf (readTable table)
-  pub read : (s : List ℕ) (l : List Transaction) → readNumbers (reading (admitted expected table) s l .answer) .edition ≡ editionOf (readTable table)
+  pub read : (later : Bool) (s : List ℕ) (l : List Transaction) → readNumbers (reading later (admitted expected table) s l .answer) .edition ≡ editionOf (readTable table)
   pub schedule : (l : List Transaction) (b₀ b f₀ f : List ℕ) (r : BuildAnswer) → Schedules (λ τ. checkList τ l) (admitted expected table) l b₀ b f₀ f r
       → buildNumbers r .edition ≡ editionOf (readTable table)
-  pub scheduleBytes : (s b₀ b f₀ f : List ℕ) (r : BuildAnswer) → Schedules (λ τ. checkBytes τ s) (admitted expected table) (transactionsIn s) b₀ b f₀ f r
+  pub scheduleBytes : (later : Bool) (s b₀ b f₀ f : List ℕ) (r : BuildAnswer)
+      → Schedules (λ τ. checkBytes later τ s) (admitted expected table) (listOf later s) b₀ b f₀ f r
       → buildNumbers r .edition ≡ editionOf (readTable table)
   pub start : startNumbers (starting (admitted expected table) .answer) .edition ≡ editionOf (readTable table)
   pub run : (c : Controller) (l : List Transaction) (n : ℕ) (b : List ℕ)
       → runNumbers (running (λ τ. checkList τ l) (admitted expected table) c l n b .told .answer) .edition ≡ editionOf (readTable table)
-  pub runBytes : (c : Controller) (s : List ℕ) (n : ℕ) (b : List ℕ)
-      → runNumbers (running (λ τ. checkBytes τ s) (admitted expected table) c (transactionsIn s) n b .told .answer) .edition ≡ editionOf (readTable table)
+  pub runBytes : (later : Bool) (c : Controller) (s : List ℕ) (n : ℕ) (b : List ℕ)
+      → runNumbers (running (λ τ. checkBytes later τ s) (admitted expected table) c (listOf later s) n b .told .answer) .edition ≡ editionOf (readTable table)
 
 -- the numbers of the rules that a record is tested by, in the order of the tests: rules 11 and 12 "are tested after rule 9" (document 02,
 -- request 5)
@@ -164,19 +166,22 @@ pub record Demand3 (expected : ℕ) (table : List ℕ) (τ : Table) (l : List Tr
   pub later : drop (length l) f ≡ drop (length l) f₀
   -- each transaction has a last read or write command, a refresh its REF
   pub served : (k : ℕ) → k < length l → lastCommand k schedule ≡ At (lastCommandCycle k schedule)
+  -- no command goes before its transaction's arrival (document 02, request 9)
+  pub notBefore : every (arrived l) schedule ≡ true
   -- "each transaction's last read or write command comes no later than its predecessor's last plus the bound .. (for the first, counted from
-  -- cycle 0)", which is what the call `bound` tells of a read or a write; "The promise counts from that finish where the predecessor", w, "is a
-  -- refresh", and a REF comes "within S of where its count starts" (document 02, request 5)
-  pub first : (x : Transaction) → getElem? l 0 ≡ some x → lastCommandCycle 0 schedule ≤ span τ x
+  -- cycle 0)", which is what the call `bound` tells of a read or a write; a REF comes "within S of where its count starts" (document 02, request 5).
+  -- "The bound counts from the later of the arrival and the predecessor's last command (its finish, where the predecessor", w, "is a refresh)"
+  -- (request 9); the first's from its arrival
+  pub first : (x : Transaction) → getElem? l 0 ≡ some x → lastCommandCycle 0 schedule ≤ startAt x 0 + span τ x
   pub next : (k : ℕ) (w x : Transaction) → getElem? l k ≡ some w → getElem? l (suc k) ≡ some x
-      → lastCommandCycle (suc k) schedule ≤ countFrom τ w (lastCommandCycle k schedule) + span τ x
+      → lastCommandCycle (suc k) schedule ≤ startAt x (countFrom τ w (lastCommandCycle k schedule)) + span τ x
   pub told : (k : ℕ) (x : Transaction) → getElem? l k ≡ some x → isRefresh x ≡ false
       → (span τ x ≡ bound τ (x .bi) (x .bc)) × (bounding (admitted expected table) (x .bi) (x .bc) ≡ Bound (τ .edition) (bound τ (x .bi) (x .bc)))
   -- "the promised finish of a read is that limit + RL + B" (document 02, request 4), a write's is that limit, a refresh's that limit + RFC
   -- (request 5): of the finishing cycles in the slice; and 32 bits hold each
-  pub firstFinish : (x : Transaction) → getElem? l 0 ≡ some x → getD f 0 0 ≤ finishOf τ x (span τ x)
+  pub firstFinish : (x : Transaction) → getElem? l 0 ≡ some x → getD f 0 0 ≤ finishOf τ x (startAt x 0 + span τ x)
   pub nextFinish : (k : ℕ) (w x : Transaction) → getElem? l k ≡ some w → getElem? l (suc k) ≡ some x
-      → getD f (suc k) 0 ≤ finishOf τ x (countFrom τ w (lastCommandCycle k schedule) + span τ x)
+      → getD f (suc k) 0 ≤ finishOf τ x (startAt x (countFrom τ w (lastCommandCycle k schedule)) + span τ x)
   pub fits : (k : ℕ) (x : Transaction) → getElem? l k ≡ some x → getD f k 0 < 4294967296
   -- "Transactions added at the end move no command of the earlier ones by a cycle": the schedule of the first j alone
   pub unmoved : (j : ℕ) → IsBuilt τ (take j l) (ofFirst (length (take j l)) schedule)

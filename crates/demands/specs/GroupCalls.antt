@@ -1,6 +1,7 @@
 -- Document 02, request 7: the public calls on tables of 40 bytes, as a single list, which is part of the single claim of `Calls`. Table D has 8
 -- banks in four groups: bank 4 is in the group of bank 0.
 use Prim.Native.Nat.{ℕ}
+use mathlib.Core.Bool.{false}
 use mathlib.Core.Path.{_≡_}
 use mathlib.Core.List.{List, [], _∷_, _++_}
 use lib.ListN.{take, drop, set, replicate}
@@ -18,7 +19,7 @@ use Rattle.lists.specs.Packed.{recordsOf}
 use Rattle.desk.specs.Admit.{admitted}
 use Rattle.desk.specs.Running.{starting, running}
 use Rattle.desk.specs.Numbers.{telling, tableNumbers, startNumbers}
-use Rattle.demands.specs.Handed.{A, D, inGroups, alone, fine, trace, gone, reached, told, judges, judgesBytes, Patterns, Traces, bounds, reads, Builds, BuildsBytes, runs, runsBytes, Writes}
+use Rattle.demands.specs.Handed.{A, D, inGroups, alone, fine, trace, never, gone, reached, lentBefore, told, judges, judgesBytes, Patterns, Traces, bounds, reads, Builds, BuildsBytes, runs, runsBytes, Writes}
 
 -- table D but for its banks and groups
 abbrev pub banked : ℕ → ℕ → List ℕ
@@ -30,10 +31,6 @@ within = command 0 Act 0 0 ∷ command 10 Rda 0 0 ∷ command 20 Act 4 1 ∷ com
 
 abbrev pub across : List Command
 across = command 0 Act 0 0 ∷ command 6 Act 1 1 ∷ command 10 Rda 0 0 ∷ command 16 Rda 1 1 ∷ []
-
--- the number that stands for "never"
-abbrev pub never : ℕ
-never = 4294967295
 
 -- ---- the record of 40 bytes
 
@@ -111,10 +108,10 @@ groupSchedules =
     ∷ (bounds 7 D 1 1 ≡ telling 7 (44 ∷ []))
     ∷ (bounds 7 D 2 1 ≡ telling 7 (65 ∷ []))
     ∷ (bounds 7 D 1 4 ≡ telling 7 (71 ∷ []))
-    ∷ (reads 7 D (recordsOf (fine ∷ [])) (read 8 1 1 ∷ []) ≡ telling 7 (1 ∷ []))
+    ∷ (reads false 7 D (recordsOf false (fine ∷ [])) (read 8 1 1 ∷ []) ≡ telling 7 (1 ∷ []))
     -- a bank of the same group, of records and of bytes; one of another
     ∷ Builds 7 D (read 0 1 1 ∷ read 4 1 1 ∷ []) (replicate 32 9) (8 ∷ 8 ∷ []) (telling 7 (4 ∷ [])) (bytesOfAll within) (24 ∷ 44 ∷ [])
-    ∷ BuildsBytes 7 D (recordsOf (read 0 1 1 ∷ read 4 1 1 ∷ [])) (replicate 33 9) (8 ∷ 8 ∷ []) (telling 7 (4 ∷ [])) (bytesOfAll within ++ (9 ∷ [])) (24 ∷ 44 ∷ [])
+    ∷ BuildsBytes false 7 D (recordsOf false (read 0 1 1 ∷ read 4 1 1 ∷ [])) (replicate 33 9) (8 ∷ 8 ∷ []) (telling 7 (4 ∷ [])) (bytesOfAll within ++ (9 ∷ [])) (24 ∷ 44 ∷ [])
     ∷ Builds 7 D (read 0 1 1 ∷ read 1 1 1 ∷ []) (replicate 32 9) (8 ∷ 8 ∷ []) (telling 7 (4 ∷ [])) (bytesOfAll across) (24 ∷ 30 ∷ [])
     ∷ Builds 7 D (read 0 1 1 ∷ []) (replicate 15 9) [] (told 5 0 7) (replicate 15 9) []
     ∷ []
@@ -125,24 +122,24 @@ abbrev pub groupRuns : List (Type 0)
 groupRuns =
     (startNumbers (starting (admitted 7 D) .answer) ≡ telling 7 [])
     ∷ (starting (admitted 7 D) .controller ≡ gone 7 0 0 0)
-    -- an ACT waits for its group's latest by long RRD, for another group's by RRD
-    ∷ (runs 7 D (reached (gone 7 6 0 0) 0 5 never never) (fine ∷ []) 99 16 ≡ telling 7 (2 ∷ 30 ∷ []))
-    ∷ (runs 7 D (reached (gone 7 6 0 0) 1 5 never never) (fine ∷ []) 99 16 ≡ telling 7 (2 ∷ 16 ∷ []))
+    -- an ACT waits for its group's latest by long RRD, for another group's by RRD. The list was lent before: at arrival 0 it would be late
+    ∷ (runs 7 D (reached (lentBefore 1 (gone 7 6 0 0)) 0 5 never never) (fine ∷ []) 99 16 ≡ telling 7 (2 ∷ 30 ∷ []))
+    ∷ (runs 7 D (reached (lentBefore 1 (gone 7 6 0 0)) 1 5 never never) (fine ∷ []) 99 16 ≡ telling 7 (2 ∷ 16 ∷ []))
     -- and a read for a group's latest read and write: by long CCD and CCD, by long WTR and WTR
-    ∷ (runs 7 D (reached (gone 7 20 0 0) 0 never 19 never) (fine ∷ []) 99 16 ≡ telling 7 (2 ∷ 11 ∷ []))
-    ∷ (runs 7 D (reached (gone 7 20 0 0) 0 never never 19) (fine ∷ []) 99 16 ≡ telling 7 (2 ∷ 25 ∷ []))
-    ∷ (runs 7 D (reached (gone 7 20 0 0) 3 never never 19) (fine ∷ []) 99 16 ≡ telling 7 (2 ∷ 18 ∷ []))
+    ∷ (runs 7 D (reached (lentBefore 1 (gone 7 20 0 0)) 0 never 19 never) (fine ∷ []) 99 16 ≡ telling 7 (2 ∷ 11 ∷ []))
+    ∷ (runs 7 D (reached (lentBefore 1 (gone 7 20 0 0)) 0 never never 19) (fine ∷ []) 99 16 ≡ telling 7 (2 ∷ 25 ∷ []))
+    ∷ (runs 7 D (reached (lentBefore 1 (gone 7 20 0 0)) 3 never never 19) (fine ∷ []) 99 16 ≡ telling 7 (2 ∷ 18 ∷ []))
     -- number 9: each stored cycle of the table's groups, and none past them
-    ∷ (runs 7 D (reached (gone 7 5 0 0) 3 5 never never) (fine ∷ []) 0 0 ≡ told 9 0 7)
-    ∷ (runs 7 D (reached (gone 7 5 0 0) 3 never 5 never) (fine ∷ []) 0 0 ≡ told 9 0 7)
-    ∷ (runs 7 D (reached (gone 7 5 0 0) 3 never never 5) (fine ∷ []) 0 0 ≡ told 9 0 7)
-    ∷ (runs 7 D (reached (gone 7 5 0 0) 4 5 5 5) (fine ∷ []) 0 0 ≡ telling 7 (0 ∷ 0 ∷ []))
-    ∷ (runs 7 A (reached (gone 7 5 0 0) 1 5 5 5) (fine ∷ []) 99 16 ≡ telling 7 (2 ∷ 11 ∷ []))
-    ∷ (runs 7 A (reached (gone 7 5 0 0) 0 5 never never) (fine ∷ []) 0 0 ≡ told 9 0 7)
+    ∷ (runs 7 D (reached (lentBefore 1 (gone 7 5 0 0)) 3 5 never never) (fine ∷ []) 0 0 ≡ told 9 0 7)
+    ∷ (runs 7 D (reached (lentBefore 1 (gone 7 5 0 0)) 3 never 5 never) (fine ∷ []) 0 0 ≡ told 9 0 7)
+    ∷ (runs 7 D (reached (lentBefore 1 (gone 7 5 0 0)) 3 never never 5) (fine ∷ []) 0 0 ≡ told 9 0 7)
+    ∷ (runs 7 D (reached (lentBefore 1 (gone 7 5 0 0)) 4 5 5 5) (fine ∷ []) 0 0 ≡ telling 7 (0 ∷ 0 ∷ []))
+    ∷ (runs 7 A (reached (lentBefore 1 (gone 7 5 0 0)) 1 5 5 5) (fine ∷ []) 99 16 ≡ telling 7 (2 ∷ 11 ∷ []))
+    ∷ (runs 7 A (reached (lentBefore 1 (gone 7 5 0 0)) 0 5 never never) (fine ∷ []) 0 0 ≡ told 9 0 7)
     -- "nothing kept past the table's groups is read or changed"
-    ∷ (running (λ τ. checkList τ (fine ∷ [])) (admitted 7 D) (reached (gone 7 5 0 0) 4 1 2 3) (fine ∷ []) 99 (replicate 16 9) .told .controller .groups
+    ∷ (running (λ τ. checkList τ (fine ∷ [])) (admitted 7 D) (reached (lentBefore 1 (gone 7 5 0 0)) 4 1 2 3) (fine ∷ []) 99 (replicate 16 9) .told .controller .groups
     ≡ set (set (gone 7 0 0 0 .groups) 0 (record { act = 5; rd = 15; wr = never })) 4 (record { act = 1; rd = 2; wr = 3 }))
-    ∷ (runsBytes 7 D (gone 7 0 0 0) (recordsOf (fine ∷ [])) 99 16 ≡ telling 7 (2 ∷ 11 ∷ []))
+    ∷ (runsBytes false 7 D (gone 7 0 0 0) (recordsOf false (fine ∷ [])) 99 16 ≡ telling 7 (2 ∷ 11 ∷ []))
     ∷ []
 
 abbrev pub groupCalls : List (Type 0)

@@ -1,5 +1,6 @@
 -- What the worked calls are handed, and how what they tell is written.
 use Prim.Native.Nat.{ℕ}
+use mathlib.Core.Bool.{Bool}
 use mathlib.Core.Path.{_≡_}
 use mathlib.Core.List.{List, [], _∷_, _++_}
 use lib.ListN.{take, set, replicate}
@@ -7,7 +8,7 @@ use Rattle.records.specs.declared.transaction.Transaction.{Transaction}
 use Rattle.records.specs.declared.command.Command.{Command}
 use Rattle.records.specs.Told.{refusal, Wrote}
 use Rattle.records.specs.Little.{bytes16}
-use Rattle.records.specs.Transaction.{transactionsIn}
+use Rattle.records.specs.Transaction.{listOf}
 use Rattle.records.specs.Command.{bytesOfAll}
 use Rattle.records.specs.House.{house, numbersA, numbersB, numbersC, numbersD}
 use Rattle.rules.specs.Worked.{read}
@@ -86,8 +87,12 @@ tick t = captureRecord t 255 0
 abbrev pub seen : ℕ → ℕ → CaptureRecord
 seen t kind = captureRecord t kind 0
 
+-- the number that stands for "never"
+abbrev pub never : ℕ
+never = 4294967295
+
 -- a controller of an edition and a cycle, from whose queues so many commands have gone, and whose last REF went at a cycle; nothing else has
--- happened to it
+-- happened to it, and nothing was lent to it before
 abbrev pub refreshed : ℕ → ℕ → ℕ → ℕ → ℕ → Controller
 refreshed e t acts datas c =
     record {
@@ -95,16 +100,16 @@ refreshed e t acts datas c =
       cycle = t;
       acts = acts;
       datas = datas;
-      banks = replicate 16 (record { opened = 0; act = 4294967295; rd = 4294967295; wr = 4294967295 });
-      last = replicate 4 4294967295;
-      groups = replicate 8 (record { act = 4294967295; rd = 4294967295; wr = 4294967295 });
+      banks = replicate 16 (record { opened = 0; act = never; rd = never; wr = never });
+      last = replicate 4 never;
+      groups = replicate 8 (record { act = never; rd = never; wr = never });
       refresh = c;
       lent = 0;
     }
 
 -- and one that never had a REF
 abbrev pub gone : ℕ → ℕ → ℕ → ℕ → Controller
-gone e t acts datas = refreshed e t acts datas 4294967295
+gone e t acts datas = refreshed e t acts datas never
 
 -- a controller, but for the latest ACT, RD and WR of a group
 abbrev pub reached : Controller → ℕ → ℕ → ℕ → ℕ → Controller
@@ -119,6 +124,21 @@ reached c g act rd wr =
       groups = set (c .groups) g (record { act = act; rd = rd; wr = wr });
       refresh = c .refresh;
       lent = c .lent;
+    }
+
+-- a controller, but that so many transactions were lent to it before
+abbrev pub lentBefore : ℕ → Controller → Controller
+lentBefore n c =
+    record {
+      edition = c .edition;
+      cycle = c .cycle;
+      acts = c .acts;
+      datas = c .datas;
+      banks = c .banks;
+      last = c .last;
+      groups = c .groups;
+      refresh = c .refresh;
+      lent = n;
     }
 
 -- ---- what is told
@@ -144,23 +164,24 @@ Traces e t s b₀ n b = (captureNumbers (capturing (admitted e t) s b₀ .answer
 abbrev pub bounds : ℕ → List ℕ → ℕ → ℕ → Numbers
 bounds e t bi bc = boundNumbers (bounding (admitted e t) bi bc)
 
-abbrev pub reads : ℕ → List ℕ → List ℕ → List Transaction → Numbers
-reads e t s l = readNumbers (reading false (admitted e t) s l .answer)
+-- bytes of a list are records of 8 where `later`, else of 4
+abbrev pub reads : Bool → ℕ → List ℕ → List ℕ → List Transaction → Numbers
+reads later e t s l = readNumbers (reading later (admitted e t) s l .answer)
 
 -- whatever answer and buffers keep the promise, the answer tells these numbers and the buffers hold b and f
 abbrev pub Builds : ℕ → List ℕ → List Transaction → List ℕ → List ℕ → Numbers → List ℕ → List ℕ → Type 0
 Builds e t l b₀ f₀ n b f =
     (r : BuildAnswer) (b' f' : List ℕ) → Schedules (λ τ. checkList τ l) (admitted e t) l b₀ b' f₀ f' r → (buildNumbers r ≡ n) × (b' ≡ b) × (f' ≡ f)
 
-abbrev pub BuildsBytes : ℕ → List ℕ → List ℕ → List ℕ → List ℕ → Numbers → List ℕ → List ℕ → Type 0
-BuildsBytes e t s b₀ f₀ n b f =
-    (r : BuildAnswer) (b' f' : List ℕ) → Schedules (λ τ. checkBytes false τ s) (admitted e t) (transactionsIn s) b₀ b' f₀ f' r → (buildNumbers r ≡ n) × (b' ≡ b) × (f' ≡ f)
+abbrev pub BuildsBytes : Bool → ℕ → List ℕ → List ℕ → List ℕ → List ℕ → Numbers → List ℕ → List ℕ → Type 0
+BuildsBytes later e t s b₀ f₀ n b f =
+    (r : BuildAnswer) (b' f' : List ℕ) → Schedules (λ τ. checkBytes later τ s) (admitted e t) (listOf later s) b₀ b' f₀ f' r → (buildNumbers r ≡ n) × (b' ≡ b) × (f' ≡ f)
 
 abbrev pub runs : ℕ → List ℕ → Controller → List Transaction → ℕ → ℕ → Numbers
 runs e t c l n room = runNumbers (running (λ τ. checkList τ l) (admitted e t) c l n (replicate room 9) .told .answer)
 
-abbrev pub runsBytes : ℕ → List ℕ → Controller → List ℕ → ℕ → ℕ → Numbers
-runsBytes e t c s n room = runNumbers (running (λ τ. checkBytes false τ s) (admitted e t) c (transactionsIn s) n (replicate room 9) .told .answer)
+abbrev pub runsBytes : Bool → ℕ → List ℕ → Controller → List ℕ → ℕ → ℕ → Numbers
+runsBytes later e t c s n room = runNumbers (running (λ τ. checkBytes later τ s) (admitted e t) c (listOf later s) n (replicate room 9) .told .answer)
 
 abbrev pub Writes : Wrote → Numbers → List ℕ → Type 0
 Writes w n b = (writtenNumbers (w .answer) ≡ n) × (w .buffer ≡ b)

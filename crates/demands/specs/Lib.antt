@@ -5,6 +5,7 @@ pub mod Pieces
 pub mod Traces
 pub mod Handed
 pub mod GroupCalls
+pub mod ArrivalCalls
 pub mod Calls
 pub mod OneGroup
 pub mod Pins

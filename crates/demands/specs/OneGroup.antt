@@ -2,6 +2,7 @@
 -- has one group, each long number equal to its short one, is answered as the 32 bytes before. (That these are answered as before there were
 -- groups is `OneGroupBefore`, in `rules`.)
 use Prim.Native.Nat.{ℕ}
+use mathlib.Core.Bool.{Bool}
 use mathlib.Core.Path.{_≡_}
 use mathlib.Core.Logic.{_↔_}
 use mathlib.Core.List.{List}
@@ -35,7 +36,7 @@ pub record AnsweredAs (expected : ℕ) (table plain : List ℕ) : Type 0 where
   pub pattern : (s : List ℕ) (L : ℕ) (r : PatternJudged) → PatternTold (admitted expected table) s L r ↔ PatternTold (admitted expected plain) s L r
   pub capture : (s b : List ℕ) → capturing (admitted expected table) s b ≡ capturing (admitted expected plain) s b
   pub bound : (bi bc : ℕ) → bounding (admitted expected table) bi bc ≡ bounding (admitted expected plain) bi bc
-  pub read : (s : List ℕ) (l : List Transaction) → reading (admitted expected table) s l ≡ reading (admitted expected plain) s l
+  pub read : (later : Bool) (s : List ℕ) (l : List Transaction) → reading later (admitted expected table) s l ≡ reading later (admitted expected plain) s l
   pub schedule : (check : Table → Checked) (l : List Transaction) (b₀ b f₀ f : List ℕ) (r : BuildAnswer)
       → Schedules check (admitted expected table) l b₀ b f₀ f r ↔ Schedules check (admitted expected plain) l b₀ b f₀ f r
   pub start : starting (admitted expected table) ≡ starting (admitted expected plain)

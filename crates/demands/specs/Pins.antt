@@ -1,6 +1,7 @@
 -- Document 02, request 8, of the public calls: what `judge`, `judge_pattern` and `judge_capture` accept, and what `schedule` and `run` write, keeps
 -- the data pins. `PinsKept` is that no two bursts share a cycle and that at least two free cycles lie between a read's burst and a following write's.
 use Prim.Native.Nat.{ℕ, _*_, _≤_, _<_}
+use mathlib.Core.Bool.{Bool}
 use mathlib.Core.Path.{_≡_}
 use mathlib.Core.List.{List, []}
 use lib.ListN.{length, getD, take}
@@ -8,7 +9,7 @@ use Rattle.records.specs.declared.table.Table.{Table}
 use Rattle.records.specs.declared.transaction.Transaction.{Transaction}
 use Rattle.records.specs.declared.command.Command.{Command}
 use Rattle.records.specs.Told.{over}
-use Rattle.records.specs.Transaction.{transactionsIn}
+use Rattle.records.specs.Transaction.{listOf}
 use Rattle.records.specs.Command.{commandsIn, bytesOfAll}
 use Rattle.rules.specs.declared.verdict.Verdict.the-variants.{Accepted as Passed}
 use Rattle.rules.specs.declared.verdict.PatternVerdict.the-variants.{Accepted as AllPassed}
@@ -52,10 +53,10 @@ pub record PinsOfCalls (expected : ℕ) (table : List ℕ) (τ : Table) : Type 0
   -- the commands of a capture that is accepted, which stand in the room. (Every element of s is a byte.)
   pub capture : (s b : List ℕ) (e n : ℕ) → ((i : ℕ) → getD s i 0 < 256) → capturing (admitted expected table) s b .answer ≡ CaptureVerdict e n Passed
       → (rs : List Command) × (n ≡ length rs) × (capturing (admitted expected table) s b .buffer ≡ over (bytesOfAll rs) b) × PinsKept τ rs
-  -- every schedule that is written
+  -- every schedule that is written, of a list with arrivals too; its bytes are records of 8 where `later`, else of 4
   pub schedule : (l : List Transaction) (b₀ b f₀ f : List ℕ) (e n : ℕ) → Schedules (λ τ. checkList τ l) (admitted expected table) l b₀ b f₀ f (Built e n)
       → StartKept τ n b
-  pub scheduleBytes : (s b₀ b f₀ f : List ℕ) (e n : ℕ) → Schedules (λ τ. checkBytes τ s) (admitted expected table) (transactionsIn s) b₀ b f₀ f (Built e n)
-      → StartKept τ n b
+  pub scheduleBytes : (later : Bool) (s b₀ b f₀ f : List ℕ) (e n : ℕ)
+      → Schedules (λ τ. checkBytes later τ s) (admitted expected table) (listOf later s) b₀ b f₀ f (Built e n) → StartKept τ n b
   pub run : (l : List Transaction) → RunKept expected table τ (λ τ. checkList τ l) l
-  pub runBytes : (s : List ℕ) → RunKept expected table τ (λ τ. checkBytes τ s) (transactionsIn s)
+  pub runBytes : (later : Bool) (s : List ℕ) → RunKept expected table τ (λ τ. checkBytes later τ s) (listOf later s)

@@ -44,4 +44,8 @@ each-case =
     ⨾ refl
     ⨾ refl
     ⨾ refl
+    ⨾ refl
+    ⨾ refl
+    ⨾ refl
+    ⨾ refl
     ⨾ tt

@@ -5,22 +5,22 @@ use mathlib.Core.Bool.{Bool, true, false}
 use mathlib.Core.Path.{_≡_, refl, _∙_}
 use mathlib.Core.List.{List}
 use native.Mathlib.Omega.{arith}
-use lib.Dec.{leb, eqb}
+use lib.Dec.{eqb}
 use lib.ListN.{length}
-use borrow.Author.Tests.{leb-true, eqb-true}
+use borrow.Author.Tests.{eqb-true}
 use Rattle.records.specs.declared.table.Table.{Table}
 use Rattle.records.specs.declared.table.TableRead.{TableRead}
 use Rattle.records.specs.declared.table.TableRead.the-variants.{Read, Refused}
 use Rattle.records.specs.declared.transaction.Transaction.{Transaction}
 use Rattle.records.specs.declared.refusal.Refusal.{Refusal}
-use Rattle.records.specs.Tests.{every, pick}
+use Rattle.records.specs.Tests.{pick}
 use Rattle.records.specs.Told.{refusal, over}
 use Rattle.records.specs.Table.{Accepted}
-use Rattle.records.specs.Transaction.{transactionsIn, fits, listFits}
+use Rattle.records.specs.Transaction.{listOf, listFits}
 use Rattle.records.specs.Command.{bytesOfAll}
+use Rattle.records.proofs.Arrivals.{few-listed}
 use Rattle.rules.specs.Verdict.{judge}
 use Rattle.rules.specs.Queues.{actQueue, dataQueue}
-use Rattle.rules.proofs.TestLaws.{and-fst}
 use Rattle.rules.proofs.Queue.{act-length, data-length}
 use Rattle.rules.proofs.Built.{each-fits, built-count}
 use Rattle.heads.proofs.Laws.{acts-most, datas-most}
@@ -45,9 +45,8 @@ module _ (l : List Transaction) (b₀ b f₀ f : List ℕ) where
   -- 256 transactions of at most 16 ACTs and 256 data commands
   due-few : (τ : Table) → Accepted τ → listFits τ l ≡ true → length (actQueue τ l) + length (dataQueue τ l) ≤ 69632
   due-few τ acc fit =
-      let few = leb-true (length l) 256 (and-fst (leb (length l) 256) (every (fits τ) l) fit) in
       let each = each-fits τ acc l fit in
-      omega (arith, few, act-length τ l, data-length τ l, acts-most τ l each, datas-most τ l each)
+      omega (arith, few-listed τ l fit, act-length τ l, data-length τ l, acts-most τ l each, datas-most τ l each)
 
   leaves-few : (τ : Table) → Accepted τ → listFits τ l ≡ true → (v : BuildAnswer) → LeavesBuild τ l b₀ b f₀ f v → countOf v ≤ 69632
   leaves-few τ acc fit (Built e n) h =
@@ -68,12 +67,12 @@ module _ (l : List Transaction) (b₀ b f₀ f : List ℕ) where
   schedules-few check fit (Read τ) acc v h = checked-few τ (acc τ refl) (check τ) (fit τ) v h
   schedules-few check fit (Refused x) acc v h = nothing-few x v h
 
--- of the list's bytes s, and of a list l
+-- of the list's bytes s, records of 8 where `later`, else of 4, and of a list l
 module _ (expected : ℕ) (table b₀ b f₀ f : List ℕ) (v : BuildAnswer) where
-  pub few-of-bytes : (s : List ℕ) → Schedules (λ τ. checkBytes τ s) (admitted expected table) (transactionsIn s) b₀ b f₀ f v → countOf v < 4294967296
-  few-of-bytes s h =
-      let few = schedules-few (transactionsIn s) b₀ b f₀ f (λ τ. checkBytes τ s)
-      (λ τ e. fine-fits τ (transactionsIn s) (into-list τ s 256 (into-256 τ s ∙ e))) (admitted expected table) (read-accepted expected table) v h in
+  pub few-of-bytes : (later : Bool) (s : List ℕ) → Schedules (λ τ. checkBytes later τ s) (admitted expected table) (listOf later s) b₀ b f₀ f v → countOf v < 4294967296
+  few-of-bytes later s h =
+      let few = schedules-few (listOf later s) b₀ b f₀ f (λ τ. checkBytes later τ s)
+      (λ τ e. fine-fits τ (listOf later s) (into-list later τ s 256 (into-256 later τ s ∙ e))) (admitted expected table) (read-accepted expected table) v h in
       omega (arith, few)
 
   pub few-of-list : (l : List Transaction) → Schedules (λ τ. checkList τ l) (admitted expected table) l b₀ b f₀ f v → countOf v < 4294967296

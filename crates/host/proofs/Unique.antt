@@ -5,7 +5,7 @@ use mathlib.Core.Path.{_≡_, sym, ap, _∙_}
 use mathlib.Core.List.{List}
 use Rattle.records.specs.Told.{Wrote}
 use Rattle.records.specs.Table.{readTable, writeTable, writeGroupTable}
-use Rattle.records.specs.Transaction.{transaction, readTransaction, writeTransaction, transactionsIn}
+use Rattle.records.specs.Transaction.{transaction, arriving, readTransaction, writeTransaction, readLater, writeLater, listOf}
 use Rattle.records.specs.Command.{command, kindOf, readCommand, writeCommand}
 use Rattle.records.proofs.Unique.{one-answer}
 use Rattle.capture.specs.Record.{captureRecord, readCaptureRecord, writeCaptureRecord}
@@ -38,6 +38,8 @@ only-record s =
       groupTableWritten = λ l. one-written (writeGroupTable l s);
       transactionRead = one-answer (ofTransaction (readTransaction s));
       transactionWritten = λ kind start bi bc. one-written (writeTransaction (transaction kind start bi bc) s);
+      laterRead = one-answer (ofTransaction (readLater s));
+      laterWritten = λ kind start bi bc arrival. one-written (writeLater (arriving (transaction kind start bi bc) arrival) s);
       commandRead = one-answer (ofCommand (readCommand s));
       commandWritten = λ cycle kind bank number. one-written (writeCommand (command cycle (kindOf kind) bank number) s);
       captureRecordRead = one-answer (ofCaptureRecord (readCaptureRecord s));
@@ -53,20 +55,20 @@ only expected table =
           let w = capturing (admitted expected table) s b₀ in
           (one-answer (captureOf (w .answer)) x y (p .0) (q .0), one-answer (w .buffer) b d (p .1) (q .1));
       bound = λ bi bc. one-answer (ofBound (bounding (admitted expected table) bi bc));
-      readTransactions = λ s l x y b d p q.
-          let w = reading (admitted expected table) s l in
+      readTransactions = λ later s l x y b d p q.
+          let w = reading later (admitted expected table) s l in
           (one-answer (ofRead (w .answer)) x y (p .0) (q .0), one-answer (w .list) b d (p .1) (q .1));
       schedule = λ l b₀ f₀ x y b d f g p q.
           let k = desk-only expected table .schedule l b₀ f₀ (p .0) (q .0) b d f g (p .1) (q .1) in
           (made ofBuild (p .0) (q .0) x y (k .0) (p .2) (q .2), k .1, k .2);
-      scheduleBytes = λ s b₀ f₀ x y b d f g p q.
-          let k = desk-only expected table .scheduleBytes s b₀ f₀ (p .0) (q .0) b d f g (p .1) (q .1) in
+      scheduleBytes = λ later s b₀ f₀ x y b d f g p q.
+          let k = desk-only expected table .scheduleBytes later s b₀ f₀ (p .0) (q .0) b d f g (p .1) (q .1) in
           (made ofBuild (p .0) (q .0) x y (k .0) (p .2) (q .2), k .1, k .2);
       start = one-answer (startOf (starting (admitted expected table)));
       run = λ c₀ l n b₀ x y c e b d p q.
           let w = running (λ τ. checkList τ l) (admitted expected table) c₀ l n b₀ in
           (one-answer (ofRun (w .told .answer)) x y (p .0) (q .0), one-answer (w .told .controller) c e (p .1) (q .1), one-answer (w .buffer) b d (p .2) (q .2));
-      runBytes = λ c₀ s n b₀ x y b d p q.
-          let w = running (λ τ. checkBytes τ s) (admitted expected table) c₀ (transactionsIn s) n b₀ in
+      runBytes = λ later c₀ s n b₀ x y b d p q.
+          let w = running (λ τ. checkBytes later τ s) (admitted expected table) c₀ (listOf later s) n b₀ in
           (one-answer (runOf (w .told)) x y (p .0) (q .0), one-answer (w .buffer) b d (p .1) (q .1));
     }

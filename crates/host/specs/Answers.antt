@@ -16,7 +16,6 @@ use Rattle.capture.specs.declared.one_record.CaptureRecordRead.{CaptureRecordRe
 use Rattle.builder.specs.declared.bound.BoundAnswer.{BoundAnswer}
 use Rattle.builder.specs.declared.build.BuildAnswer.{BuildAnswer}
 use Rattle.lists.specs.declared.decode.Decoded.{Decoded}
-use Rattle.lists.specs.declared.decode.Plan.{Plan}
 use Rattle.controller.specs.declared.run.RunTold.{RunTold}
 use Rattle.controller.specs.declared.run.RunAnswer.{RunAnswer as RunSaid}
 use Rattle.desk.specs.declared.running.StartTold.{StartTold}
@@ -29,7 +28,6 @@ use Rattle.host.specs.declared.reader.CommandAnswer.{CommandAnswer}
 use Rattle.host.specs.declared.reader.CaptureRecordAnswer.{CaptureRecordAnswer}
 use Rattle.host.specs.declared.answer.StartAnswer.{StartAnswer}
 use Rattle.host.specs.declared.answer.RunAnswer.{RunAnswer}
-use Rattle.host.specs.declared.transactions.PlanTold.{PlanTold}
 
 -- a value of an answer, 0 where it has none
 abbrev pub value : Numbers → ℕ → ℕ
@@ -61,7 +59,16 @@ ofTable (NoTable x) = tableAnswer (tableNumbers (NoTable x)) (replicate 20 0)
 
 abbrev pub transactionAnswer : Numbers → TransactionAnswer
 transactionAnswer a =
-    record { refused = a .refused; position = a .position; edition = a .edition; kind = value a 0; start = value a 1; bi = value a 2; bc = value a 3 }
+    record {
+      refused = a .refused;
+      position = a .position;
+      edition = a .edition;
+      kind = value a 0;
+      start = value a 1;
+      bi = value a 2;
+      bc = value a 3;
+      arrival = value a 4;
+    }
 
 abbrev pub ofTransaction : TransactionRead → TransactionAnswer
 ofTransaction r = transactionAnswer (transactionNumbers r)
@@ -86,9 +93,6 @@ ofCaptureRecord r = captureRecordAnswer (captureRecordNumbers r)
 
 abbrev pub ofRead : Decoded → Answer
 ofRead r = answering (readNumbers r)
-
-abbrev pub planOf : Plan → PlanTold
-planOf p = record { n = p .n; answer = ofRead (p .answer) }
 
 -- how many commands were written
 abbrev pub countOf : BuildAnswer → ℕ

@@ -10,7 +10,7 @@ use Rattle.records.specs.declared.transaction.TransactionRead.the-variants.{Rea
 use Rattle.records.specs.declared.command.Kind.the-variants.{Wra, Ref}
 use Rattle.records.specs.declared.command.CommandRead.the-variants.{Read as CommandIs, Refused as NoCommand}
 use Rattle.records.specs.Told.{refusal}
-use Rattle.records.specs.Transaction.{transaction}
+use Rattle.records.specs.Transaction.{transaction, arriving}
 use Rattle.records.specs.Command.{command}
 use Rattle.records.specs.House.{numbersA, numbersD, tableA, tableD}
 use Rattle.rules.specs.declared.verdict.Rule.the-variants.{Rc, Rrd, Refresh, Rfc}
@@ -24,12 +24,14 @@ use Rattle.capture.specs.Record.{captureRecord}
 use Rattle.builder.specs.declared.bound.BoundAnswer.the-variants.{Bound, Refused as NoBound}
 use Rattle.builder.specs.declared.build.BuildAnswer.the-variants.{Built, Refused as NotBuilt}
 use Rattle.lists.specs.declared.decode.Decoded.the-variants.{Done as Stored, Refused as NotStored}
+use Rattle.controller.specs.declared.controller.Controller.{Controller}
 use Rattle.controller.specs.declared.run.RunAnswer.the-variants.{Ran, Refused as NotRun}
 use Rattle.desk.specs.declared.running.StartAnswer.the-variants.{Started, Refused as NotStarted}
 use Rattle.host.specs.declared.answer.Answer.{Answer}
+use Rattle.host.specs.declared.reader.TransactionAnswer.{TransactionAnswer}
 use Rattle.host.specs.declared.verdict.VerdictAnswer.{VerdictAnswer}
 use Rattle.host.specs.declared.verdict.CaptureAnswer.{CaptureAnswer}
-use Rattle.host.specs.Answers.{ofWritten, ofTable, ofTransaction, ofCommand, ofCaptureRecord, ofRead, ofBuild, ofBound, ofStart, ofRun}
+use Rattle.host.specs.Answers.{ofWritten, ofTable, ofTransaction, ofCommand, ofCaptureRecord, ofRead, ofBuild, ofBound, ofStart, ofRun, runOf}
 use Rattle.host.specs.Verdicts.{verdictOf, patternOf, captureOf}
 
 -- number, position, edition, count, cycles
@@ -44,6 +46,16 @@ verdict n p e rule copy i = record { refused = n; position = p; edition = e; rul
 abbrev pub traced : ℕ → ℕ → ℕ → ℕ → ℕ → ℕ → CaptureAnswer
 traced n p e c rule i = record { refused = n; position = p; edition = e; count = c; rule = rule; «record» = i }
 
+-- number, position, edition, type, start, BI, BC, arrival
+abbrev pub transactionTold : ℕ → ℕ → ℕ → ℕ → ℕ → ℕ → ℕ → ℕ → TransactionAnswer
+transactionTold n p e kind start bi bc arrival =
+    record { refused = n; position = p; edition = e; kind = kind; start = start; bi = bi; bc = bc; arrival = arrival }
+
+-- a controller that was lent so many transactions before
+abbrev pub lentOf : ℕ → Controller
+lentOf n =
+    record { edition = 7; cycle = 9; acts = 0; datas = 0; banks = []; last = []; groups = []; refresh = 0; lent = n }
+
 -- a refusal with three different numbers
 abbrev pub no3 : Refusal
 no3 = refusal 3 5 7
@@ -56,8 +68,10 @@ cases =
     ∷ (ofTable (TableIs tableA) ≡ record { refused = 0; position = 0; edition = 7; numbers = numbersA ++ (1 ∷ 4 ∷ 6 ∷ 6 ∷ []) })
     ∷ (ofTable (TableIs tableD) ≡ record { refused = 0; position = 0; edition = 7; numbers = numbersD })
     ∷ (ofTable (NoTable no3) ≡ record { refused = 3; position = 5; edition = 7; numbers = replicate 20 0 })
-    ∷ (ofTransaction (TransactionIs (transaction 1 2 3 4)) ≡ record { refused = 0; position = 0; edition = 0; kind = 1; start = 2; bi = 3; bc = 4 })
-    ∷ (ofTransaction (NoTransaction no3) ≡ record { refused = 3; position = 5; edition = 7; kind = 0; start = 0; bi = 0; bc = 0 })
+    -- a transaction of 4 bytes arrives at 0
+    ∷ (ofTransaction (TransactionIs (transaction 1 2 3 4)) ≡ transactionTold 0 0 0 1 2 3 4 0)
+    ∷ (ofTransaction (TransactionIs (arriving (transaction 1 2 3 4) 20000000)) ≡ transactionTold 0 0 0 1 2 3 4 20000000)
+    ∷ (ofTransaction (NoTransaction no3) ≡ transactionTold 3 5 7 0 0 0 0 0)
     ∷ (ofCommand (CommandIs (command 10 Wra 2 3)) ≡ record { refused = 0; position = 0; edition = 0; cycle = 10; kind = 4; bank = 2; number = 3 })
     ∷ (ofCommand (CommandIs (command 10 Ref 0 3)) ≡ record { refused = 0; position = 0; edition = 0; cycle = 10; kind = 5; bank = 0; number = 3 })
     ∷ (ofCommand (NoCommand no3) ≡ record { refused = 3; position = 5; edition = 7; cycle = 0; kind = 0; bank = 0; number = 0 })
@@ -73,6 +87,11 @@ cases =
     ∷ (ofStart (NotStarted no3) ≡ plain 3 5 7 0 0)
     ∷ (ofRun (Ran (record { edition = 7; commands = 2; cycles = 11 })) ≡ plain 0 0 7 2 11)
     ∷ (ofRun (NotRun no3) ≡ plain 3 5 7 0 0)
+    -- a late piece
+    ∷ (ofRun (NotRun (refusal 12 0 7)) ≡ plain 12 0 7 0 0)
+    -- a controller is handed back with how many were lent before
+    ∷ (runOf (record { controller = lentOf 5; answer = Ran (record { edition = 7; commands = 2; cycles = 11 }) }) .controller .lent ≡ 5)
+    ∷ (runOf (record { controller = lentOf 5; answer = NotRun (refusal 12 0 7) }) .controller .lent ≡ 5)
     -- a verdict on a schedule names no copy
     ∷ (verdictOf (Says 7 Accepted) ≡ verdict 0 0 7 0 0 0)
     ∷ (verdictOf (Says 7 (Refused Rc 3)) ≡ verdict 0 0 7 5 0 3)

@@ -15,6 +15,8 @@ use capture::one_record::write_capture_record;
 use commands::command::read_command;
 use commands::command::write_command;
 use records::group_table::write_group_table;
+use records::later::read_later;
+use records::later::write_later;
 use records::table::read_table;
 use records::table::write_table;
 use records::transaction::Transaction;
@@ -22,7 +24,7 @@ use records::transaction::read_transaction;
 use records::transaction::write_transaction;
 ghost use mathlib.Core.Path.{_≡_};
 ghost use Rattle.records.specs.Table.{readTable, writeTable, writeGroupTable};
-ghost use Rattle.records.specs.Transaction.{transaction, readTransaction, writeTransaction};
+ghost use Rattle.records.specs.Transaction.{transaction, arriving, readTransaction, writeTransaction, readLater, writeLater};
 ghost use Rattle.records.specs.Command.{kindOf, command, readCommand, writeCommand};
 ghost use Rattle.capture.specs.Record.{captureRecord, readCaptureRecord, writeCaptureRecord};
 ghost use Rattle.host.specs.Answers.{ofTable, ofTransaction, ofCommand, ofCaptureRecord};
@@ -85,8 +87,38 @@ pub extern "C" fn skv_write_transaction(
         start: start,
         bi: bi,
         bc: bc,
+        arrival: 0,
     };
     of_written(write_transaction(x, out))
+}
+
+// The transaction of 8 bytes.
+#[no_mangle]
+pub extern "C" fn skv_read_later(bytes: &[u8]) -> TransactionAnswer
+    ensures { λ r. ⌜ r ≡ ofTransaction (readLater (now (bytes .entry))) ⌝ }
+{
+    of_transaction(read_later(bytes))
+}
+
+#[no_mangle]
+pub extern "C" fn skv_write_later(
+    kind: u8,
+    start: u8,
+    bi: u8,
+    bc: u8,
+    arrival: u32,
+    out: &mut [u8],
+) -> Answer
+    ensures { λ r. ⌜ Writes (writeLater (arriving (transaction kind start bi bc) arrival) (now (out .entry))) r (now (out .exit)) ⌝ }
+{
+    let x = Transaction {
+        kind: kind,
+        start: start,
+        bi: bi,
+        bc: bc,
+        arrival: arrival,
+    };
+    of_written(write_later(x, out))
 }
 
 #[no_mangle]

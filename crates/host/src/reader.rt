@@ -30,6 +30,8 @@ pub struct TransactionAnswer {
     pub start: u8,
     pub bi: u8,
     pub bc: u8,
+    // Of one of 4 bytes 0.
+    pub arrival: u32,
 }
 
 #[repr(C)]
@@ -117,6 +119,7 @@ pub fn of_transaction(a: TransactionRead) -> TransactionAnswer
             start: t.start,
             bi: t.bi,
             bc: t.bc,
+            arrival: t.arrival,
         },
         TransactionRead::Refused(x) => {
             let r = refused(x);
@@ -128,6 +131,7 @@ pub fn of_transaction(a: TransactionRead) -> TransactionAnswer
                 start: 0,
                 bi: 0,
                 bc: 0,
+                arrival: 0,
             }
         }
     }

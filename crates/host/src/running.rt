@@ -8,10 +8,12 @@ use crate::answer::start_of;
 use controller::controller::Controller;
 use desk::running::run;
 use desk::running::run_bytes;
+use desk::running::run_later_bytes;
 use desk::running::start;
 use records::transaction::Transaction;
+ghost use mathlib.Core.Bool.{true, false};
 ghost use mathlib.Core.Path.{_≡_};
-ghost use Rattle.records.specs.Transaction.{transactionsIn};
+ghost use Rattle.records.specs.Transaction.{transactionsIn, laterIn};
 ghost use Rattle.lists.specs.Check.{checkList, checkBytes};
 ghost use Rattle.desk.specs.Admit.{admitted};
 ghost use Rattle.desk.specs.Running.{starting, running};
@@ -26,7 +28,7 @@ pub extern "C" fn skv_start(expected: u16, table: &[u8]) -> StartAnswer
     start_of(start(expected, table))
 }
 
-// The controller handed in and back.
+// The controller handed in and back, over the bytes of transactions of 4.
 #[no_mangle]
 pub extern "C" fn skv_run_bytes(
     c: Controller,
@@ -36,9 +38,24 @@ pub extern "C" fn skv_run_bytes(
     count: u32,
     room: &mut [u8],
 ) -> RunAnswer
-    ensures { λ r. ⌜ RunsBack (running (λ τ. checkBytes τ (now (list .entry))) (admitted expected (now (table .entry))) c (transactionsIn (now (list .entry))) count (now (room .entry))) r (now (room .exit)) ⌝ }
+    ensures { λ r. ⌜ RunsBack (running (λ τ. checkBytes false τ (now (list .entry))) (admitted expected (now (table .entry))) c (transactionsIn (now (list .entry))) count (now (room .entry))) r (now (room .exit)) ⌝ }
 {
     run_of(run_bytes(c, expected, table, list, count, room))
+}
+
+// Of transactions of 8 bytes.
+#[no_mangle]
+pub extern "C" fn skv_run_later_bytes(
+    c: Controller,
+    expected: u16,
+    table: &[u8],
+    list: &[u8],
+    count: u32,
+    room: &mut [u8],
+) -> RunAnswer
+    ensures { λ r. ⌜ RunsBack (running (λ τ. checkBytes true τ (now (list .entry))) (admitted expected (now (table .entry))) c (laterIn (now (list .entry))) count (now (room .entry))) r (now (room .exit)) ⌝ }
+{
+    run_of(run_later_bytes(c, expected, table, list, count, room))
 }
 
 // "The host lends its running controller": it is run where it lies, over a lent run of records.

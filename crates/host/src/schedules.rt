@@ -3,12 +3,15 @@ use crate::answer::Answer;
 use crate::answer::of_build;
 use desk::schedules::schedule;
 use desk::schedules::schedule_bytes;
+use desk::schedules::schedule_later_bytes;
 use records::transaction::Transaction;
-ghost use Rattle.records.specs.Transaction.{transactionsIn};
+ghost use mathlib.Core.Bool.{true, false};
+ghost use Rattle.records.specs.Transaction.{transactionsIn, laterIn};
 ghost use Rattle.lists.specs.Check.{checkList, checkBytes};
 ghost use Rattle.desk.specs.Admit.{admitted};
 ghost use Rattle.host.specs.Promises.{Scheduled};
 
+// Of transactions of 4 bytes.
 #[no_mangle]
 pub extern "C" fn skv_schedule_bytes(
     expected: u16,
@@ -17,9 +20,23 @@ pub extern "C" fn skv_schedule_bytes(
     commands: &mut [u8],
     finishes: &mut [u32],
 ) -> Answer
-    ensures { λ r. ⌜ Scheduled (λ τ. checkBytes τ (now (list .entry))) (admitted expected (now (table .entry))) (transactionsIn (now (list .entry))) (now (commands .entry)) (now (commands .exit)) (now (finishes .entry)) (now (finishes .exit)) r ⌝ }
+    ensures { λ r. ⌜ Scheduled (λ τ. checkBytes false τ (now (list .entry))) (admitted expected (now (table .entry))) (transactionsIn (now (list .entry))) (now (commands .entry)) (now (commands .exit)) (now (finishes .entry)) (now (finishes .exit)) r ⌝ }
 {
     of_build(schedule_bytes(expected, table, list, commands, finishes))
+}
+
+// Of transactions of 8 bytes.
+#[no_mangle]
+pub extern "C" fn skv_schedule_later_bytes(
+    expected: u16,
+    table: &[u8],
+    list: &[u8],
+    commands: &mut [u8],
+    finishes: &mut [u32],
+) -> Answer
+    ensures { λ r. ⌜ Scheduled (λ τ. checkBytes true τ (now (list .entry))) (admitted expected (now (table .entry))) (laterIn (now (list .entry))) (now (commands .entry)) (now (commands .exit)) (now (finishes .entry)) (now (finishes .exit)) r ⌝ }
+{
+    of_build(schedule_later_bytes(expected, table, list, commands, finishes))
 }
 
 // Of a lent run of records.

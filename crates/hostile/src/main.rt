@@ -1,26 +1,31 @@
 // Hands hostile bytes to the readers and the writers of the desk, and writes a line on what each answers.
 //
-// Standard input, of which 65,536 bytes are read at most, is a sequence of cases, `[call][n][n bytes]`. Calls 1, 3 and 5 read a table,
-// a transaction and a command from the n bytes. Calls 2, 4, 6 and 7 write a table of 32 bytes, a transaction, a command and a table of 40
-// bytes: the values come first, in 32, 4, 8 or 40 bytes, and the rest is the buffer. The line is `case` for any other call, for a write
-// whose bytes are too few for the values or leave more than 64 for the buffer, and for a case that the input cuts short, which is the last.
+// Standard input, of which 65,536 bytes are read at most, is a sequence of cases, `[call][n][n bytes]`. Calls 1, 3, 5 and 8 read a table,
+// a transaction of 4 bytes, a command and a transaction of 8 bytes from the n bytes. Calls 2, 4, 6, 7 and 9 write a table of 32 bytes, a
+// transaction of 4, a command, a table of 40 bytes and a transaction of 8: the values come first, in 32, 4, 8, 40 or 8 bytes, and the rest is
+// the buffer. The line is `case` for any other call, for a write whose bytes are too few for the values or leave more than 64 for the buffer,
+// and for a case that the input cuts short, which is the last.
 mod told;
 
 use desk::read_command;
+use desk::read_later;
 use desk::read_table;
 use desk::read_transaction;
 use desk::write_command;
 use desk::write_group_table;
+use desk::write_later;
 use desk::write_table;
 use desk::write_transaction;
 use libc::STDIN_FILENO;
 use records::command::CommandRead;
+use records::later::later_at;
 use records::little::from_le32;
 use records::little::num_at;
 use records::table::TableRead;
 use records::transaction::TransactionRead;
 use records::transaction::transaction_at;
 use told::command;
+use told::later;
 use told::numbers;
 use told::refused;
 use told::text;
@@ -69,6 +74,8 @@ fn one_case(call: u8, s: &[u8]) {
         5 => command_line(read_command(s)),
         6 => write_command_line(s),
         7 => write_group_table_line(s),
+        8 => later_line(read_later(s)),
+        9 => write_later_line(s),
         _ => no_case(),
     }
 }
@@ -90,6 +97,15 @@ fn transaction_line(answer: TransactionRead) {
     text(b"read_transaction");
     match answer {
         TransactionRead::Read(x) => transaction(x),
+        TransactionRead::Refused(r) => refused(r),
+    }
+    text(b"\n");
+}
+
+fn later_line(answer: TransactionRead) {
+    text(b"read_later");
+    match answer {
+        TransactionRead::Read(x) => later(x),
         TransactionRead::Refused(r) => refused(r),
     }
     text(b"\n");
@@ -158,6 +174,25 @@ fn write_transaction_line(s: &[u8]) {
     let x = transaction_at(s, 0);
     let answer = write_transaction(x, room);
     text(b"write_transaction");
+    written(answer, room);
+}
+
+fn write_later_line(s: &[u8]) {
+    let from = 8;
+    if s.len() < from {
+        no_case();
+        return;
+    }
+    if 64 < s.len() - from {
+        no_case();
+        return;
+    }
+    let mut space = [0u8; 64];
+    let n = fill(&s[from..], &mut space);
+    let room = &mut space[..n];
+    let x = later_at(s, 0);
+    let answer = write_later(x, room);
+    text(b"write_later");
     written(answer, room);
 }
 

@@ -37,6 +37,12 @@ pub(crate) fn transaction(x: Transaction) {
     small(x.bc);
 }
 
+pub(crate) fn later(x: Transaction) {
+    let arrival = x.arrival;
+    transaction(x);
+    long(arrival);
+}
+
 pub(crate) fn command(c: Command) {
     let k = c.kind;
     long(c.cycle);

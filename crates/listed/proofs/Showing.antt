@@ -2,7 +2,7 @@
 -- Assumes nothing.
 use Prim.Native.Nat.{ℕ, _/_}
 use mathlib.Core.Path.{_≡_, refl, sym, ap, _∙_}
-use mathlib.Core.Bool.{true}
+use mathlib.Core.Bool.{true, false}
 use mathlib.Core.Logic.{inl, inr}
 use mathlib.Core.List.{List, []}
 use native.Mathlib.Omega.{arith}
@@ -17,7 +17,7 @@ use Rattle.records.specs.Table.{Accepted}
 use Rattle.records.specs.Transaction.{transactionsIn, listFits}
 use Rattle.records.specs.Command.{commandsFrom, bytesOfAll}
 use Rattle.rules.proofs.Promises.{kept}
-use Rattle.heads.proofs.Laws.{length-from}
+use Rattle.records.proofs.Listed.{length-list}
 use Rattle.engine.specs.Build.{finishesFrom}
 use Rattle.records.proofs.Written.{read-back}
 use Rattle.engine.proofs.Schedule.{ours, readable, finishes-length}
@@ -54,11 +54,11 @@ module _ (τ : Table) (acc : Accepted τ) (l : List Transaction) (fit : listFits
       ∙ ap (λ (rs : List Command). scheduleText (τ .edition) rs (take m f)) commands-back
       ∙ ap (scheduleText (τ .edition) (x .schedule)) (finishes-back m p)
 
-bytes-fit : (s : List ℕ) (τ : Table) → checkBytes τ s ≡ Fine → listFits τ (transactionsIn s) ≡ true
-bytes-fit s τ e = fine-fits τ (transactionsIn s) (into-list τ s 256 (into-256 τ s ∙ e))
+bytes-fit : (s : List ℕ) (τ : Table) → checkBytes false τ s ≡ Fine → listFits τ (transactionsIn s) ≡ true
+bytes-fit s τ e = fine-fits τ (transactionsIn s) (into-list false τ s 256 (into-256 false τ s ∙ e))
 
 module _ (expected : ℕ) (table list : List ℕ) (b f text : List ℕ) (e n : ℕ) (is : text ≡ scheduleText e (commandsFrom b n 0) (take (length list / 4) f)) where
-  by-check : (τ : Table) → admitted expected table ≡ Read τ → (c : Checked) → checkBytes τ list ≡ c
+  by-check : (τ : Table) → admitted expected table ≡ Read τ → (c : Checked) → checkBytes false τ list ≡ c
       → BuildsChecked c τ (transactionsIn list) (replicate 65536 0) b (replicate 256 0) f (Built e n) → ShowsSchedule expected table list text
   unfolding BuildsChecked
   by-check τ r Fine k h =
@@ -68,21 +68,21 @@ module _ (expected : ℕ) (table list : List ℕ) (b f text : List ℕ) (e n : �
         admits = r;
         schedule = x .schedule;
         built = x .built;
-        is = is ∙ text-back τ (read-accepted expected table τ r) (transactionsIn list) (bytes-fit list τ k) (replicate 65536 0) b (replicate 256 0) f n x e (length list / 4) (sym (length-from list (length list / 4) 0)) (h .1);
+        is = is ∙ text-back τ (read-accepted expected table τ r) (transactionsIn list) (bytes-fit list τ k) (replicate 65536 0) b (replicate 256 0) f n x e (length list / 4) (sym (length-list list false)) (h .1);
       }
   by-check τ r (NotFine y) k h = let z = h .0 in let w : _≡_ {A = ℕ} 0 1 = cc in absurd (omega arith)
 
   by-table : (a : TableRead) → admitted expected table ≡ a
-      → Schedules (λ τ. checkBytes τ list) a (transactionsIn list) (replicate 65536 0) b (replicate 256 0) f (Built e n) → ShowsSchedule expected table list text
+      → Schedules (λ τ. checkBytes false τ list) a (transactionsIn list) (replicate 65536 0) b (replicate 256 0) f (Built e n) → ShowsSchedule expected table list text
   unfolding Schedules
-  by-table (Read τ) r h = by-check τ r (checkBytes τ list) refl h
+  by-table (Read τ) r h = by-check τ r (checkBytes false τ list) refl h
   by-table (NoTable y) r h = let z = h .0 in let w : _≡_ {A = ℕ} 0 1 = cc in absurd (omega arith)
 
 pub shows : (expected : ℕ) (table list text : List ℕ) → ListsCall expected table list text → Shows expected table list text
 unfolding answerText
 shows expected table list text c = by (c .answer) (c .schedules) (c .is)
   where
-    by : (r : BuildAnswer) → Schedules (λ τ. checkBytes τ list) (admitted expected table) (transactionsIn list) (replicate 65536 0) (c .room) (replicate 256 0) (c .finishes) r
+    by : (r : BuildAnswer) → Schedules (λ τ. checkBytes false τ list) (admitted expected table) (transactionsIn list) (replicate 65536 0) (c .room) (replicate 256 0) (c .finishes) r
         → text ≡ answerText r (c .room) (take (length list / 4) (c .finishes)) → Shows expected table list text
     by (Built e n) h is = inr (by-table expected table list (c .room) (c .finishes) text e n is (admitted expected table) refl h)
     by (Refused x) h is = inl (x, is)

@@ -1,7 +1,7 @@
 -- The call's answer is what is told, and its text has room.
 -- Assumes nothing.
 use Prim.Native.Nat.{ℕ, _+_, _-_, _*_, _/_, _≤_, _<_}
-use mathlib.Core.Bool.{Bool}
+use mathlib.Core.Bool.{Bool, false}
 use mathlib.Core.Path.{_≡_, sym, ap, _∙_, subst}
 use mathlib.Core.List.{List, _++_}
 use native.Mathlib.Omega.{arith}
@@ -31,7 +31,7 @@ writes is text r s l h p = (text, h, p .place ∙ zero-add (length text), p .lef
 -- ---- the call
 
 module _ (expected : ℕ) (table list room finishes : List ℕ) (r : BuildAnswer)
-    (h : Schedules (λ τ. checkBytes τ list) (admitted expected table) (transactionsIn list) (replicate 65536 0) room (replicate 256 0) finishes r) where
+    (h : Schedules (λ τ. checkBytes false τ list) (admitted expected table) (transactionsIn list) (replicate 65536 0) room (replicate 256 0) finishes r) where
   pub call-built : (e n : ℕ) → r ≡ Built e n → ListsCall expected table list (scheduleText e (commandsFrom room n 0) (take (length list / 4) finishes))
   unfolding answerText
   call-built e n p =
@@ -58,7 +58,7 @@ module _ (expected : ℕ) (table list room finishes : List ℕ) (r : BuildAnswer
   pub call-room : (e n size : ℕ) → r ≡ Built e n → length room ≡ 65536 → length finishes ≡ 256 → 262144 ≤ size
       → (8 * n ≤ length room) × (length list / 4 ≤ length finishes) × (44 + 25 * n + 39 * (length list / 4) ≤ size)
   call-room e n size p a b c =
-      let k = built-room expected table list (replicate 65536 0) room (replicate 256 0) finishes r e n h p in (k .0, k .1, omega arith)
+      let k = built-room expected table false list (replicate 65536 0) room (replicate 256 0) finishes r e n h p in (k .0, k .1, omega arith)
 
 -- ---- its bytes
 

@@ -25,7 +25,7 @@ call-only expected table list x y p q =
   where
     same : (p .answer ≡ q .answer) × (p .room ≡ q .room) × (p .finishes ≡ q .finishes)
     same =
-        desk-only expected table .scheduleBytes list (replicate 65536 0) (replicate 256 0) (p .answer) (q .answer) (p .room) (q .room) (p .finishes) (q .finishes)
+        desk-only expected table .scheduleBytes false list (replicate 65536 0) (replicate 256 0) (p .answer) (q .answer) (p .room) (q .room) (p .finishes) (q .finishes)
         (p .schedules) (q .schedules)
 
 text-only : (input x y : List ℕ) → Lists input x → Lists input y → x ≡ y

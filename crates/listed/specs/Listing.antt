@@ -1,6 +1,8 @@
 -- "The listing program reads standard input, table first and transactions after, with 64 KiB of command room." It takes the expected edition "as
--- two bytes before the table; fewer than two get number 1" (document 02, request 1).
+-- two bytes before the table; fewer than two get number 1" (document 02, request 1). "The 4-byte record is arrival 0, and the listing program keeps
+-- it" (request 9).
 use Prim.Native.Nat.{ℕ, _/_}
+use mathlib.Core.Bool.{false}
 use mathlib.Core.Path.{_≡_}
 use mathlib.Core.List.{List}
 use lib.Dec.{ltb}
@@ -29,7 +31,7 @@ pub record ListsCall (expected : ℕ) (table list text : List ℕ) : Type 0 wher
   pub room : List ℕ
   pub finishes : List ℕ
   pub schedules :
-      Schedules (λ τ. checkBytes τ list) (admitted expected table) (transactionsIn list) (replicate 65536 0) room (replicate 256 0) finishes answer
+      Schedules (λ τ. checkBytes false τ list) (admitted expected table) (transactionsIn list) (replicate 65536 0) room (replicate 256 0) finishes answer
   pub is : text ≡ answerText answer room (take (length list / 4) finishes)
 
 -- the text for the bytes behind the expected edition: the first 32 are the table, or all where there are fewer; the rest are the transactions

@@ -198,6 +198,24 @@ module _ (τ : Table) (l : List Transaction) (s : State) where
       (λ k. let z : c + (n - c) ≡ n = omega arith in sym (run-stays c (n - c) e) ∙ ap (λ (y : ℕ). run y τ l s []) z)
       (λ k. ap (λ (y : ℕ). run y τ l s []) (k .1) ∙ run-stays n (k .0) g) (from? c n)
 
+-- a run is the run of as many cycles as it reports
+pub run-counted : (n : ℕ) (τ : Table) (l : List Transaction) (s : State) (h : List Command) → run n τ l s h ≡ run (run n τ l s h .cycles) τ l s h
+run-counted zero τ l s h = refl
+run-counted (suc n) τ l s h = on (stops τ l s) refl (run-counted n τ l (after τ s (goes τ l s)) (push (goes τ l s) h))
+  where
+    next : Ran
+    next = run n τ l (after τ s (goes τ l s)) (push (goes τ l s) h)
+
+    on : (b : Bool) → stops τ l s ≡ b → next ≡ run (next .cycles) τ l (after τ s (goes τ l s)) (push (goes τ l s) h)
+        → run (suc n) τ l s h ≡ run (run (suc n) τ l s h .cycles) τ l s h
+    on true e ih = stopped (suc n) τ l s h e ∙ ap (λ (r : Ran). run (r .cycles) τ l s h) (sym (stopped (suc n) τ l s h e))
+    on false e ih =
+        going n τ l s h e
+        ∙ (ap oneMore ih
+        ∙ (sym (going (next .cycles) τ l s h e)
+        ∙ (ap (λ (k : ℕ). run k τ l s h) (let z : suc (next .cycles) ≡ oneMore next .cycles = omega arith in z)
+        ∙ ap (λ (r : Ran). run (r .cycles) τ l s h) (sym (going n τ l s h e)))))
+
 -- a run that stops short of its count has stopped by itself
 full : (n : ℕ) (τ : Table) (l : List Transaction) (s : State) (h : List Command) → (run n τ l s h .cycles ≡ n) ⊎ (stops τ l (run n τ l s h .state) ≡ true)
 full zero τ l s h = inl refl

@@ -2,31 +2,63 @@
 use crate::told::command_lines;
 use crate::told::count;
 use crate::told::long;
+use crate::told::name;
 use crate::told::number;
 use crate::told::refused;
 use crate::told::room_in;
 use crate::told::text;
 use builder::build::BuildAnswer;
 use desk::schedule_bytes;
+use desk::schedule_later_bytes;
+ghost use mathlib.Core.Path.{_≡_};
 ghost use Prim.Native.Nat.{_*_, _≤_};
 ghost use lib.ListN.{length};
 ghost use Rattle.io.specs.Counts.{Counts};
+ghost use Rattle.records.specs.Transaction.{recordCount, listOf};
+ghost use Rattle.lists.specs.Check.{checkBytes};
+ghost use Rattle.desk.specs.Admit.{admitted};
+ghost use Rattle.desk.specs.Schedules.{Schedules};
 
-// A list that fits has at most 256 transactions, so that more slots than 256 are as good as 256.
-pub(crate) fn lines(expected: u16, table: &[u8], room: u16, slots: u16, list: &[u8]) {
-    text(b"build");
+// The transactions have 8 bytes where `later`, else 4. A list that fits has at most 256 of them, so that more slots than 256 are as good as 256.
+pub(crate) fn lines(later: bool, expected: u16, table: &[u8], room: u16, slots: u16, list: &[u8]) {
+    name(b"build", later);
     let mut bytes = io::large_buffer();
     let mut places = [0u32; 256];
     let k = room_in(room, &bytes);
     let m = places_in(slots, &places);
     let commands = &mut bytes[..k];
     let finishes = &mut places[..m];
-    let n = list.len() / 4;
-    let answer = schedule_bytes(expected, table, list, commands, finishes);
+    let n = count_of(later, list);
+    let answer = schedule_of(expected, table, later, list, commands, finishes);
     match answer {
         BuildAnswer::Built(edition, written) => built(edition, commands, written, finishes, n),
         BuildAnswer::Refused(r) => refused(r),
     }
+}
+
+fn count_of(later: bool, list: &[u8]) -> usize
+    ensures { λ r. ⌜ r ≡ recordCount later (length (now (list .entry))) ⌝ }
+{
+    if later {
+        return list.len() / 8;
+    }
+    list.len() / 4
+}
+
+fn schedule_of(
+    expected: u16,
+    table: &[u8],
+    later: bool,
+    list: &[u8],
+    commands: &mut [u8],
+    finishes: &mut [u32],
+) -> BuildAnswer
+    ensures { λ r. ⌜ Schedules (λ τ. checkBytes later τ (now (list .entry))) (admitted expected (now (table .entry))) (listOf later (now (list .entry))) (now (commands .entry)) (now (commands .exit)) (now (finishes .entry)) (now (finishes .exit)) r ⌝ }
+{
+    if later {
+        return schedule_later_bytes(expected, table, list, commands, finishes);
+    }
+    schedule_bytes(expected, table, list, commands, finishes)
 }
 
 fn built(edition: u16, commands: &[u8], written: usize, finishes: &[u32], n: usize)

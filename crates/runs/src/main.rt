@@ -1,9 +1,10 @@
 // Hands hostile lists, states and buffers to the calls that build, run and tell the bound, and writes lines on what each answers.
 //
-// Standard input, of which 131,072 bytes are read at most, is a sequence of cases, `[call][expected: u16][t: u8]` and then, for call 1, a build,
-// `[room: u16][slots: u16][n: u16][t bytes][n bytes]`; for call 2, a run, `[count: u32][room: u16][n: u16][state: 338 bytes][t bytes][n bytes]`;
-// for call 3, a bound, `[BI][BC][t bytes]`. The t bytes are the table, the rooms are in bytes, the n bytes are the transactions. The line is
-// `case` for any other call, and for a case that the input cuts short: nothing after it is read.
+// Standard input, of which 196,608 bytes are read at most, is a sequence of cases, `[call][expected: u16][t: u8]` and then, for call 1, a build,
+// `[room: u16][slots: u16][n: u16][t bytes][n bytes]`; for call 2, a run, `[count: u32][room: u16][n: u16][state: 342 bytes][t bytes][n bytes]`;
+// for call 3, a bound, `[BI][BC][t bytes]`. The t bytes are the table, the rooms are in bytes, the n bytes are the transactions, of 4 bytes each;
+// calls 4 and 5 are a build and a run of transactions of 8 bytes. The line is `case` for any other call, and for a case that the input cuts
+// short: nothing after it is read.
 mod build;
 mod run;
 mod state;
@@ -23,7 +24,7 @@ ghost use Prim.Native.Nat.{_≤_, _<_};
 ghost use lib.ListN.{length};
 
 fn main() {
-    let mut input = [0u8; 131072];
+    let mut input = [0u8; 196608];
     let n = io::read_full(STDIN_FILENO, &mut input);
     all_cases(&input[..n]);
 }
@@ -46,9 +47,11 @@ fn one_case(s: &[u8]) -> usize
     ensures { λ r. ⌜ r ≤ length (now (s .entry)) ⌝ }
 {
     match s[0] {
-        1 => build_case(s),
-        2 => run_case(s),
+        1 => build_case(false, s),
+        2 => run_case(false, s),
         3 => bound_case(s),
+        4 => build_case(true, s),
+        5 => run_case(true, s),
         _ => 0,
     }
 }
@@ -65,7 +68,7 @@ fn table_size(n: u8) -> usize
     n as usize
 }
 
-fn build_case(s: &[u8]) -> usize
+fn build_case(later: bool, s: &[u8]) -> usize
     ensures { λ r. ⌜ r ≤ length (now (s .entry)) ⌝ }
 {
     let table = 10;
@@ -79,14 +82,21 @@ fn build_case(s: &[u8]) -> usize
     }
     let room = num_at(s, 4);
     let slots = num_at(s, 6);
-    build::lines(num_at(s, 1), &s[table..from], room, slots, &s[from..end]);
+    build::lines(
+        later,
+        num_at(s, 1),
+        &s[table..from],
+        room,
+        slots,
+        &s[from..end],
+    );
     end
 }
 
-fn run_case(s: &[u8]) -> usize
+fn run_case(later: bool, s: &[u8]) -> usize
     ensures { λ r. ⌜ r ≤ length (now (s .entry)) ⌝ }
 {
-    let table = 350;
+    let table = 354;
     if s.len() < table {
         return 0;
     }
@@ -97,8 +107,9 @@ fn run_case(s: &[u8]) -> usize
     }
     let count = long_at(s, 4);
     let room = num_at(s, 8);
-    let state = controller_at(&s[12..350]);
+    let state = controller_at(&s[12..354]);
     run::lines(
+        later,
         num_at(s, 1),
         &s[table..from],
         count,

@@ -1,4 +1,4 @@
-// The 338 bytes of a state, and its line.
+// The 342 bytes of a state, and its line.
 use crate::told::first;
 use crate::told::long;
 use crate::told::text;
@@ -17,7 +17,7 @@ pub(crate) fn long_at(s: &[u8], at: usize) -> u32
 }
 
 pub(crate) fn controller_at(s: &[u8]) -> Controller
-    requires { ⌜ 338 ≤ length (now s) ⌝ }
+    requires { ⌜ 342 ≤ length (now s) ⌝ }
 {
     let banks = banks_at(s);
     let groups = groups_at(s);
@@ -35,6 +35,7 @@ pub(crate) fn controller_at(s: &[u8]) -> Controller
         ],
         groups: groups,
         refresh: long_at(s, 334),
+        lent: long_at(s, 338),
     }
 }
 
@@ -106,6 +107,7 @@ pub(crate) fn state_line(c: Controller) {
     long(c.last[3]);
     all_groups(groups);
     long(c.refresh);
+    long(c.lent);
     text(b"\n");
 }
 

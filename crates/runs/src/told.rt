@@ -16,6 +16,14 @@ pub(crate) fn room_in(n: u16, s: &[u8]) -> usize
     if n < s.len() { n } else { s.len() }
 }
 
+// The call's name.
+pub(crate) fn name(s: &[u8], later: bool) {
+    text(s);
+    if later {
+        text(b"_later");
+    }
+}
+
 // The first n commands of the bytes.
 pub(crate) fn command_lines(s: &[u8], n: usize)
     requires { ⌜ 8 * n ≤ length (now s) ⌝ }

@@ -115,6 +115,13 @@ fn order(cases: &mut Cases) {
     put(&late, &list, 31);
     put(&late, &falls, 0);
     put(&late, &list[..12], 0);
+    // "Numbers 3 and 4 are read over the whole list", what was lent before too.
+    let mut lent = late.clone();
+    for before in [1, 2] {
+        lent.lent = before;
+        put(&lent, &falls, 32);
+        put(&lent, &list[..12], 32);
+    }
     for expected in [8, 0] {
         let put = |cases: &mut Cases| cases.run(&TABLE_A, 9, 32, &late, &list);
         cases.later(|cases| cases.expecting(expected, put));

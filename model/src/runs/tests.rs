@@ -99,3 +99,82 @@ fn every_refusal() {
         }
     }
 }
+
+/// What the runs of the stored cases were asked and told.
+struct Met {
+    of_record: usize,
+    count: u32,
+    state: Controller,
+    list: Vec<u8>,
+    answer: Result<String, Refusal>,
+}
+
+fn runs() -> Vec<Met> {
+    let input = cases();
+    let mut rest = Bytes(&input);
+    let mut met = Vec::new();
+    while let Some(case) = first_case(&mut rest) {
+        let (_, answer) = told(&case);
+        if let Asked::Run {
+            of_record,
+            count,
+            state,
+            list,
+            ..
+        } = case.asked
+        {
+            met.push(Met {
+                of_record,
+                count,
+                state: *state,
+                list: list.to_vec(),
+                answer,
+            });
+        }
+    }
+    met
+}
+
+/// Late by one, in time by none, and empty, where some cycles are run and where none is; and the numbers that go before 12.
+#[test]
+fn pieces_in_time_and_late() {
+    let mut met = BTreeSet::new();
+    for run in runs() {
+        let lent = run.state.lent as usize;
+        let records: Vec<&[u8]> = run.list.chunks_exact(run.of_record).collect();
+        let new = |x: &&[u8]| i64::from(Transaction::of(x).arrival) - i64::from(run.state.cycle);
+        let number = run.answer.map_or_else(|r| r.number, |_| 0);
+        // How long after the state's cycle the first new one arrives: none, for an empty piece.
+        let after = records.get(lent).map(new);
+        if run.list.len() % run.of_record == 0 && lent <= records.len() {
+            assert!(number != 12 || after < Some(0) && after.is_some());
+            met.insert((run.of_record, after, run.count > 0, number));
+        }
+    }
+    for some in [false, true] {
+        assert!(met.contains(&(LATER, Some(-1), some, 12)));
+        for in_time in [Some(0), Some(1), None] {
+            assert!(met.contains(&(LATER, in_time, some, 0)));
+        }
+    }
+    assert!(met.contains(&(LATER, Some(-1), true, 9)));
+    // "Numbers 3 and 4 are read over the whole list", also where nothing of it is new.
+    assert!(met.contains(&(LATER, Some(-1), true, 4)) && met.contains(&(LATER, None, true, 4)));
+    assert!(met.contains(&(PLAIN, Some(-1), true, 12)) && met.contains(&(PLAIN, Some(0), true, 0)));
+}
+
+/// Every run that is not refused, of no cycle too, leaves the list's length for what was lent before.
+#[test]
+fn what_was_lent() {
+    let mut met = BTreeSet::new();
+    for run in runs() {
+        if let Ok(lines) = run.answer {
+            let size = run.list.len() / run.of_record;
+            assert!(lines.ends_with(&format!(" {size}\n")));
+            met.insert((run.count > 0, size - run.state.lent as usize));
+        }
+    }
+    for new in 0..=2 {
+        assert!(met.contains(&(false, new)) && met.contains(&(true, new)));
+    }
+}

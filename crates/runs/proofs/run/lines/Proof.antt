@@ -7,7 +7,7 @@ use Rattle.runs.proofs.run.lines.Statement.{statement}
 use Rattle.runs.proofs.run.lines.Tie as tie
 
 ran-requires : tie.Need-ran-requires
-ran-requires c κs = ran-room _ _ (λ (τ : Table). checkBytes τ _) _ _ _ _ _ _ _ (c .before .before .before .before .before .before .before .run-bytes .ensures) (c .before .before .answer .given .1)
+ran-requires c κs = ran-room _ _ (λ (τ : Table). checkBytes _ τ _) _ _ _ _ _ _ _ (c .before .before .before .before .before .before .before .run-of .ensures) (c .before .before .answer .given .1)
 
 pub lines-spec : {M : Type 1} → statement M
 lines-spec = tie.close (tie.spec (λ c. search needs) (λ c κs. search needs) (λ c κs. search needs) (λ c. search needs) (λ c κs. search needs) (λ c. search needs) (λ c. search needs) (λ c κs. search needs) (λ c. search needs) ran-requires (λ c. search needs) (λ c κs. search needs) (λ c. search needs) (λ c. search needs))
