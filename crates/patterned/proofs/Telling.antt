@@ -2,35 +2,29 @@
 -- Assumes nothing.
 use Prim.Native.Nat.{ℕ, _+_, _-_, _*_, _≤_, _<_}
 use mathlib.Core.Bool.{Bool}
-use mathlib.Core.Path.{_≡_, sym, ap, _∙_, subst}
+use mathlib.Core.Path.{_≡_, sym, ap, subst}
 use mathlib.Core.List.{List, _++_}
 use native.Mathlib.Omega.{arith}
-use native.Mathlib.Nat.{zero-add}
 use lib.ListN.{length, getD, take, drop, replicate, length-append}
 use borrow.Author.Tests.{lt-ltb, le-ltb}
 use Rattle.records.specs.Tests.{pick}
 use Rattle.records.specs.Told.{refusal}
 use Rattle.records.specs.Little.{num}
 use Rattle.records.specs.declared.refusal.Refusal.{Refusal}
-use Rattle.records.specs.declared.table.TableRead.{TableRead}
-use Rattle.records.specs.declared.table.TableRead.the-variants.{Read, Refused as NoTable}
 use Rattle.records.specs.Command.{commandsFrom}
 use Rattle.shortest.specs.declared.answer.ShortestAnswer.{ShortestAnswer}
 use Rattle.shortest.specs.declared.answer.ShortestAnswer.the-variants.{Pattern, Refused}
-use Rattle.shortest.proofs.Calls.{pattern-few}
 use Rattle.desk.specs.Admit.{admitted}
 use Rattle.desk.specs.Patterns.{ShortestTold}
+use Rattle.desk.proofs.Room.{shortest-few}
 use Rattle.text.specs.Decimal.{decimal}
-use Rattle.text.specs.Puts.{Puts}
+use Rattle.text.specs.Puts.{Puts, Writes}
 use Rattle.text.proofs.Digits.{at-most, then-long}
 use Rattle.text.proofs.Putting.{puts-then}
 use Rattle.lines.specs.Words.{newline}
 use Rattle.lines.specs.Lines.{refusedLine, commandLines}
 use Rattle.lines.proofs.Turns.{commands-count}
-use Rattle.patterned.specs.Pattern.{lengthLine, patternText, answerText, Told, PatternOf, Writes}
-
-pub writes : (is : List ℕ → Type 0) (text : List ℕ) (r : ℕ) (s l : List ℕ) → is text → Puts text 0 r s l → Writes is r s l
-writes is text r s l h p = (text, h, p .place ∙ zero-add (length text), p .left ∙ ap (λ (n : ℕ). text ++ drop n s) (zero-add (length text)))
+use Rattle.patterned.specs.Pattern.{lengthLine, patternText, answerText, Told, PatternOf}
 
 -- ---- the first line, and the records behind it
 
@@ -48,11 +42,6 @@ pattern-put e L n s p q b t u x y = puts-then (subst (λ (k : ℕ). Puts (length
 
 -- ---- the call
 
-few : (a : TableRead) (type bi bc most : ℕ) (b₀ b : List ℕ) (e L n : ℕ) → ShortestTold a type bi bc most b₀ b (Pattern e L n) → n ≤ 6
-unfolding ShortestTold
-few (Read τ) type bi bc most b₀ b e L n p = pattern-few τ type bi bc most b₀ b e L n p
-few (NoTable x) type bi bc most b₀ b e L n p = let k = p .0 in let z : _≡_ {A = ℕ} 0 1 = cc in absurd (omega arith)
-
 module _ (expected : ℕ) (table : List ℕ) (type bi bc most : ℕ) (room : List ℕ) (r : ShortestAnswer)
     (h : ShortestTold (admitted expected table) type bi bc most (replicate 48 0) room r) where
   pub call-found : (e L n : ℕ) → r ≡ Pattern e L n → Told expected table type bi bc most (patternText e L (commandsFrom room n 0))
@@ -66,7 +55,7 @@ module _ (expected : ℕ) (table : List ℕ) (type bi bc most : ℕ) (room : Lis
   -- six records, the first line
   pub call-room : (e L n size : ℕ) → r ≡ Pattern e L n → length room ≡ 48 → 256 ≤ size → (8 * n ≤ length room) × (62 + 25 * n ≤ size)
   call-room e L n size p a c =
-      let k : n ≤ 6 = few (admitted expected table) type bi bc most (replicate 48 0) room e L n
+      let k : n ≤ 6 = shortest-few (admitted expected table) type bi bc most (replicate 48 0) room e L n
       (subst (ShortestTold (admitted expected table) type bi bc most (replicate 48 0) room) p h) in
       (omega arith, omega arith)
 
@@ -90,9 +79,3 @@ long-enough s e most r b l h p q w =
     (sym (le-ltb (length s) 6 h))
     (subst (λ (k : ℕ). Writes (told s k (length s - 6) (getD s (length s - 1) 0)) r b l) p
     (subst (λ (k : ℕ). Writes (told s e k (getD s (length s - 1) 0)) r b l) size (subst (λ (k : ℕ). Writes (told s e (length s - 4 - 2) k) r b l) q w)))
-
--- ---- for who prints it
-
--- what is written lies within the buffer
-pub within : (is : List ℕ → Type 0) (n : ℕ) (s l : List ℕ) → Writes is n s l → n ≤ length l
-within is n s l w = omega (arith, w .2, ap length (w .3), length-append (w .0) (drop (length (w .0)) s))

@@ -6,7 +6,7 @@ use mathlib.Core.List.{List, [], _∷_, _++_}
 use lib.Dec.{ltb}
 use lib.ListN.{length, getD, take, drop, replicate}
 use Rattle.records.specs.Tests.{pick}
-use Rattle.records.specs.Told.{refusal, over}
+use Rattle.records.specs.Told.{refusal}
 use Rattle.records.specs.Little.{num}
 use Rattle.records.specs.declared.command.Command.{Command}
 use Rattle.records.specs.Command.{commandsFrom}
@@ -49,8 +49,3 @@ PatternOf input text =
     let n = length input in
     pick (ltb n 6) (text ≡ refusedLine (refusal 1 0 0))
     (Told (num input 0) (take (n - 6) (drop 2 input)) (getD input (n - 4) 0) (getD input (n - 3) 0) (getD input (n - 2) 0) (getD input (n - 1) 0) text)
-
--- what a function that writes such a text leaves: the text from the buffer's start, all beyond as it stood, and n, its length; s and l are the
--- buffer before and after
-abbrev pub Writes : (List ℕ → Type 0) → ℕ → List ℕ → List ℕ → Type 0
-Writes is n s l = (text : List ℕ) × is text × (n ≡ length text) × (l ≡ over text s)

@@ -11,7 +11,8 @@ use shortest::answer::ShortestAnswer;
 ghost use mathlib.Core.Path.{_≡_};
 ghost use Prim.Native.Nat.{_≤_};
 ghost use lib.ListN.{length};
-ghost use Rattle.patterned.specs.Pattern.{Told, PatternOf, Writes};
+ghost use Rattle.text.specs.Puts.{Writes};
+ghost use Rattle.patterned.specs.Pattern.{Told, PatternOf};
 
 // The desk's call, in a room for six records.
 fn pattern_told(

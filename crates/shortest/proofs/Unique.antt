@@ -8,19 +8,17 @@ use mathlib.Core.Bool.{Bool, true, false, _&&_, _||_}
 use mathlib.Core.List.{List, [], _∷_}
 use lib.Dec.{ltb, eqb}
 use borrow.Author.Tests.{ltb-true, ltb-false, eqb-true}
+use Rattle.records.specs.Tests.{every}
 use Rattle.records.specs.Told.{over}
 use Rattle.records.specs.declared.table.Table.{Table}
+use Rattle.records.specs.declared.command.Kind.{Kind}
 use Rattle.records.specs.declared.command.Command.{Command}
-use Rattle.records.specs.Command.{kindNumber, bytesOfAll}
-use Rattle.rules.proofs.TestLaws.{and-fst, and-snd}
+use Rattle.records.specs.Command.{command, kindNumber, bytesOfAll}
+use Rattle.rules.proofs.TestLaws.{and-fst, and-snd, either}
 use Rattle.shortest.specs.declared.answer.ShortestAnswer.{ShortestAnswer}
 use Rattle.shortest.specs.declared.answer.ShortestAnswer.the-variants.{Pattern, Refused}
-use Rattle.shortest.specs.Shortest.{earlier, NoLater, IsPattern, Shortest}
+use Rattle.shortest.specs.Shortest.{earlier, Alike, NoLater, IsPattern, Shortest}
 use Rattle.shortest.specs.Answer.{Cause, LeavesShortest}
-
-or-cases : (a b : Bool) → (a || b) ≡ true → (a ≡ true) ⊎ (b ≡ true)
-or-cases true b e = inl refl
-or-cases false b e = inr e
 
 -- a record that is earlier comes first by numbers
 abbrev First : Command → Command → Type 0
@@ -29,11 +27,11 @@ First r s =
     ⊎ ((r .cycle ≡ s .cycle) × ((kindNumber (r .kind) < kindNumber (s .kind)) ⊎ ((kindNumber (r .kind) ≡ kindNumber (s .kind)) × (r .bank < s .bank))))
 
 first-of : (r s : Command) → earlier r s ≡ true → First r s
-first-of r s e = on (or-cases (ltb (r .cycle) (s .cycle)) _ e)
+first-of r s e = on (either (ltb (r .cycle) (s .cycle)) _ e)
   where
     kind : (ltb (kindNumber (r .kind)) (kindNumber (s .kind)) || (eqb (kindNumber (r .kind)) (kindNumber (s .kind)) && ltb (r .bank) (s .bank))) ≡ true
         → (kindNumber (r .kind) < kindNumber (s .kind)) ⊎ ((kindNumber (r .kind) ≡ kindNumber (s .kind)) × (r .bank < s .bank))
-    kind f = onK (or-cases (ltb (kindNumber (r .kind)) (kindNumber (s .kind))) _ f)
+    kind f = onK (either (ltb (kindNumber (r .kind)) (kindNumber (s .kind))) _ f)
       where
         onK : (ltb (kindNumber (r .kind)) (kindNumber (s .kind)) ≡ true) ⊎ ((eqb (kindNumber (r .kind)) (kindNumber (s .kind)) && ltb (r .bank) (s .bank)) ≡ true)
             → (kindNumber (r .kind) < kindNumber (s .kind)) ⊎ ((kindNumber (r .kind) ≡ kindNumber (s .kind)) × (r .bank < s .bank))
@@ -61,15 +59,37 @@ never-both r s (inr a) (inr b) = on (a .1) (b .1)
     on (inr c) (inl d) = absurd (omega (arith, c .0))
     on (inr c) (inr d) = absurd (omega (arith, c .1, d .1))
 
+never-alike : {A : Type 0} (r s : Command) → First r s → Alike s r → A
+never-alike r s (inl a) e = absurd (omega (arith, e .0))
+never-alike r s (inr (a, inl b)) e = absurd (omega (arith, ap kindNumber (e .1)))
+never-alike r s (inr (a, inr b)) e = absurd (omega (arith, b .1, e .2))
+
+-- all records carry transaction number 0
+abbrev Zeros : List Command → Type 0
+Zeros p = every (λ r. eqb (r .number) 0) p ≡ true
+
+alike-one : (r s : Command) → Alike r s → r .number ≡ 0 → s .number ≡ 0 → r ≡ s
+alike-one r s e m n =
+    ap (λ (i : ℕ). command i (r .kind) (r .bank) (r .number)) (e .0)
+    ∙ (ap (λ (k : Kind). command (s .cycle) k (r .bank) (r .number)) (e .1)
+    ∙ (ap (λ (i : ℕ). command (s .cycle) (s .kind) i (r .number)) (e .2)
+    ∙ ap (λ (i : ℕ). command (s .cycle) (s .kind) (s .bank) i) (m ∙ sym n)))
+
 -- two patterns of which each comes first are one
-pub both-first : (p q : List Command) → NoLater p q → NoLater q p → p ≡ q
-both-first [] [] a b = refl
-both-first [] (s ∷ q) a b = absurd b
-both-first (r ∷ p) [] a b = absurd a
-both-first (r ∷ p) (s ∷ q) (inl a) (inl b) = never-both r s (first-of r s a) (first-of s r b)
-both-first (r ∷ p) (s ∷ q) (inl a) (inr b) = never-both r s (first-of r s a) (subst (λ (x : Command). First x r) (sym (b .0) ∙ refl) (subst (λ (x : Command). First r x) (b .0) (first-of r s a)))
-both-first (r ∷ p) (s ∷ q) (inr a) (inl b) = never-both s r (first-of s r b) (subst (λ (x : Command). First x s) (sym (a .0) ∙ refl) (subst (λ (x : Command). First s x) (a .0) (first-of s r b)))
-both-first (r ∷ p) (s ∷ q) (inr a) (inr b) = ap (λ (x : Command). x ∷ p) (a .0) ∙ ap (λ (l : List Command). s ∷ l) (both-first p q (a .1) (b .1))
+both-first : (p q : List Command) → Zeros p → Zeros q → NoLater p q → NoLater q p → p ≡ q
+both-first [] [] m n a b = refl
+both-first [] (s ∷ q) m n a b = absurd b
+both-first (r ∷ p) [] m n a b = absurd a
+both-first (r ∷ p) (s ∷ q) m n (inl a) (inl b) = never-both r s (first-of r s a) (first-of s r b)
+both-first (r ∷ p) (s ∷ q) m n (inl a) (inr b) = never-alike r s (first-of r s a) (b .0)
+both-first (r ∷ p) (s ∷ q) m n (inr a) (inl b) = never-alike s r (first-of s r b) (a .0)
+both-first (r ∷ p) (s ∷ q) m n (inr a) (inr b) =
+    ap (λ (x : Command). x ∷ p) (alike-one r s (a .0) (zero-of r p m) (zero-of s q n))
+    ∙ ap (λ (l : List Command). s ∷ l)
+    (both-first p q (and-snd (eqb (r .number) 0) (every (λ r. eqb (r .number) 0) p) m) (and-snd (eqb (s .number) 0) (every (λ r. eqb (r .number) 0) q) n) (a .1) (b .1))
+  where
+    zero-of : (r : Command) (p : List Command) → Zeros (r ∷ p) → r .number ≡ 0
+    zero-of r p m = eqb-true (r .number) 0 (and-fst (eqb (r .number) 0) (every (λ r. eqb (r .number) 0) p) m)
 
 module _ {τ : Table} {w : Bool} {bi bc most L M : ℕ} {p q : List Command} (a : Shortest τ w bi bc most L p) (b : Shortest τ w bi bc most M q) where
   pub one-length : L ≡ M
@@ -82,7 +102,7 @@ module _ {τ : Table} {w : Bool} {bi bc most L M : ℕ} {p q : List Command} (a 
 
   pub one-pattern : p ≡ q
   one-pattern =
-      both-first p q
+      both-first p q (a .numbers) (b .numbers)
       (a .first q (subst (λ (N : ℕ). IsPattern τ w bi bc N q) (sym one-length) (b .is)))
       (b .first p (subst (λ (N : ℕ). IsPattern τ w bi bc N p) one-length (a .is)))
 

@@ -5,6 +5,7 @@ use mathlib.Core.Path.{_≡_}
 use mathlib.Core.List.{List}
 use lib.Dec.{eqb}
 use lib.ListN.{length, getD, take}
+use Rattle.records.specs.Tests.{every}
 use Rattle.records.specs.declared.table.Table.{Table}
 use Rattle.records.specs.declared.command.Kind.{Kind}
 use Rattle.records.specs.declared.command.Kind.the-variants.{Act, Rd, Rda, Wr, Wra, Ref, Other}
@@ -15,7 +16,7 @@ use Rattle.rules.specs.declared.verdict.PatternVerdict.the-variants.{Accepted, 
 use Rattle.rules.specs.Kinds.{isRef}
 use Rattle.rules.specs.State.{addIf}
 use Rattle.rules.specs.History.{inTable}
-use Rattle.shortest.specs.Shortest.{kindAt, IsPattern, NoLater, Shortest, NoneUpTo}
+use Rattle.shortest.specs.Shortest.{kindAt, IsPattern, Alike, NoLater, Shortest, NoneUpTo}
 
 abbrev pub nil : Command
 nil = command 0 Act 0 0
@@ -57,7 +58,7 @@ Capped k x p = (i : ℕ) → i < k → nth p i .cycle ≤ nth x i .cycle
 
 -- the first k records are the pattern's
 abbrev pub Agree : ℕ → List Command → List Command → Type 0
-Agree k x p = (i : ℕ) → i < k → nth p i ≡ nth x i
+Agree k x p = (i : ℕ) → i < k → Alike (nth p i) (nth x i)
 
 -- an ACT or a data command to a bank of the table
 abbrev pub CanStand : Table → Command → Type 0
@@ -95,6 +96,7 @@ module _ (τ : Table) (w : Bool) (bi bc L : ℕ) where
   -- of those that do p comes first
   pub record Best (k : ℕ) (x : List Command) (t : ℕ) (p : List Command) : Type 0 where
     pub is : IsPattern τ w bi bc L p
+    pub numbers : every (λ r. eqb (r .number) 0) p ≡ true
     pub agrees : Agree k x p
     pub first : (q : List Command) → Fits k x t q → NoLater p q
 

@@ -6,7 +6,6 @@ use records::command::Command;
 use records::command::Kind;
 use records::table::Table;
 use timing::square::distances;
-ghost use mathlib.Core.Path.{_≡_};
 ghost use Prim.Native.Nat.{suc, _*_, _≤_, _<_};
 ghost use Rattle.rules.specs.State.{Held};
 ghost use Rattle.shortest.specs.Search.{FoundLeast};

@@ -1,7 +1,8 @@
 use borrow.Author.Needs.{needs}
 use denote.Ref.{now}
+use Rattle.text.proofs.Putting.{writes}
 use Rattle.patterned.specs.Pattern.{PatternOf}
-use Rattle.patterned.proofs.Telling.{writes, too-short, long-enough}
+use Rattle.patterned.proofs.Telling.{too-short, long-enough}
 use Rattle.patterned.proofs.pattern_of.Statement.{statement}
 use Rattle.patterned.proofs.pattern_of.Tie as tie
 

@@ -1,5 +1,6 @@
 use borrow.Author.Needs.{needs}
-use Rattle.patterned.proofs.Telling.{writes, call-found, call-refused, call-room}
+use Rattle.text.proofs.Putting.{writes}
+use Rattle.patterned.proofs.Telling.{call-found, call-refused, call-room}
 use Rattle.patterned.proofs.pattern_told.Statement.{statement}
 use Rattle.patterned.proofs.pattern_told.Tie as tie
 

@@ -1,7 +1,7 @@
 use borrow.Author.Needs.{needs}
 use mathlib.Core.Path.{sym}
 use lib.Seq.{length-take-le}
-use Rattle.patterned.proofs.Telling.{within}
+use Rattle.text.proofs.Putting.{within}
 use Rattle.patterns.proofs.tell.Statement.{statement}
 use Rattle.patterns.proofs.tell.Tie as tie
 

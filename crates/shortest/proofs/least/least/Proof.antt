@@ -42,7 +42,7 @@ search-requires c κs =
 
 returns : tie.Need-returns Inv-loop μ-loop
 returns c =
-    length-found (replicate 6 nil) refl (c .before .before .before .before .before .before .loop .inv .4) (c .before .before .search .ensures) (c .before .before .before .before .before .before .before .before .before .before .args .most) (c .before .before .before .before .before .loop-test .taken) (c .if2 .taken)
+    length-found (replicate 6 nil) refl (c .before .before .before .before .before .before .loop .inv .4) (c .before .before .search .ensures) (c .before .before .before .before .before .before .before .before .before .before .args .most) (omega (arith, c .before .before .before .before .before .loop-test .taken)) (c .if2 .taken)
 
 loop-again : tie.Need-loop-again Inv-loop μ-loop
 loop-again c =
