@@ -11,6 +11,7 @@ pub mod desk;
 pub mod examples;
 mod hostile;
 pub mod hostile_listing;
+pub mod hostile_pattern;
 pub mod hostile_trace;
 pub mod house;
 mod inputs;

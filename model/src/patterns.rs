@@ -13,7 +13,7 @@ pub fn cases() -> Vec<u8> {
     inputs::stored(&inputs())
 }
 
-fn inputs() -> Vec<Vec<u8>> {
+pub fn inputs() -> Vec<Vec<u8>> {
     let mut inputs = every_asked();
     inputs.extend(lengths());
     inputs.extend(limits());

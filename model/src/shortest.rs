@@ -48,7 +48,7 @@ impl Asked {
 type Step = (u8, u8);
 
 /// Every order of the commands "starting with the ACT of bank 0" in which each bank gets its own in their order.
-pub fn orders(asked: &Asked) -> Vec<Vec<Step>> {
+fn orders(asked: &Asked) -> Vec<Vec<Step>> {
     let kinds = asked.kinds();
     let mut all = vec![vec![(ACT, 0)]];
     for _ in 1..asked.records() {
@@ -160,12 +160,21 @@ fn earliest(gaps: &[Gap], n: usize, length: u64) -> Option<Vec<u64>> {
 /// A record as it is compared: "in order by cycle, then kind, then bank".
 type Placed = (u64, u8, u8);
 
-/// Of the patterns of a length "the one whose records .. come first". In one order no pattern comes before the earliest.
-pub fn first_of(table: &GroupTable, asked: &Asked, length: u32) -> Option<Vec<Placed>> {
+/// Every order, with what the rules ask of it.
+fn asked_of(table: &GroupTable, asked: &Asked) -> Vec<(Vec<Step>, Vec<Gap>)> {
     let t = Times::of(table);
-    let patterns = orders(asked).into_iter().filter_map(|order| {
-        let cycles = earliest(&gaps(&t, &order), order.len(), length.into())?;
-        let placed = cycles.iter().zip(&order);
+    let with_gaps = |order: Vec<Step>| {
+        let gaps = gaps(&t, &order);
+        (order, gaps)
+    };
+    orders(asked).into_iter().map(with_gaps).collect()
+}
+
+/// Of the patterns of a length "the one whose records .. come first". In one order no pattern comes before the earliest.
+fn first_of(orders: &[(Vec<Step>, Vec<Gap>)], length: u32) -> Option<Vec<Placed>> {
+    let patterns = orders.iter().filter_map(|(order, gaps)| {
+        let cycles = earliest(gaps, order.len(), length.into())?;
+        let placed = cycles.iter().zip(order);
         Some(
             placed
                 .map(|(&cycle, step)| (cycle, step.0, step.1))
@@ -201,8 +210,9 @@ pub fn shortest(
         bank,
         transaction: 0,
     };
+    let orders = asked_of(table, asked);
     for length in 1..=asked.most {
-        if let Some(pattern) = first_of(table, asked, length) {
+        if let Some(pattern) = first_of(&orders, length) {
             return Ok((length, pattern.iter().map(command).collect()));
         }
     }

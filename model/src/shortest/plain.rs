@@ -79,8 +79,9 @@ fn as_a_plain_search_finds() {
         let table = any_table(&mut numbers);
         for asked in all_asked(128) {
             let longest = if asked.records() == 6 { 11 } else { 13 };
+            let orders = asked_of(&table, &asked);
             for length in 1..=longest {
-                let first = first_of(&table, &asked, length);
+                let first = first_of(&orders, length);
                 assert_eq!(
                     first,
                     plain(&table, &asked, length),
@@ -103,9 +104,10 @@ fn accepted_and_monotone() {
     tables.extend(group_tables().iter().filter(|t| t[BANKS] >= 3));
     for table in &tables {
         for asked in all_asked(128) {
+            let orders = asked_of(table, &asked);
             let mut fits = false;
             for length in 1..=128 {
-                let first = first_of(table, &asked, length);
+                let first = first_of(&orders, length);
                 assert!(first.is_some() || !fits, "{table:?} {asked:?} {length}");
                 fits = first.is_some();
                 if let Some(pattern) = first.filter(|_| length % 16 == 0) {
