@@ -154,6 +154,24 @@ static void captures(void) {
     MUST(finds(skv_judge_capture(EDITION, table, 32, again, 12, commands, 25), 11, 2, EDITION, 0, 0, 0));
 }
 
+static void patterns(void) {
+    /* A write: its ACT, two data commands from RCD = 11 on, CCD = 5 apart, and WL + B + WR + RP = 40 to the next ACT. */
+    uint8_t pattern[25], right[25];
+    memset(pattern, 77, 25);
+    put(right, 0, 0, 0, 0);
+    put(right + 8, 11, 3, 0, 0);
+    put(right + 16, 16, 4, 0, 0);
+    right[24] = 77;
+    MUST(gives(skv_shortest_pattern(EDITION, table, 32, 1, 1, 2, 128, pattern, 25), 0, 0, EDITION, 56, 3) && same(pattern, right, 25));
+    /* Two banks with one read each: the fourth ACT before one is two copies before it, FAW = 155 cycles at least. */
+    MUST(gives(skv_shortest_pattern(EDITION, table, 32, 0, 2, 1, 128, pattern, 25), 5, 0, EDITION, 0, 0));
+    uint8_t two[32];
+    MUST(gives(skv_shortest_pattern(EDITION, table, 32, 0, 2, 1, 128, two, 32), 0, 0, EDITION, 78, 4));
+    MUST(gives(skv_shortest_pattern(EDITION, table, 32, 0, 2, 1, 77, two, 32), 13, 0, EDITION, 0, 0));
+    MUST(gives(skv_shortest_pattern(EDITION, table, 32, 2, 1, 2, 128, pattern, 25), 4, 0, EDITION, 0, 0));
+    MUST(gives(skv_shortest_pattern(1, table, 32, 1, 1, 2, 128, pattern, 25), 10, EDITION, EDITION, 0, 0) && same(pattern, right, 25));
+}
+
 static const skv_transaction three[3] = {{.kind = 1, .start = 3, .bi = 1, .bc = 2, .arrival = 800},
                                          {.kind = 0, .start = 9, .bi = 1, .bc = 2, .arrival = 900},
                                          {.kind = 2, .start = 0, .bi = 0, .bc = 0, .arrival = 1000}};
@@ -259,6 +277,7 @@ int main(void) {
     lists();
     verdicts();
     captures();
+    patterns();
     running_controllers();
     return wrong;
 }

@@ -39,6 +39,10 @@ static int finds(skv_capture_answer a, uint32_t refused, uint32_t position, uint
     return a.refused == refused && a.position == position && a.edition == edition && a.count == count && a.rule == rule && a.record == record;
 }
 
+static int gives(skv_pattern_answer a, uint32_t refused, uint32_t position, uint32_t edition, uint32_t length, uint32_t count) {
+    return a.refused == refused && a.position == position && a.edition == edition && a.length == length && a.count == count;
+}
+
 static void put(uint8_t *out, uint32_t cycle, uint8_t kind, uint8_t bank, uint16_t number) {
     const uint8_t bytes[8] = {(uint8_t)cycle, (uint8_t)(cycle >> 8), (uint8_t)(cycle >> 16), (uint8_t)(cycle >> 24),
                               kind,           bank,                  (uint8_t)number,        (uint8_t)(number >> 8)};

@@ -38,6 +38,10 @@ int main(void) {
     FIELD(skv_capture_answer, rule);
     FIELD(skv_capture_answer, record);
     WHOLE(skv_capture_answer);
+    HEAD(skv_pattern_answer);
+    FIELD(skv_pattern_answer, length);
+    FIELD(skv_pattern_answer, count);
+    WHOLE(skv_pattern_answer);
     HEAD(skv_table_answer);
     FIELD(skv_table_answer, numbers);
     WHOLE(skv_table_answer);

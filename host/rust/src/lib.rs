@@ -5,12 +5,14 @@
 //! `skvorzhan.h` says what each call checks and writes.
 
 mod captures;
+mod patterns;
 pub mod raw;
 mod records;
 mod running;
 mod schedules;
 
 pub use captures::*;
+pub use patterns::*;
 pub use raw::{Controller, HostBank, HostGroup, Transaction};
 pub use records::*;
 pub use running::*;

@@ -1,14 +1,17 @@
-//! What an ordinary Rust program would do for a schedule, a step, a verdict and a capture: state per bank and per group, no proof.
+//! What an ordinary Rust program would do for a schedule, a step, a verdict, a capture and a shortest pattern: state per bank and per group, no
+//! proof.
 
 mod capture;
 mod judge;
 mod schedule;
+mod shortest;
 mod step;
 mod times;
 
 pub use capture::judge_capture;
 pub use judge::judge;
 pub use schedule::{schedule, schedule_bytes};
+pub use shortest::{counted, shortest, Asked};
 pub use step::step;
 pub use times::Times;
 

@@ -25,6 +25,7 @@ pub enum Call {
     Judge,
     JudgePattern,
     JudgeCapture,
+    ShortestPattern,
     Bound,
     Start,
     Run,
@@ -35,7 +36,7 @@ pub enum Call {
 
 use Call::*;
 
-pub const COUNT: usize = 25;
+pub const COUNT: usize = 26;
 
 /// In the order of the header.
 pub const CALLS: [(Call, &str); COUNT] = [
@@ -58,6 +59,7 @@ pub const CALLS: [(Call, &str); COUNT] = [
     (Judge, "skv_judge"),
     (JudgePattern, "skv_judge_pattern"),
     (JudgeCapture, "skv_judge_capture"),
+    (ShortestPattern, "skv_shortest_pattern"),
     (Bound, "skv_bound"),
     (Start, "skv_start"),
     (Run, "skv_run"),
@@ -121,6 +123,7 @@ impl Call {
             Judge => &[1, 2, 10, 7],
             JudgePattern => &[1, 2, 10, 7, 8],
             JudgeCapture => &[1, 2, 10, 7, 11, 5],
+            ShortestPattern => &[1, 2, 10, 4, 5, 13],
             Bound => &[1, 2, 10, 4],
             Start => &[1, 2, 10],
             Run | Step | RunBytes | RunLaterBytes => &[1, 2, 10, 3, 4, 5, 9, 12],
