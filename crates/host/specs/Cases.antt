@@ -21,6 +21,7 @@ use Rattle.judge.specs.declared.answer.PatternJudged.the-variants.{Verdict as P
 use Rattle.capture.specs.declared.one_record.CaptureRecordRead.the-variants.{Read as RecordIs, Refused as NoRecord}
 use Rattle.capture.specs.declared.answer.CaptureJudged.the-variants.{Verdict as CaptureSays, Refused as NotCaptured}
 use Rattle.capture.specs.Record.{captureRecord}
+use Rattle.shortest.specs.declared.answer.ShortestAnswer.the-variants.{Pattern, Refused as NoPattern}
 use Rattle.builder.specs.declared.bound.BoundAnswer.the-variants.{Bound, Refused as NoBound}
 use Rattle.builder.specs.declared.build.BuildAnswer.the-variants.{Built, Refused as NotBuilt}
 use Rattle.lists.specs.declared.decode.Decoded.the-variants.{Done as Stored, Refused as NotStored}
@@ -31,7 +32,8 @@ use Rattle.host.specs.declared.answer.Answer.{Answer}
 use Rattle.host.specs.declared.reader.TransactionAnswer.{TransactionAnswer}
 use Rattle.host.specs.declared.verdict.VerdictAnswer.{VerdictAnswer}
 use Rattle.host.specs.declared.verdict.CaptureAnswer.{CaptureAnswer}
-use Rattle.host.specs.Answers.{ofWritten, ofTable, ofTransaction, ofCommand, ofCaptureRecord, ofRead, ofBuild, ofBound, ofStart, ofRun, runOf}
+use Rattle.host.specs.declared.patterns.PatternAnswer.{PatternAnswer}
+use Rattle.host.specs.Answers.{ofWritten, ofTable, ofTransaction, ofCommand, ofCaptureRecord, ofRead, ofBuild, ofBound, shortestOf, ofStart, ofRun, runOf}
 use Rattle.host.specs.Verdicts.{verdictOf, patternOf, captureOf}
 
 -- number, position, edition, count, cycles
@@ -45,6 +47,10 @@ verdict n p e rule copy i = record { refused = n; position = p; edition = e; rul
 -- number, position, edition, count, rule, record
 abbrev pub traced : ℕ → ℕ → ℕ → ℕ → ℕ → ℕ → CaptureAnswer
 traced n p e c rule i = record { refused = n; position = p; edition = e; count = c; rule = rule; «record» = i }
+
+-- number, position, edition, length, count
+abbrev pub found : ℕ → ℕ → ℕ → ℕ → ℕ → PatternAnswer
+found n p e L c = record { refused = n; position = p; edition = e; length = L; count = c }
 
 -- number, position, edition, type, start, BI, BC, arrival
 abbrev pub transactionTold : ℕ → ℕ → ℕ → ℕ → ℕ → ℕ → ℕ → ℕ → TransactionAnswer
@@ -105,4 +111,7 @@ cases =
     ∷ (captureOf (CaptureSays 7 4 Accepted) ≡ traced 0 0 7 4 0 0)
     ∷ (captureOf (CaptureSays 7 4 (Refused Rc 3)) ≡ traced 0 0 7 4 5 3)
     ∷ (captureOf (NotCaptured no3) ≡ traced 3 5 7 0 0 0)
+    -- the length before the number of records
+    ∷ (shortestOf (Pattern 7 48 6) ≡ found 0 0 7 48 6)
+    ∷ (shortestOf (NoPattern no3) ≡ found 3 5 7 0 0)
     ∷ []

@@ -3,6 +3,7 @@ pub mod answer;
 pub mod bounding;
 pub mod judging;
 pub mod one_record;
+pub mod patterns;
 pub mod reader;
 pub mod running;
 pub mod schedules;
