@@ -84,7 +84,7 @@ by-number f z x y p q = on (eqb z 0) refl
 
 module _ (expected : ℕ) (table : List ℕ) (R : TableRead → Numbers → Type 0) (rest : List Row)
     (gives : (x : Refusal) (a : Numbers) → R (Refused x) a → a ≡ refusing x) (goes-on : (a : Numbers) → R (Read (tableAt table)) a → FirstRow rest a) where
-  by-table : (a : Numbers) → R (admitted expected table) a → FirstRow (tableRows expected table rest) a
+  pub by-table : (a : Numbers) → R (admitted expected table) a → FirstRow (tableRows expected table rest) a
   unfolding admitted readTable
   by-table a = on (not (tableSize (length table))) (not (inRange (tableAt table)))
     where

@@ -16,5 +16,6 @@ pub mod GroupCalls
 pub mod ArrivalCalls
 pub mod Calls
 pub mod Traces
+pub mod Patterns
 pub mod OneGroup
 pub mod Pins
