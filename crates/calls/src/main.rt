@@ -2,12 +2,14 @@
 // from `model/`, which has the same cases.
 mod captured;
 mod each;
+mod found;
 mod lent;
 mod lent_host;
 mod one_record;
 mod told;
 mod whole;
 
+use each::asked;
 use each::capture;
 use each::case;
 use each::group_case;
@@ -213,4 +215,9 @@ fn main() {
             0,
         ],
     );
+    // The shortest patterns of two writes to each of two banks and of one read to each of three; none up to 37; too many records
+    asked(1, 2, 2, 128);
+    asked(0, 3, 1, 128);
+    asked(0, 1, 1, 37);
+    asked(0, 1, 6, 128);
 }
