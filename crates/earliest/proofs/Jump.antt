@@ -12,7 +12,7 @@ use Rattle.records.specs.declared.table.Table.{Table}
 use Rattle.records.specs.declared.transaction.Transaction.{Transaction}
 use Rattle.records.specs.declared.command.Command.{Command}
 use Rattle.rules.specs.declared.state.State.{State}
-use Rattle.rules.specs.State.{idle, after}
+use Rattle.rules.specs.State.{after}
 use Rattle.rules.specs.CycleRule.{goes, push}
 use Rattle.rules.specs.Run.{served, stops, Ran, oneMore, run}
 use Rattle.rules.proofs.RunTo.{stopped, going}

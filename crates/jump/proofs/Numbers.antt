@@ -41,14 +41,14 @@ end-count c n b e h = rw e (omega arith)
 
 -- ---- the greatest of many, as a loop finds it
 
-most-same : (n : ℕ) (f g : ℕ → ℕ) → ((b : ℕ) → f b ≡ g b) → mostBelow n f ≡ mostBelow n g
+pub most-same : (n : ℕ) (f g : ℕ → ℕ) → ((b : ℕ) → f b ≡ g b) → mostBelow n f ≡ mostBelow n g
 most-same zero f g h = refl
 most-same (suc n) f g h = rw (h n, most-same n f g h)
 
 pub most-turn : (f : ℕ → ℕ) (g x v r : ℕ) → x ≡ mostBelow g f → v ≡ f g → r ≡ max v x → r ≡ mostBelow (g + 1) f
 most-turn f g x v r p q e = rw (add-one g, ← p, ← q) e
 
-most-one : (n own : ℕ) (f : ℕ → ℕ) → n ≡ 1 → own < n → f own ≡ mostBelow n f
+pub most-one : (n own : ℕ) (f : ℕ → ℕ) → n ≡ 1 → own < n → f own ≡ mostBelow n f
 most-one n own f e l =
     let z : own ≡ 0 = omega arith in
     ap f z ∙ (sym (max-zero (f 0)) ∙ ap (λ (m : ℕ). mostBelow m f) (sym e))

@@ -1,9 +1,8 @@
-// The built schedule by the second engine: a fresh run to the end, and the two passes for the finishing cycles.
-use crate::run::run;
+// The built schedule by the second engine: a fresh run to the end, and a pass over the transactions for the finishing cycles.
+use crate::run::run_marked;
 use engine::build::Schedule;
 use engine::build::enough;
 use engine::finish::finish_all;
-use engine::finish::mark;
 use heads::due::due;
 use records::table::Table;
 use timing::kept::kept_fresh;
@@ -21,8 +20,7 @@ pub fn build(t: Table, list: &[u8], n: usize, buffer: &mut [u8], finishes: &mut 
 {
     let all = due(t, list, n);
     let start = kept_fresh(t.edition);
-    let r = run(t, list, n, all, start, enough(), buffer);
-    mark(buffer, r.commands, finishes);
+    let r = run_marked(t, list, n, all, start, enough(), buffer, finishes);
     finish_all(t, list, n, finishes);
     Schedule {
         commands: r.commands,

@@ -11,15 +11,12 @@ use timing::square::sum_2;
 use timing::square::sum_4;
 use timing::square::wide;
 ghost use mathlib.Core.Path.{_≡_};
-ghost use mathlib.Core.Bool.{not};
-ghost use mathlib.Core.List.{[], _∷_};
 ghost use Prim.Native.Nat.{_+_, min, max};
-ghost use lib.Dec.{ltb};
 ghost use Rattle.records.specs.Tests.{pick};
-ghost use Rattle.rules.specs.Bound.{greatest};
 ghost use Rattle.timing.specs.Kept.{stampOf, toldBank};
-ghost use Rattle.earliest.specs.Earliest.{limit, since, gate, chargedFrom, farFrom, restFrom, actFrom, dataFrom};
+ghost use Rattle.earliest.specs.Earliest.{limit, since, gate, chargedFrom, farFrom, restFrom, actFrom};
 ghost use Rattle.earliest.specs.Jump.{leftOf};
+ghost use Rattle.jump.specs.Earlier.{readyFrom, opensFrom};
 
 pub const LIMIT: u64 = 100000000;
 
@@ -95,15 +92,6 @@ pub fn act_from(t: Table, k: KeptBank, six: u64, a4: u64, refresh: u64) -> u64
     )
 }
 
-// Rules 3, 8 and 9 for a data command to bank k; from `nine` on rule 9 is kept.
-pub fn data_from(t: Table, k: KeptBank, nine: u64) -> u64
-    ensures { λ r. ⌜ r ≡ dataFrom t (toldBank k) nine ⌝ }
-{
-    let opened = gate_of(kept_open(k));
-    let eight = since_of(k.act, wide(t.rcd));
-    later_of(opened, later_of(eight, nine))
-}
-
 // The head of a queue, if one stands there: it is seen from its arrival on, and free from `free` on.
 pub fn head_from(there: bool, arrival: u32, free: u64) -> u64
     ensures { λ r. ⌜ r ≡ pick there (max arrival free) limit ⌝ }
@@ -116,7 +104,7 @@ pub fn head_from(there: bool, arrival: u32, free: u64) -> u64
 
 // The ACT queue's head, an ACT to bank k.
 pub fn act_head_from(t: Table, h: Head, k: KeptBank, six: u64, a4: u64, refresh: u64) -> u64
-    ensures { λ r. ⌜ r ≡ pick (h .there) (max (h .arrival) (actFrom t (toldBank k) six (since (stampOf a4) (t .faw)) (since (stampOf refresh) (t .rfc)))) limit ⌝ }
+    ensures { λ r. ⌜ r ≡ opensFrom t h (toldBank k) six (stampOf a4) (stampOf refresh) ⌝ }
 {
     let free = act_from(t, k, six, a4, refresh);
     head_from(h.there, h.arrival, free)
@@ -130,13 +118,14 @@ pub fn ref_head_from(t: Table, h: Head, eleven: u64, refresh: u64) -> u64
     head_from(h.there, h.arrival, free)
 }
 
-// The data queue's head, when `acts` commands have left the ACT queue.
-pub fn data_head_from(t: Table, h: Head, k: KeptBank, nine: u64, acts: u32) -> u64
-    ensures { λ r. ⌜ r ≡ pick (h .there) (greatest (h .arrival ∷ gate (ltb (h .act) acts) ∷ dataFrom t (toldBank k) nine ∷ [])) limit ⌝ }
+// The data queue's head, to bank k, by all but rule 9, when `acts` commands have left the ACT queue.
+pub fn data_head_from(t: Table, h: Head, k: KeptBank, acts: u32) -> u64
+    ensures { λ r. ⌜ r ≡ readyFrom t h (toldBank k) acts ⌝ }
 {
     let had = gate_of(h.act < acts);
-    let free = data_from(t, k, nine);
-    head_from(h.there, h.arrival, later_of(had, free))
+    let opened = gate_of(kept_open(k));
+    let eight = since_of(k.act, wide(t.rcd));
+    head_from(h.there, h.arrival, later_of(had, later_of(opened, eight)))
 }
 
 // Where a run that has `left` cycles to go ends, if nothing goes before.

@@ -2,5 +2,6 @@
 // the plain engine's.
 pub mod build;
 pub mod free;
+pub mod next;
 pub mod over;
 pub mod run;
