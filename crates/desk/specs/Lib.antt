@@ -7,3 +7,4 @@ pub mod Schedules
 pub mod Running
 pub mod Numbers
 pub mod Only
+pub mod Alike

@@ -1,4 +1,4 @@
-// A controller that is run a few cycles at a time.
+// A controller that is run a few cycles at a time; `second` tells by which engine.
 use crate::admit::WayIn;
 use crate::admit::admit;
 use crate::admit::admit_lent;
@@ -18,8 +18,11 @@ use records::table::table_of;
 use records::transaction::Transaction;
 ghost use mathlib.Core.Bool.{true, false};
 ghost use mathlib.Core.Path.{_≡_};
+ghost use Prim.Native.Nat.{_/_};
+ghost use lib.ListN.{length};
 ghost use Rattle.records.specs.Table.{Accepted};
 ghost use Rattle.records.specs.Transaction.{transactionsIn, laterIn, listOf};
+ghost use Rattle.heads.specs.Queue.{Listed};
 ghost use Rattle.lists.specs.declared.check.Checked.the-variants.{Fine};
 ghost use Rattle.lists.specs.Check.{checkList, checkBytes};
 ghost use Rattle.lists.specs.Packed.{held};
@@ -61,7 +64,25 @@ pub fn start(expected: u16, table: &[u8]) -> StartTold
     }
 }
 
-// The run over a list that fits an accepted table: records of 8 bytes where `later`, else of 4, which are widened.
+// The run over a list of 8-byte records that fits an accepted table.
+fn run_packed(
+    c: Controller,
+    t: Table,
+    list: &[u8],
+    count: u32,
+    room: &mut [u8],
+    second: bool,
+) -> RunTold
+    requires { ⌜ Listed t (now list) (length (now list) / 8) ⌝ }
+    ensures { λ r. ⌜ LeavesRun (runController c t (laterIn (now (list .entry))) count (now (room .entry))) r (now (room .exit)) ⌝ }
+{
+    if second {
+        return straight::run::run_straight(c, t, list, count, room);
+    }
+    run_controller(c, t, list, count, room)
+}
+
+// The same of records of 8 bytes where `later`, else of 4, which are widened.
 fn run_fine(
     c: Controller,
     t: Table,
@@ -69,26 +90,35 @@ fn run_fine(
     list: &[u8],
     count: u32,
     room: &mut [u8],
+    second: bool,
 ) -> RunTold
     requires { ⌜ Accepted t × (checkBytes later t (now list) ≡ Fine) ⌝ }
     ensures { λ r. ⌜ LeavesRun (runController c t (listOf later (now (list .entry))) count (now (room .entry))) r (now (room .exit)) ⌝ }
 {
     if later {
-        return run_controller(c, t, list, count, room);
+        return run_packed(c, t, list, count, room, second);
     }
     let n = list.len() / 4;
     let bytes = widen(list, n);
     let end = 8 * n;
-    run_controller(c, t, &bytes[..end], count, room)
+    run_packed(c, t, &bytes[..end], count, room, second)
 }
 
 // Numbers 3 to 5, 9 and 12, by an accepted table; then the run.
-fn run_by(c: Controller, t: Table, later: bool, list: &[u8], count: u32, room: &mut [u8]) -> RunTold
+pub(crate) fn run_by(
+    c: Controller,
+    t: Table,
+    later: bool,
+    list: &[u8],
+    count: u32,
+    room: &mut [u8],
+    second: bool,
+) -> RunTold
     requires { ⌜ Accepted t ⌝ }
     ensures { λ r. ⌜ LeavesRun (runsChecked (checkBytes later t (now (list .entry))) c t (listOf later (now (list .entry))) count (now (room .entry))) r (now (room .exit)) ⌝ }
 {
     match check_bytes(t, later, list) {
-        Checked::Fine => run_fine(c, t, later, list, count, room),
+        Checked::Fine => run_fine(c, t, later, list, count, room, second),
         Checked::Refused(r) => RunTold {
             controller: c,
             answer: RunAnswer::Refused(r),
@@ -97,7 +127,7 @@ fn run_by(c: Controller, t: Table, later: bool, list: &[u8], count: u32, room: &
 }
 
 // Numbers 1, 2, 10, 3 to 5, 9 and 12; then the run of a controller handed in and back, over the list's bytes.
-fn run_records(
+pub(crate) fn run_records(
     c: Controller,
     expected: u16,
     table: &[u8],
@@ -105,11 +135,12 @@ fn run_records(
     list: &[u8],
     count: u32,
     room: &mut [u8],
+    second: bool,
 ) -> RunTold
     ensures { λ r. ⌜ LeavesRun (running (λ τ. checkBytes later τ (now (list .entry))) (admitted expected (now (table .entry))) c (listOf later (now (list .entry))) count (now (room .entry))) r (now (room .exit)) ⌝ }
 {
     match admit(expected, table) {
-        TableRead::Read(t) => run_by(c, t, later, list, count, room),
+        TableRead::Read(t) => run_by(c, t, later, list, count, room, second),
         TableRead::Refused(r) => RunTold {
             controller: c,
             answer: RunAnswer::Refused(r),
@@ -128,7 +159,7 @@ pub fn run_bytes(
 ) -> RunTold
     ensures { λ r. ⌜ LeavesRun (running (λ τ. checkBytes false τ (now (list .entry))) (admitted expected (now (table .entry))) c (transactionsIn (now (list .entry))) count (now (room .entry))) r (now (room .exit)) ⌝ }
 {
-    run_records(c, expected, table, false, list, count, room)
+    run_records(c, expected, table, false, list, count, room, false)
 }
 
 // Of records of 8 bytes.
@@ -142,7 +173,7 @@ pub fn run_later_bytes(
 ) -> RunTold
     ensures { λ r. ⌜ LeavesRun (running (λ τ. checkBytes true τ (now (list .entry))) (admitted expected (now (table .entry))) c (laterIn (now (list .entry))) count (now (room .entry))) r (now (room .exit)) ⌝ }
 {
-    run_records(c, expected, table, true, list, count, room)
+    run_records(c, expected, table, true, list, count, room, false)
 }
 
 // The same of a lent run of records, gathered.
@@ -153,7 +184,7 @@ fn run_held(c: Controller, w: WayIn, bytes: [u8; 2048], count: u32, room: &mut [
     let end = 8 * w.n;
     let table = w.table;
     match table {
-        TableRead::Read(t) => run_by(c, t, true, &bytes[..end], count, room),
+        TableRead::Read(t) => run_by(c, t, true, &bytes[..end], count, room, false),
         TableRead::Refused(r) => RunTold {
             controller: c,
             answer: RunAnswer::Refused(r),
@@ -161,7 +192,7 @@ fn run_held(c: Controller, w: WayIn, bytes: [u8; 2048], count: u32, room: &mut [
     }
 }
 
-fn has_run(a: RunAnswer) -> bool
+pub(crate) fn has_run(a: RunAnswer) -> bool
     ensures { λ r. ⌜ r ≡ hasRun a ⌝ }
 {
     match a {

@@ -1,4 +1,4 @@
-// The schedule of the cycle rule, with a finishing cycle for each transaction.
+// The schedule of the cycle rule, with a finishing cycle for each transaction; `second` tells by which engine.
 use crate::admit::WayIn;
 use crate::admit::admit;
 use crate::admit::admit_lent;
@@ -11,6 +11,7 @@ use lists::packed::widen;
 use records::table::Table;
 use records::table::TableRead;
 use records::transaction::Transaction;
+use straight::build::build_straight;
 ghost use Prim.Native.Nat.{_/_};
 ghost use mathlib.Core.Bool.{true, false};
 ghost use mathlib.Core.Path.{_≡_};
@@ -26,11 +27,20 @@ ghost use Rattle.desk.specs.Admit.{admitted, LetIn};
 ghost use Rattle.desk.specs.Schedules.{Schedules, BuildsChecked};
 
 // The schedule of a list of 8-byte records that fits an accepted table.
-fn schedule_packed(t: Table, list: &[u8], commands: &mut [u8], finishes: &mut [u32]) -> BuildAnswer
+fn schedule_packed(
+    t: Table,
+    list: &[u8],
+    commands: &mut [u8],
+    finishes: &mut [u32],
+    second: bool,
+) -> BuildAnswer
     requires { ⌜ Listed t (now list) (length (now list) / 8) ⌝ }
     ensures { λ r. ⌜ LeavesBuild t (laterIn (now (list .entry))) (now (commands .entry)) (now (commands .exit)) (now (finishes .entry)) (now (finishes .exit)) r ⌝ }
 {
     let n = list.len() / 8;
+    if second {
+        return build_straight(t, list, n, commands, finishes);
+    }
     build_schedule(t, list, n, commands, finishes)
 }
 
@@ -41,49 +51,52 @@ fn schedule_fine(
     list: &[u8],
     commands: &mut [u8],
     finishes: &mut [u32],
+    second: bool,
 ) -> BuildAnswer
     requires { ⌜ Accepted t × (checkBytes later t (now list) ≡ Fine) ⌝ }
     ensures { λ r. ⌜ LeavesBuild t (listOf later (now (list .entry))) (now (commands .entry)) (now (commands .exit)) (now (finishes .entry)) (now (finishes .exit)) r ⌝ }
 {
     if later {
-        return schedule_packed(t, list, commands, finishes);
+        return schedule_packed(t, list, commands, finishes, second);
     }
     let n = list.len() / 4;
     let bytes = widen(list, n);
     let end = 8 * n;
-    schedule_packed(t, &bytes[..end], commands, finishes)
+    schedule_packed(t, &bytes[..end], commands, finishes, second)
 }
 
 // Numbers 3 to 6, by an accepted table; then the schedule.
-fn schedule_by(
+pub(crate) fn schedule_by(
     t: Table,
     later: bool,
     list: &[u8],
     commands: &mut [u8],
     finishes: &mut [u32],
+    second: bool,
 ) -> BuildAnswer
     requires { ⌜ Accepted t ⌝ }
     ensures { λ r. ⌜ BuildsChecked (checkBytes later t (now (list .entry))) t (listOf later (now (list .entry))) (now (commands .entry)) (now (commands .exit)) (now (finishes .entry)) (now (finishes .exit)) r ⌝ }
 {
     match check_bytes(t, later, list) {
-        Checked::Fine => schedule_fine(t, later, list, commands, finishes),
+        Checked::Fine => schedule_fine(t, later, list, commands, finishes, second),
         Checked::Refused(r) => BuildAnswer::Refused(r),
     }
 }
 
 // Numbers 1, 2, 10, 3 to 6; then the schedule from the start of `commands`, the finishing cycles from the start of `finishes`.
-fn schedule_records(
+pub(crate) fn schedule_records(
     expected: u16,
     table: &[u8],
     later: bool,
     list: &[u8],
     commands: &mut [u8],
     finishes: &mut [u32],
+    second: bool,
 ) -> BuildAnswer
     ensures { λ r. ⌜ Schedules (λ τ. checkBytes later τ (now (list .entry))) (admitted expected (now (table .entry))) (listOf later (now (list .entry))) (now (commands .entry)) (now (commands .exit)) (now (finishes .entry)) (now (finishes .exit)) r ⌝ }
 {
     match admit(expected, table) {
-        TableRead::Read(t) => schedule_by(t, later, list, commands, finishes),
+        TableRead::Read(t) => schedule_by(t, later, list, commands, finishes, second),
         TableRead::Refused(r) => BuildAnswer::Refused(r),
     }
 }
@@ -98,7 +111,7 @@ pub fn schedule_bytes(
 ) -> BuildAnswer
     ensures { λ r. ⌜ Schedules (λ τ. checkBytes false τ (now (list .entry))) (admitted expected (now (table .entry))) (transactionsIn (now (list .entry))) (now (commands .entry)) (now (commands .exit)) (now (finishes .entry)) (now (finishes .exit)) r ⌝ }
 {
-    schedule_records(expected, table, false, list, commands, finishes)
+    schedule_records(expected, table, false, list, commands, finishes, false)
 }
 
 // Of records of 8 bytes.
@@ -111,7 +124,7 @@ pub fn schedule_later_bytes(
 ) -> BuildAnswer
     ensures { λ r. ⌜ Schedules (λ τ. checkBytes true τ (now (list .entry))) (admitted expected (now (table .entry))) (laterIn (now (list .entry))) (now (commands .entry)) (now (commands .exit)) (now (finishes .entry)) (now (finishes .exit)) r ⌝ }
 {
-    schedule_records(expected, table, true, list, commands, finishes)
+    schedule_records(expected, table, true, list, commands, finishes, false)
 }
 
 // The same of a lent run of records, gathered.
@@ -127,7 +140,7 @@ fn schedule_held(
     let end = 8 * w.n;
     let table = w.table;
     match table {
-        TableRead::Read(t) => schedule_by(t, true, &bytes[..end], commands, finishes),
+        TableRead::Read(t) => schedule_by(t, true, &bytes[..end], commands, finishes, false),
         TableRead::Refused(r) => BuildAnswer::Refused(r),
     }
 }

@@ -68,6 +68,9 @@ agree-min x y a d (inr e) (inr f) = inr (omega (arith, e .0, f .0), omega (arith
 pub none-yet : (c : ℕ) → 0 ≡ c - c
 none-yet c = omega arith
 
+pub few-cycles : {a b : ℕ} → a ≤ b → b < 4294967296 → a < 4294967296
+few-cycles p q = omega arith
+
 -- the end of a run that started at cycle c₀, for one that stands at cycle c, i cycles later
 end-same : (c₀ c i count e : ℕ) → c₀ + i ≡ c → e ≡ max c₀ (min limit (c₀ + count)) → c ≤ e → (i ≤ count) × (e ≡ max c (min limit (c + (count - i))))
 end-same c₀ c i count e p q h = let z : i ≤ count = omega arith in let w : c + (count - i) ≡ c₀ + count = omega arith in (z, rw w (omega arith))

@@ -1,7 +1,7 @@
 use borrow.Author.Needs.{needs}
 use native.Mathlib.Omega.{arith}
-use Prim.Native.Nat.{ℕ, _-_, _*_, _<_}
-use mathlib.Core.Path.{refl, sym, ap, _∙_, subst}
+use Prim.Native.Nat.{ℕ, _-_, _*_, _≤_, _<_}
+use mathlib.Core.Path.{_≡_, refl, sym, ap, _∙_, subst}
 use mathlib.Core.Logic.{inl, inr, ⊎-elim}
 use mathlib.Core.Bool.{true, false}
 use lib.ListN.{length-map}
@@ -16,7 +16,7 @@ use Rattle.heads.proofs.Laws.{few as few-listed}
 use Rattle.timing.specs.Kept.{told}
 use Rattle.engine.proofs.Going.{Going, starts, same-size, room-for, few, act-asked}
 use Rattle.engine.proofs.InPlace.{atCycle, kept-asked}
-use Rattle.jump.proofs.Jumping.{none-yet, end-in, ends}
+use Rattle.jump.proofs.Jumping.{none-yet, few-cycles, end-in, ends}
 use Rattle.jump.proofs.Marking.{unmarked, marked-as}
 use Rattle.jump.proofs.Turns.{both, Straight, Computed, turn-of, early, data-goes, data-for, asked, after-data, act-goes, act-for, after-ref, after-act}
 use Rattle.jump.proofs.run.run_marked.Statement.{statement}
@@ -83,12 +83,12 @@ loop-holds c =
 sub-ran : tie.Need-sub-ran Inv-loop μ-loop
 unfolding told
 sub-ran c =
-    let l = c .before .before .before .before .before .before .before .before .before .before .before .before .before .before .before .before .before .before .before .before .before .before .before .before in let v = l .loop in let h = v .inv in let r = c .before .before .before .before .before .before .before .before .before .before .before .before .before .before .before .before .before .before .before .before .before .before .before .before .before .before .before .before .before .before .before .before .before .before .before .before .pre in let u = computed (c .before .before .before .before .before .before) in omega (arith, end-in (h .going) (turn-of h (r .0) u) (c .before .before .both-of2 .result) (c .before .either-64 .result) (c .before .either-64 .ensures) .0)
+    let l = c .before .before .before .before .before .before .before .before .before .before .before .before .before .before .before .before .before .before .before .before .before .before .before .before in let v = l .loop in let h = v .inv in let r = c .before .before .before .before .before .before .before .before .before .before .before .before .before .before .before .before .before .before .before .before .before .before .before .before .before .before .before .before .before .before .before .before .before .before .before .before .pre in let u = computed (c .before .before .before .before .before .before) in end-in (h .going) (turn-of h (r .0) u) (c .before .before .both-of2 .result) (c .before .either-64 .result) (c .before .either-64 .ensures) .0
 
 cast-ran : tie.Need-cast-ran Inv-loop μ-loop
 unfolding told
 cast-ran c =
-    let l = c .before .before .before .before .before .before .before .before .before .before .before .before .before .before .before .before .before .before .before .before .before .before .before .before in let v = l .loop in let h = v .inv in let r = c .before .before .before .before .before .before .before .before .before .before .before .before .before .before .before .before .before .before .before .before .before .before .before .before .before .before .before .before .before .before .before .before .before .before .before .before .pre in let u = computed (c .before .before .before .before .before .before) in omega (arith, end-in (h .going) (turn-of h (r .0) u) (c .before .before .both-of2 .result) (c .before .either-64 .result) (c .before .either-64 .ensures) .3, c .before .before .before .before .before .before .before .before .before .before .before .before .before .before .before .before .before .before .before .before .before .before .before .before .before .before .before .before .before .before .before .before .before .before .before .before .fits .count)
+    let l = c .before .before .before .before .before .before .before .before .before .before .before .before .before .before .before .before .before .before .before .before .before .before .before .before in let v = l .loop in let h = v .inv in let r = c .before .before .before .before .before .before .before .before .before .before .before .before .before .before .before .before .before .before .before .before .before .before .before .before .before .before .before .before .before .before .before .before .before .before .before .before .pre in let u = computed (c .before .before .before .before .before .before) in record { fits = few-cycles (end-in (h .going) (turn-of h (r .0) u) (c .before .before .both-of2 .result) (c .before .either-64 .result) (c .before .either-64 .ensures) .3) (c .before .before .before .before .before .before .before .before .before .before .before .before .before .before .before .before .before .before .before .before .before .before .before .before .before .before .before .before .before .before .before .before .before .before .before .before .fits .count .fits) }
 
 same-length : tie.Need-same-length Inv-loop μ-loop
 unfolding told
@@ -107,7 +107,7 @@ returns c =
 add-next : tie.Need-add-next Inv-loop μ-loop
 unfolding told
 add-next c =
-    let l = c .before .before .before .before .before .before .before .before .before .before .before .before .before .before .before .before .before .before .before in let v = l .loop in let h = v .inv in let r = c .before .before .before .before .before .before .before .before .before .before .before .before .before .before .before .before .before .before .before .before .before .before .before .before .before .before .before .before .before .before .before .pre in let u = computed (c .before) in omega (arith, early h (r .0) u (ahead (c)) .0)
+    let l = c .before .before .before .before .before .before .before .before .before .before .before .before .before .before .before .before .before .before .before in let v = l .loop in let h = v .inv in let r = c .before .before .before .before .before .before .before .before .before .before .before .before .before .before .before .before .before .before .before .before .before .before .before .before .before .before .before .before .before .before .before .pre in let u = computed (c .before) in omega (arith, early h (r .0) u (ahead (c)) .0, early h (r .0) u (ahead (c)) .1)
 
 data-after-requires : tie.Need-data-after-requires Inv-loop μ-loop
 data-after-requires c κs =
@@ -129,21 +129,21 @@ loop-again-2 c =
 
 advance-requires : tie.Need-advance-requires Inv-loop μ-loop
 advance-requires c κs =
-    let l = c .before .before .before .before .before .before .before .before .before .before .before .before .before .before .before .before .before .before .before .before .before .before .before .before .before in let v = l .loop in let h = v .inv in let r = c .before .before .before .before .before .before .before .before .before .before .before .before .before .before .before .before .before .before .before .before .before .before .before .before .before .before .before .before .before .before .before .before .before .before .before .before .before .pre in let u = computed (c .before .before .before .before .before .before .before) in act-asked (act-goes h (r .0) u (ahead (c .before .before .before .before .before .before)) (omega (arith, c .before .before .before .before .before .if3 .left)))
+    let l = c .before .before .before .before .before .before .before .before .before .before .before .before .before .before .before .before .before .before .before .before .before .before .before .before .before in let v = l .loop in let h = v .inv in let r = c .before .before .before .before .before .before .before .before .before .before .before .before .before .before .before .before .before .before .before .before .before .before .before .before .before .before .before .before .before .before .before .before .before .before .before .before .before .pre in let u = computed (c .before .before .before .before .before .before .before) in act-asked (act-goes h (r .0) u (ahead (c .before .before .before .before .before .before)) (c .before .before .before .before .before .if3 .left))
 
 add-s-2 : tie.Need-add-s-2 Inv-loop μ-loop
 add-s-2 c =
-    let l = c .before .before .before .before .before .before .before .before .before .before .before .before .before .before .before .before .before .before .before .before .before .before .before .before .before .before .before .before .before .before in let v = l .loop in let h = v .inv in let r = c .before .before .before .before .before .before .before .before .before .before .before .before .before .before .before .before .before .before .before .before .before .before .before .before .before .before .before .before .before .before .before .before .before .before .before .before .before .before .before .before .before .before .pre in let u = computed (c .before .before .before .before .before .before .before .before .before .before .before .before) in omega (arith, kept-asked (atCycle (v .s) (when (c .before .before .before .before .before .before .before .before .before .before .before))) (act-goes h (r .0) u (ahead (c .before .before .before .before .before .before .before .before .before .before .before)) (omega (arith, c .before .before .before .before .before .before .before .before .before .before .if3 .left))) .1)
+    let l = c .before .before .before .before .before .before .before .before .before .before .before .before .before .before .before .before .before .before .before .before .before .before .before .before .before .before .before .before .before .before in let v = l .loop in let h = v .inv in let r = c .before .before .before .before .before .before .before .before .before .before .before .before .before .before .before .before .before .before .before .before .before .before .before .before .before .before .before .before .before .before .before .before .before .before .before .before .before .before .before .before .before .before .pre in let u = computed (c .before .before .before .before .before .before .before .before .before .before .before .before) in omega (arith, kept-asked (atCycle (v .s) (when (c .before .before .before .before .before .before .before .before .before .before .before))) (act-goes h (r .0) u (ahead (c .before .before .before .before .before .before .before .before .before .before .before)) (c .before .before .before .before .before .before .before .before .before .before .if3 .left)) .1)
 
 loop-again-3 : tie.Need-loop-again-3 Inv-loop μ-loop
 unfolding told
 loop-again-3 c =
-    let l = c .before .before .before .before .before .before .before .before .before .before .before .before .before .before .before .before .before .before .before .before .before .before .before .before .before .before .before .before .before .before .before .before in let v = l .loop in let h = v .inv in let r = c .before .before .before .before .before .before .before .before .before .before .before .before .before .before .before .before .before .before .before .before .before .before .before .before .before .before .before .before .before .before .before .before .before .before .before .before .before .before .before .before .before .before .before .before .pre in let u = computed (c .before .before .before .before .before .before .before .before .before .before .before .before .before .before) in after-ref h (r .0) u (ahead (c .before .before .before .before .before .before .before .before .before .before .before .before .before)) (omega (arith, c .before .before .before .before .before .before .before .before .before .before .before .before .if3 .left)) _ (c .before .before .before .before .before .before .before .before .before .put-command2 .ensures ∙ ap (λ (x : Command). putAt (v .buffer) (8 * v .k) (bytesOf x)) (c .before .before .before .before .before .before .before .before .before .before .before .command-of2 .ensures)) (c .before .before .before .before .before .before .advance .result) (c .before .before .before .before .before .before .advance .ensures) (c .before .before .both-of3 .result) (c .before .before .both-of3 .ensures) (sym (c .before .before .before .before .before .before .before .before .before .before .before .before .before .before .before .before .before .before .before .before .before .before .before .before .before .is-ref .ensures) ∙ c .before .if5 .taken) _ refl (r .2) _ refl
+    let l = c .before .before .before .before .before .before .before .before .before .before .before .before .before .before .before .before .before .before .before .before .before .before .before .before .before .before .before .before .before .before .before .before in let v = l .loop in let h = v .inv in let r = c .before .before .before .before .before .before .before .before .before .before .before .before .before .before .before .before .before .before .before .before .before .before .before .before .before .before .before .before .before .before .before .before .before .before .before .before .before .before .before .before .before .before .before .before .pre in let u = computed (c .before .before .before .before .before .before .before .before .before .before .before .before .before .before) in after-ref h (r .0) u (ahead (c .before .before .before .before .before .before .before .before .before .before .before .before .before)) (c .before .before .before .before .before .before .before .before .before .before .before .before .if3 .left) _ (c .before .before .before .before .before .before .before .before .before .put-command2 .ensures ∙ ap (λ (x : Command). putAt (v .buffer) (8 * v .k) (bytesOf x)) (c .before .before .before .before .before .before .before .before .before .before .before .command-of2 .ensures)) (c .before .before .before .before .before .before .advance .result) (c .before .before .before .before .before .before .advance .ensures) (c .before .before .both-of3 .result) (c .before .before .both-of3 .ensures) (sym (c .before .before .before .before .before .before .before .before .before .before .before .before .before .before .before .before .before .before .before .before .before .before .before .before .before .is-ref .ensures) ∙ c .before .if5 .taken) _ refl (r .2) _ refl
 
 loop-again-4 : tie.Need-loop-again-4 Inv-loop μ-loop
 unfolding told
 loop-again-4 c =
-    let l = c .before .before .before .before .before .before .before .before .before .before .before .before .before .before .before .before .before .before .before .before .before .before .before .before .before .before .before .before .before .before .before .before .before .before in let v = l .loop in let h = v .inv in let r = c .before .before .before .before .before .before .before .before .before .before .before .before .before .before .before .before .before .before .before .before .before .before .before .before .before .before .before .before .before .before .before .before .before .before .before .before .before .before .before .before .before .before .before .before .before .before .pre in let u = computed (c .before .before .before .before .before .before .before .before .before .before .before .before .before .before .before .before) in after-act h (r .0) u (ahead (c .before .before .before .before .before .before .before .before .before .before .before .before .before .before .before)) (omega (arith, c .before .before .before .before .before .before .before .before .before .before .before .before .before .before .if3 .left)) _ (c .before .before .before .before .before .before .before .before .before .before .before .put-command2 .ensures ∙ ap (λ (x : Command). putAt (v .buffer) (8 * v .k) (bytesOf x)) (c .before .before .before .before .before .before .before .before .before .before .before .before .before .command-of2 .ensures)) (c .before .before .before .before .before .before .before .before .advance .result) (c .before .before .before .before .before .before .before .before .advance .ensures) (c .before .before .before .before .both-of3 .result) (c .before .before .before .before .both-of3 .ensures) (sym (c .before .before .before .before .before .before .before .before .before .before .before .before .before .before .before .before .before .before .before .before .before .before .before .before .before .before .before .is-ref .ensures) ∙ c .before .before .before .if5 .left) (c .before .group-opened .result) (c .group-opened2 .result) (c .before .group-opened .ensures) (c .group-opened2 .ensures) _ refl
+    let l = c .before .before .before .before .before .before .before .before .before .before .before .before .before .before .before .before .before .before .before .before .before .before .before .before .before .before .before .before .before .before .before .before .before .before in let v = l .loop in let h = v .inv in let r = c .before .before .before .before .before .before .before .before .before .before .before .before .before .before .before .before .before .before .before .before .before .before .before .before .before .before .before .before .before .before .before .before .before .before .before .before .before .before .before .before .before .before .before .before .before .before .pre in let u = computed (c .before .before .before .before .before .before .before .before .before .before .before .before .before .before .before .before) in after-act h (r .0) u (ahead (c .before .before .before .before .before .before .before .before .before .before .before .before .before .before .before)) (c .before .before .before .before .before .before .before .before .before .before .before .before .before .before .if3 .left) _ (c .before .before .before .before .before .before .before .before .before .before .before .put-command2 .ensures ∙ ap (λ (x : Command). putAt (v .buffer) (8 * v .k) (bytesOf x)) (c .before .before .before .before .before .before .before .before .before .before .before .before .before .command-of2 .ensures)) (c .before .before .before .before .before .before .before .before .advance .result) (c .before .before .before .before .before .before .before .before .advance .ensures) (c .before .before .before .before .both-of3 .result) (c .before .before .before .before .both-of3 .ensures) (sym (c .before .before .before .before .before .before .before .before .before .before .before .before .before .before .before .before .before .before .before .before .before .before .before .before .before .before .before .is-ref .ensures) ∙ c .before .before .before .if5 .left) (c .before .group-opened .result) (c .group-opened2 .result) (c .before .group-opened .ensures) (c .group-opened2 .ensures) _ refl
 
 pub run-marked-spec : {M : Type 1} → statement M
-run-marked-spec = tie.close (tie.spec Inv-loop μ-loop (λ c κs. search needs) (λ c κs. search needs) (λ c κs. search needs) (λ c. omega (arith, holds (c .before .before .before .before .before .before .before .before) .groups)) latest-of-requires (λ c κs. c .before .before .before .before .before .before .before .before .before .pre .0 .list) (λ c κs. c .before .before .before .before .before .before .before .before .before .before .pre .0 .list) loop-holds (λ c. search needs) (λ c. search needs) (λ c κs. holds (c .before .before .before .before .before .before .before .before .before .before .before .before .before .before .before .before) .some) (λ c κs. holds (c .before .before .before .before .before .before .before .before .before .before .before .before .before .before .before .before .before) .some) (λ c κs. search needs) (λ c κs. search needs) (λ c. omega (arith, c .before .before .before .before .before .before .before .before .loop .inv .going .queues .ofDatas .bank)) (λ c. omega (arith, c .before .before .before .before .before .before .before .before .loop .inv .going .queues .ofDatas .bank)) (λ c κs. search needs) (λ c. omega (arith, c .before .before .before .before .group-of2 .ensures .1, holds (c .before .before .before .before .before .before .before .before .before .before .before .before .before .before .before .before .before .before .before .before .before .before) .groups)) (λ c. omega (arith, c .before .before .before .before .group-of2 .ensures .1, holds (c .before .before .before .before .before .before .before .before .before .before .before .before .before .before .before .before .before .before .before .before .before .before) .groups)) (λ c. omega (arith, c .before .before .before .before .group-of2 .ensures .1, holds (c .before .before .before .before .before .before .before .before .before .before .before .before .before .before .before .before .before .before .before .before .before .before) .groups)) (λ c. omega (arith, c .before .before .before .before .group-of2 .ensures .1, holds (c .before .before .before .before .before .before .before .before .before .before .before .before .before .before .before .before .before .before .before .before .before .before) .groups)) (λ c κs. search needs) (λ c κs. search needs) (λ c. omega (arith, c .before .before .before .before .before .before .before .before .before .before .before .before .loop .inv .going .queues .ofActs .bank)) (λ c. omega (arith, c .before .before .before .before .before .before .before .before .before .before .before .before .loop .inv .going .queues .ofActs .bank)) (λ c. omega (arith, c .before .before .before .before .before .before .before .before .group-of .ensures .1, holds (c .before .before .before .before .before .before .before .before .before .before .before .before .before .before .before .before .before .before .before .before .before .before .before .before .before) .groups)) (λ c. omega (arith, c .before .before .before .before .before .before .before .before .group-of .ensures .1, holds (c .before .before .before .before .before .before .before .before .before .before .before .before .before .before .before .before .before .before .before .before .before .before .before .before .before) .groups)) (λ c κs. search needs) (λ c κs. search needs) (λ c κs. holds (c .before .before .before .before .before .before .before .before .before .before .before .before .before .before .before .before .before .before .before .before .before .before .before .before .before .before .before .before) .banks) (λ c κs. search needs) (λ c κs. search needs) (λ c κs. search needs) (λ c κs. search needs) (λ c κs. search needs) sub-ran cast-ran same-length same-length-2 returns add-next (λ c. let l = c .before .before .before .before .before .before .before .before .before .before .before .before .before .before .before .before .before .before .before .before .before in let v = l .loop in let h = v .inv in let r = c .before .before .before .before .before .before .before .before .before .before .before .before .before .before .before .before .before .before .before .before .before .before .before .before .before .before .before .before .before .before .before .before .before .pre in let u = computed (c .before .before .before) in omega (arith, data-for h (r .0) u (ahead (c .before .before)) (omega (arith, c .before .if3 .taken)), few-listed (r .0 .list))) (λ c κs. let l = c .before .before .before .before .before .before .before .before .before .before .before .before .before .before .before .before .before .before .before .before .before in let v = l .loop in let h = v .inv in let r = c .before .before .before .before .before .before .before .before .before .before .before .before .before .before .before .before .before .before .before .before .before .before .before .before .before .before .before .before .before .before .before .before .before .pre in let u = computed (c .before .before .before) in omega (arith, early h (r .0) u (ahead (c .before .before)) .0)) (λ c. let l = c .before .before .before .before .before .before .before .before .before .before .before .before .before .before .before .before .before .before .before .before .before .before .before in let v = l .loop in let h = v .inv in let r = c .before .before .before .before .before .before .before .before .before .before .before .before .before .before .before .before .before .before .before .before .before .before .before .before .before .before .before .before .before .before .before .before .before .before .before .pre in let u = computed (c .before .before .before .before .before) in omega (arith, few (data-goes h (r .0) u (ahead (c .before .before .before .before)) (omega (arith, c .before .before .before .if3 .taken))), c .before .before .before .before .before .before .before .before .before .before .before .before .before .before .before .before .before .before .before .before .before .before .before .before .before .before .before .before .before .before .before .before .before .before .before .fits .count)) (λ c κs. let l = c .before .before .before .before .before .before .before .before .before .before .before .before .before .before .before .before .before .before .before .before .before .before .before in let v = l .loop in let h = v .inv in let r = c .before .before .before .before .before .before .before .before .before .before .before .before .before .before .before .before .before .before .before .before .before .before .before .before .before .before .before .before .before .before .before .before .before .before .before .pre in let u = computed (c .before .before .before .before .before) in room-for (data-goes h (r .0) u (ahead (c .before .before .before .before)) (omega (arith, c .before .before .before .if3 .taken)))) (λ c. let l = c .before .before .before .before .before .before .before .before .before .before .before .before .before .before .before .before .before .before .before .before .before .before .before .before .before .before in let v = l .loop in let h = v .inv in let r = c .before .before .before .before .before .before .before .before .before .before .before .before .before .before .before .before .before .before .before .before .before .before .before .before .before .before .before .before .before .before .before .before .before .before .before .before .before .before .pre in let u = computed (c .before .before .before .before .before .before .before .before) in omega (arith, early h (r .0) u (ahead (c .before .before .before .before .before .before .before)) .0)) (λ c. let l = c .before .before .before .before .before .before .before .before .before .before .before .before .before .before .before .before .before .before .before .before .before .before .before .before .before .before in let v = l .loop in let h = v .inv in let r = c .before .before .before .before .before .before .before .before .before .before .before .before .before .before .before .before .before .before .before .before .before .before .before .before .before .before .before .before .before .before .before .before .before .before .before .before .before .before .pre in let u = computed (c .before .before .before .before .before .before .before .before) in omega (arith, data-for h (r .0) u (ahead (c .before .before .before .before .before .before .before)) (omega (arith, c .before .before .before .before .before .before .if3 .taken)), few-listed (r .0 .list))) (λ c. let l = c .before .before .before .before .before .before .before .before .before .before .before .before .before .before .before .before .before .before .before .before .before .before .before .before .before .before in let v = l .loop in let h = v .inv in let r = c .before .before .before .before .before .before .before .before .before .before .before .before .before .before .before .before .before .before .before .before .before .before .before .before .before .before .before .before .before .before .before .before .before .before .before .before .before .before .pre in let u = computed (c .before .before .before .before .before .before .before .before) in omega (arith, data-for h (r .0) u (ahead (c .before .before .before .before .before .before .before)) (omega (arith, c .before .before .before .before .before .before .if3 .taken)), r .2, h .marking .marked .size)) (λ c. let l = c .before .before .before .before .before .before .before .before .before .before .before .before .before .before .before .before .before .before .before .before .before .before .before .before .before .before in let v = l .loop in let h = v .inv in let r = c .before .before .before .before .before .before .before .before .before .before .before .before .before .before .before .before .before .before .before .before .before .before .before .before .before .before .before .before .before .before .before .before .before .before .before .before .before .before .pre in let u = computed (c .before .before .before .before .before .before .before .before) in omega (arith, few (data-goes h (r .0) u (ahead (c .before .before .before .before .before .before .before)) (omega (arith, c .before .before .before .before .before .before .if3 .taken))), c .before .before .before .before .before .before .before .before .before .before .before .before .before .before .before .before .before .before .before .before .before .before .before .before .before .before .before .before .before .before .before .before .before .before .before .before .before .before .fits .count)) data-after-requires (λ c κs. search needs) (λ c κs. search needs) add-s (λ c. omega (arith, c .before .before .before .before .before .before .before .before .before .before .before .before .before .before .before .before .before .before .before .before .before .before .before .before .before .before .before .before .before .before .before .before .loop .inv .going .queues .ofDatas .bank)) (λ c. omega (arith, c .before .before .before .before .before .before .before .before .before .before .before .before .before .before .before .before .before .before .before .before .before .before .before .before .before .before .before .before .before .before .before .before .loop .inv .going .queues .ofDatas .bank)) (λ c κs. search needs) (λ c. omega (arith, c .before .before .before .before .before .before .before .before .before .before .before .before .before .before .before .before .before .before .before .before .before .before .before .before .before .before .before .before .before .before .before .before .before .before .loop .inv .going .queues .ofDatas .bank)) (λ c. omega (arith, c .before .before .before .before .before .before .before .before .before .before .before .before .before .before .before .before .before .before .before .before .before .before .before .before .before .before .before .before .before .before .before .before .before .before .loop .inv .going .queues .ofDatas .bank)) (λ c. omega (arith, c .before .before .before .before .before .before .before .before .before .before .before .before .before .before .before .before .before .before .before .before .before .before .before .before .before .before .before .before .group-of2 .ensures .1, holds (c .before .before .before .before .before .before .before .before .before .before .before .before .before .before .before .before .before .before .before .before .before .before .before .before .before .before .before .before .before .before .before .before .before .before .before .before .before .before .before .before .before .before .before .before .before .before) .groups)) (λ c. omega (arith, c .before .before .before .before .before .before .before .before .before .before .before .before .before .before .before .before .before .before .before .before .before .before .before .before .before .before .before .before .group-of2 .ensures .1, holds (c .before .before .before .before .before .before .before .before .before .before .before .before .before .before .before .before .before .before .before .before .before .before .before .before .before .before .before .before .before .before .before .before .before .before .before .before .before .before .before .before .before .before .before .before .before .before) .groups)) (λ c κs. search needs) (λ c. omega (arith, c .before .before .before .before .before .before .before .before .before .before .before .before .before .before .before .before .before .before .before .before .before .before .before .before .before .before .before .before .before .before .group-of2 .ensures .1, holds (c .before .before .before .before .before .before .before .before .before .before .before .before .before .before .before .before .before .before .before .before .before .before .before .before .before .before .before .before .before .before .before .before .before .before .before .before .before .before .before .before .before .before .before .before .before .before .before .before) .groups)) (λ c. omega (arith, c .before .before .before .before .before .before .before .before .before .before .before .before .before .before .before .before .before .before .before .before .before .before .before .before .before .before .before .before .before .before .group-of2 .ensures .1, holds (c .before .before .before .before .before .before .before .before .before .before .before .before .before .before .before .before .before .before .before .before .before .before .before .before .before .before .before .before .before .before .before .before .before .before .before .before .before .before .before .before .before .before .before .before .before .before .before .before) .groups)) (λ c κs. search needs) (λ c. let l = c .before .before .before .before .before .before .before .before .before .before .before .before .before .before .before .before .before .before .before .before .before .before .before .before .before .before .before .before .before .before .before .before .before .before .before .before .before in let v = l .loop in let h = v .inv in let r = c .before .before .before .before .before .before .before .before .before .before .before .before .before .before .before .before .before .before .before .before .before .before .before .before .before .before .before .before .before .before .before .before .before .before .before .before .before .before .before .before .before .before .before .before .before .before .before .before .before .pre in let u = computed (c .before .before .before .before .before .before .before .before .before .before .before .before .before .before .before .before .before .before .before) in omega (arith, early h (r .0) u (ahead (c .before .before .before .before .before .before .before .before .before .before .before .before .before .before .before .before .before .before)) .1, (ahead (c .before .before .before .before .before .before .before .before .before .before .before .before .before .before .before .before .before .before)))) loop-again (λ c. omega (arith, c .before .before .before .before .before .before .before .before .before .before .before .before .before .before .before .before .before .before .before .before .before .before .before .before .before .before .before .before .before .before .before .before .loop .inv .going .queues .ofDatas .bank)) (λ c. omega (arith, c .before .before .before .before .before .before .before .before .before .before .before .before .before .before .before .before .before .before .before .before .before .before .before .before .before .before .before .before .before .before .before .before .loop .inv .going .queues .ofDatas .bank)) (λ c κs. search needs) (λ c. omega (arith, c .before .before .before .before .before .before .before .before .before .before .before .before .before .before .before .before .before .before .before .before .before .before .before .before .before .before .before .before .before .before .before .before .before .before .loop .inv .going .queues .ofDatas .bank)) (λ c. omega (arith, c .before .before .before .before .before .before .before .before .before .before .before .before .before .before .before .before .before .before .before .before .before .before .before .before .before .before .before .before .before .before .before .before .before .before .loop .inv .going .queues .ofDatas .bank)) (λ c. omega (arith, c .before .before .before .before .before .before .before .before .before .before .before .before .before .before .before .before .before .before .before .before .before .before .before .before .before .before .before .before .group-of2 .ensures .1, holds (c .before .before .before .before .before .before .before .before .before .before .before .before .before .before .before .before .before .before .before .before .before .before .before .before .before .before .before .before .before .before .before .before .before .before .before .before .before .before .before .before .before .before .before .before .before .before) .groups)) (λ c. omega (arith, c .before .before .before .before .before .before .before .before .before .before .before .before .before .before .before .before .before .before .before .before .before .before .before .before .before .before .before .before .group-of2 .ensures .1, holds (c .before .before .before .before .before .before .before .before .before .before .before .before .before .before .before .before .before .before .before .before .before .before .before .before .before .before .before .before .before .before .before .before .before .before .before .before .before .before .before .before .before .before .before .before .before .before) .groups)) (λ c κs. search needs) (λ c. omega (arith, c .before .before .before .before .before .before .before .before .before .before .before .before .before .before .before .before .before .before .before .before .before .before .before .before .before .before .before .before .before .before .group-of2 .ensures .1, holds (c .before .before .before .before .before .before .before .before .before .before .before .before .before .before .before .before .before .before .before .before .before .before .before .before .before .before .before .before .before .before .before .before .before .before .before .before .before .before .before .before .before .before .before .before .before .before .before .before) .groups)) (λ c. omega (arith, c .before .before .before .before .before .before .before .before .before .before .before .before .before .before .before .before .before .before .before .before .before .before .before .before .before .before .before .before .before .before .group-of2 .ensures .1, holds (c .before .before .before .before .before .before .before .before .before .before .before .before .before .before .before .before .before .before .before .before .before .before .before .before .before .before .before .before .before .before .before .before .before .before .before .before .before .before .before .before .before .before .before .before .before .before .before .before) .groups)) (λ c κs. search needs) (λ c. let l = c .before .before .before .before .before .before .before .before .before .before .before .before .before .before .before .before .before .before .before .before .before .before .before .before .before .before .before .before .before .before .before .before .before .before .before .before .before in let v = l .loop in let h = v .inv in let r = c .before .before .before .before .before .before .before .before .before .before .before .before .before .before .before .before .before .before .before .before .before .before .before .before .before .before .before .before .before .before .before .before .before .before .before .before .before .before .before .before .before .before .before .before .before .before .before .before .before .pre in let u = computed (c .before .before .before .before .before .before .before .before .before .before .before .before .before .before .before .before .before .before .before) in omega (arith, early h (r .0) u (ahead (c .before .before .before .before .before .before .before .before .before .before .before .before .before .before .before .before .before .before)) .1, (ahead (c .before .before .before .before .before .before .before .before .before .before .before .before .before .before .before .before .before .before)))) loop-again-2 (λ c κs. let l = c .before .before .before .before .before .before .before .before .before .before .before .before .before .before .before .before .before .before .before .before in let v = l .loop in let h = v .inv in let r = c .before .before .before .before .before .before .before .before .before .before .before .before .before .before .before .before .before .before .before .before .before .before .before .before .before .before .before .before .before .before .before .before .pre in let u = computed (c .before .before) in omega (arith, early h (r .0) u (ahead (c .before)) .0)) (λ c. let l = c .before .before .before .before .before .before .before .before .before .before .before .before .before .before .before .before .before .before .before .before .before .before in let v = l .loop in let h = v .inv in let r = c .before .before .before .before .before .before .before .before .before .before .before .before .before .before .before .before .before .before .before .before .before .before .before .before .before .before .before .before .before .before .before .before .before .before .pre in let u = computed (c .before .before .before .before) in omega (arith, few (act-goes h (r .0) u (ahead (c .before .before .before)) (omega (arith, c .before .before .if3 .left))), c .before .before .before .before .before .before .before .before .before .before .before .before .before .before .before .before .before .before .before .before .before .before .before .before .before .before .before .before .before .before .before .before .before .before .fits .count)) (λ c κs. let l = c .before .before .before .before .before .before .before .before .before .before .before .before .before .before .before .before .before .before .before .before .before .before in let v = l .loop in let h = v .inv in let r = c .before .before .before .before .before .before .before .before .before .before .before .before .before .before .before .before .before .before .before .before .before .before .before .before .before .before .before .before .before .before .before .before .before .before .pre in let u = computed (c .before .before .before .before) in room-for (act-goes h (r .0) u (ahead (c .before .before .before)) (omega (arith, c .before .before .if3 .left)))) (λ c. let l = c .before .before .before .before .before .before .before .before .before .before .before .before .before .before .before .before .before .before .before .before .before .before .before .before .before in let v = l .loop in let h = v .inv in let r = c .before .before .before .before .before .before .before .before .before .before .before .before .before .before .before .before .before .before .before .before .before .before .before .before .before .before .before .before .before .before .before .before .before .before .before .before .before .pre in let u = computed (c .before .before .before .before .before .before .before) in omega (arith, few (act-goes h (r .0) u (ahead (c .before .before .before .before .before .before)) (omega (arith, c .before .before .before .before .before .if3 .left))), c .before .before .before .before .before .before .before .before .before .before .before .before .before .before .before .before .before .before .before .before .before .before .before .before .before .before .before .before .before .before .before .before .before .before .before .before .before .fits .count)) advance-requires (λ c κs. search needs) add-s-2 (λ c. let l = c .before .before .before .before .before .before .before .before .before .before .before .before .before .before .before .before .before .before .before .before .before .before .before .before .before .before .before .before .before .before .before .before in let v = l .loop in let h = v .inv in let r = c .before .before .before .before .before .before .before .before .before .before .before .before .before .before .before .before .before .before .before .before .before .before .before .before .before .before .before .before .before .before .before .before .before .before .before .before .before .before .before .before .before .before .before .before .pre in let u = computed (c .before .before .before .before .before .before .before .before .before .before .before .before .before .before) in omega (arith, act-for h (r .0) u (ahead (c .before .before .before .before .before .before .before .before .before .before .before .before .before)) (omega (arith, c .before .before .before .before .before .before .before .before .before .before .before .before .if3 .left)), few-listed (r .0 .list))) (λ c. let l = c .before .before .before .before .before .before .before .before .before .before .before .before .before .before .before .before .before .before .before .before .before .before .before .before .before .before .before .before .before .before .before .before in let v = l .loop in let h = v .inv in let r = c .before .before .before .before .before .before .before .before .before .before .before .before .before .before .before .before .before .before .before .before .before .before .before .before .before .before .before .before .before .before .before .before .before .before .before .before .before .before .before .before .before .before .before .before .pre in let u = computed (c .before .before .before .before .before .before .before .before .before .before .before .before .before .before) in omega (arith, early h (r .0) u (ahead (c .before .before .before .before .before .before .before .before .before .before .before .before .before)) .0)) (λ c. let l = c .before .before .before .before .before .before .before .before .before .before .before .before .before .before .before .before .before .before .before .before .before .before .before .before .before .before .before .before .before .before .before .before in let v = l .loop in let h = v .inv in let r = c .before .before .before .before .before .before .before .before .before .before .before .before .before .before .before .before .before .before .before .before .before .before .before .before .before .before .before .before .before .before .before .before .before .before .before .before .before .before .before .before .before .before .before .before .pre in let u = computed (c .before .before .before .before .before .before .before .before .before .before .before .before .before .before) in omega (arith, act-for h (r .0) u (ahead (c .before .before .before .before .before .before .before .before .before .before .before .before .before)) (omega (arith, c .before .before .before .before .before .before .before .before .before .before .before .before .if3 .left)), few-listed (r .0 .list))) (λ c. let l = c .before .before .before .before .before .before .before .before .before .before .before .before .before .before .before .before .before .before .before .before .before .before .before .before .before .before .before .before .before .before .before .before in let v = l .loop in let h = v .inv in let r = c .before .before .before .before .before .before .before .before .before .before .before .before .before .before .before .before .before .before .before .before .before .before .before .before .before .before .before .before .before .before .before .before .before .before .before .before .before .before .before .before .before .before .before .before .pre in let u = computed (c .before .before .before .before .before .before .before .before .before .before .before .before .before .before) in omega (arith, act-for h (r .0) u (ahead (c .before .before .before .before .before .before .before .before .before .before .before .before .before)) (omega (arith, c .before .before .before .before .before .before .before .before .before .before .before .before .if3 .left)), r .2, h .marking .marked .size)) (λ c. let l = c .before .before .before .before .before .before .before .before .before .before .before .before .before .before .before .before .before .before .before .before .before .before .before .before .before .before .before .before .before .before .before .before in let v = l .loop in let h = v .inv in let r = c .before .before .before .before .before .before .before .before .before .before .before .before .before .before .before .before .before .before .before .before .before .before .before .before .before .before .before .before .before .before .before .before .before .before .before .before .before .before .before .before .before .before .before .before .pre in let u = computed (c .before .before .before .before .before .before .before .before .before .before .before .before .before .before) in omega (arith, early h (r .0) u (ahead (c .before .before .before .before .before .before .before .before .before .before .before .before .before)) .1, (ahead (c .before .before .before .before .before .before .before .before .before .before .before .before .before)))) loop-again-3 (λ c. omega (arith, c .before .before .before .before .before .before .before .before .before .before .before .before .before .before .before .before .before .before .before .before .before .before .before .before .before .before .before .before .before .before .before .loop .inv .going .queues .ofActs .bank)) (λ c. omega (arith, c .before .before .before .before .before .before .before .before .before .before .before .before .before .before .before .before .before .before .before .before .before .before .before .before .before .before .before .before .before .before .before .loop .inv .going .queues .ofActs .bank)) (λ c. omega (arith, c .before .before .before .before .before .before .before .before .before .before .before .before .before .before .before .before .before .before .before .before .before .before .before .before .before .before .group-of .ensures .1, holds (c .before .before .before .before .before .before .before .before .before .before .before .before .before .before .before .before .before .before .before .before .before .before .before .before .before .before .before .before .before .before .before .before .before .before .before .before .before .before .before .before .before .before .before) .groups)) (λ c. omega (arith, c .before .before .before .before .before .before .before .before .before .before .before .before .before .before .before .before .before .before .before .before .before .before .before .before .before .before .group-of .ensures .1, holds (c .before .before .before .before .before .before .before .before .before .before .before .before .before .before .before .before .before .before .before .before .before .before .before .before .before .before .before .before .before .before .before .before .before .before .before .before .before .before .before .before .before .before .before) .groups)) (λ c κs. search needs) (λ c. omega (arith, c .before .before .before .before .before .before .before .before .before .before .before .before .before .before .before .before .before .before .before .before .before .before .before .before .before .before .before .before .group-of .ensures .1, holds (c .before .before .before .before .before .before .before .before .before .before .before .before .before .before .before .before .before .before .before .before .before .before .before .before .before .before .before .before .before .before .before .before .before .before .before .before .before .before .before .before .before .before .before .before .before) .groups)) (λ c. omega (arith, c .before .before .before .before .before .before .before .before .before .before .before .before .before .before .before .before .before .before .before .before .before .before .before .before .before .before .before .before .group-of .ensures .1, holds (c .before .before .before .before .before .before .before .before .before .before .before .before .before .before .before .before .before .before .before .before .before .before .before .before .before .before .before .before .before .before .before .before .before .before .before .before .before .before .before .before .before .before .before .before .before) .groups)) (λ c κs. search needs) (λ c. let l = c .before .before .before .before .before .before .before .before .before .before .before .before .before .before .before .before .before .before .before .before .before .before .before .before .before .before .before .before .before .before .before .before .before .before in let v = l .loop in let h = v .inv in let r = c .before .before .before .before .before .before .before .before .before .before .before .before .before .before .before .before .before .before .before .before .before .before .before .before .before .before .before .before .before .before .before .before .before .before .before .before .before .before .before .before .before .before .before .before .before .before .pre in let u = computed (c .before .before .before .before .before .before .before .before .before .before .before .before .before .before .before .before) in omega (arith, early h (r .0) u (ahead (c .before .before .before .before .before .before .before .before .before .before .before .before .before .before .before)) .1, (ahead (c .before .before .before .before .before .before .before .before .before .before .before .before .before .before .before)))) loop-again-4)
+run-marked-spec = tie.close (tie.spec Inv-loop μ-loop (λ c κs. search needs) (λ c κs. search needs) (λ c κs. search needs) (λ c. omega (arith, holds (c .before .before .before .before .before .before .before .before) .groups)) latest-of-requires (λ c κs. c .before .before .before .before .before .before .before .before .before .pre .0 .list) (λ c κs. c .before .before .before .before .before .before .before .before .before .before .pre .0 .list) loop-holds (λ c. search needs) (λ c. search needs) (λ c κs. holds (c .before .before .before .before .before .before .before .before .before .before .before .before .before .before .before .before) .some) (λ c κs. holds (c .before .before .before .before .before .before .before .before .before .before .before .before .before .before .before .before .before) .some) (λ c κs. search needs) (λ c κs. search needs) (λ c. omega (arith, c .before .before .before .before .before .before .before .before .loop .inv .going .queues .ofDatas .bank)) (λ c. omega (arith, c .before .before .before .before .before .before .before .before .loop .inv .going .queues .ofDatas .bank)) (λ c κs. search needs) (λ c. omega (arith, c .before .before .before .before .group-of2 .ensures .1, holds (c .before .before .before .before .before .before .before .before .before .before .before .before .before .before .before .before .before .before .before .before .before .before) .groups)) (λ c. omega (arith, c .before .before .before .before .group-of2 .ensures .1, holds (c .before .before .before .before .before .before .before .before .before .before .before .before .before .before .before .before .before .before .before .before .before .before) .groups)) (λ c. omega (arith, c .before .before .before .before .group-of2 .ensures .1, holds (c .before .before .before .before .before .before .before .before .before .before .before .before .before .before .before .before .before .before .before .before .before .before) .groups)) (λ c. omega (arith, c .before .before .before .before .group-of2 .ensures .1, holds (c .before .before .before .before .before .before .before .before .before .before .before .before .before .before .before .before .before .before .before .before .before .before) .groups)) (λ c κs. search needs) (λ c κs. search needs) (λ c. omega (arith, c .before .before .before .before .before .before .before .before .before .before .before .before .loop .inv .going .queues .ofActs .bank)) (λ c. omega (arith, c .before .before .before .before .before .before .before .before .before .before .before .before .loop .inv .going .queues .ofActs .bank)) (λ c. omega (arith, c .before .before .before .before .before .before .before .before .group-of .ensures .1, holds (c .before .before .before .before .before .before .before .before .before .before .before .before .before .before .before .before .before .before .before .before .before .before .before .before .before) .groups)) (λ c. omega (arith, c .before .before .before .before .before .before .before .before .group-of .ensures .1, holds (c .before .before .before .before .before .before .before .before .before .before .before .before .before .before .before .before .before .before .before .before .before .before .before .before .before) .groups)) (λ c κs. search needs) (λ c κs. search needs) (λ c κs. holds (c .before .before .before .before .before .before .before .before .before .before .before .before .before .before .before .before .before .before .before .before .before .before .before .before .before .before .before .before) .banks) (λ c κs. search needs) (λ c κs. search needs) (λ c κs. search needs) (λ c κs. search needs) (λ c κs. search needs) sub-ran cast-ran same-length same-length-2 returns add-next (λ c. let l = c .before .before .before .before .before .before .before .before .before .before .before .before .before .before .before .before .before .before .before .before .before in let v = l .loop in let h = v .inv in let r = c .before .before .before .before .before .before .before .before .before .before .before .before .before .before .before .before .before .before .before .before .before .before .before .before .before .before .before .before .before .before .before .before .before .pre in let u = computed (c .before .before .before) in omega (arith, data-for h (r .0) u (ahead (c .before .before)) (omega (arith, c .before .if3 .taken)), few-listed (r .0 .list))) (λ c κs. let l = c .before .before .before .before .before .before .before .before .before .before .before .before .before .before .before .before .before .before .before .before .before in let v = l .loop in let h = v .inv in let r = c .before .before .before .before .before .before .before .before .before .before .before .before .before .before .before .before .before .before .before .before .before .before .before .before .before .before .before .before .before .before .before .before .before .pre in let u = computed (c .before .before .before) in omega (arith, early h (r .0) u (ahead (c .before .before)) .0)) (λ c. let l = c .before .before .before .before .before .before .before .before .before .before .before .before .before .before .before .before .before .before .before .before .before .before .before in let v = l .loop in let h = v .inv in let r = c .before .before .before .before .before .before .before .before .before .before .before .before .before .before .before .before .before .before .before .before .before .before .before .before .before .before .before .before .before .before .before .before .before .before .before .pre in let u = computed (c .before .before .before .before .before) in omega (arith, few (data-goes h (r .0) u (ahead (c .before .before .before .before)) (omega (arith, c .before .before .before .if3 .taken))), c .before .before .before .before .before .before .before .before .before .before .before .before .before .before .before .before .before .before .before .before .before .before .before .before .before .before .before .before .before .before .before .before .before .before .before .fits .count)) (λ c κs. let l = c .before .before .before .before .before .before .before .before .before .before .before .before .before .before .before .before .before .before .before .before .before .before .before in let v = l .loop in let h = v .inv in let r = c .before .before .before .before .before .before .before .before .before .before .before .before .before .before .before .before .before .before .before .before .before .before .before .before .before .before .before .before .before .before .before .before .before .before .before .pre in let u = computed (c .before .before .before .before .before) in room-for (data-goes h (r .0) u (ahead (c .before .before .before .before)) (omega (arith, c .before .before .before .if3 .taken)))) (λ c. let l = c .before .before .before .before .before .before .before .before .before .before .before .before .before .before .before .before .before .before .before .before .before .before .before .before .before .before in let v = l .loop in let h = v .inv in let r = c .before .before .before .before .before .before .before .before .before .before .before .before .before .before .before .before .before .before .before .before .before .before .before .before .before .before .before .before .before .before .before .before .before .before .before .before .before .before .pre in let u = computed (c .before .before .before .before .before .before .before .before) in omega (arith, early h (r .0) u (ahead (c .before .before .before .before .before .before .before)) .0)) (λ c. let l = c .before .before .before .before .before .before .before .before .before .before .before .before .before .before .before .before .before .before .before .before .before .before .before .before .before .before in let v = l .loop in let h = v .inv in let r = c .before .before .before .before .before .before .before .before .before .before .before .before .before .before .before .before .before .before .before .before .before .before .before .before .before .before .before .before .before .before .before .before .before .before .before .before .before .before .pre in let u = computed (c .before .before .before .before .before .before .before .before) in omega (arith, data-for h (r .0) u (ahead (c .before .before .before .before .before .before .before)) (omega (arith, c .before .before .before .before .before .before .if3 .taken)), few-listed (r .0 .list))) (λ c. let l = c .before .before .before .before .before .before .before .before .before .before .before .before .before .before .before .before .before .before .before .before .before .before .before .before .before .before in let v = l .loop in let h = v .inv in let r = c .before .before .before .before .before .before .before .before .before .before .before .before .before .before .before .before .before .before .before .before .before .before .before .before .before .before .before .before .before .before .before .before .before .before .before .before .before .before .pre in let u = computed (c .before .before .before .before .before .before .before .before) in omega (arith, data-for h (r .0) u (ahead (c .before .before .before .before .before .before .before)) (omega (arith, c .before .before .before .before .before .before .if3 .taken)), r .2, h .marking .marked .size)) (λ c. let l = c .before .before .before .before .before .before .before .before .before .before .before .before .before .before .before .before .before .before .before .before .before .before .before .before .before .before in let v = l .loop in let h = v .inv in let r = c .before .before .before .before .before .before .before .before .before .before .before .before .before .before .before .before .before .before .before .before .before .before .before .before .before .before .before .before .before .before .before .before .before .before .before .before .before .before .pre in let u = computed (c .before .before .before .before .before .before .before .before) in omega (arith, few (data-goes h (r .0) u (ahead (c .before .before .before .before .before .before .before)) (omega (arith, c .before .before .before .before .before .before .if3 .taken))), c .before .before .before .before .before .before .before .before .before .before .before .before .before .before .before .before .before .before .before .before .before .before .before .before .before .before .before .before .before .before .before .before .before .before .before .before .before .before .fits .count)) data-after-requires (λ c κs. search needs) (λ c κs. search needs) add-s (λ c. omega (arith, c .before .before .before .before .before .before .before .before .before .before .before .before .before .before .before .before .before .before .before .before .before .before .before .before .before .before .before .before .before .before .before .before .loop .inv .going .queues .ofDatas .bank)) (λ c. omega (arith, c .before .before .before .before .before .before .before .before .before .before .before .before .before .before .before .before .before .before .before .before .before .before .before .before .before .before .before .before .before .before .before .before .loop .inv .going .queues .ofDatas .bank)) (λ c κs. search needs) (λ c. omega (arith, c .before .before .before .before .before .before .before .before .before .before .before .before .before .before .before .before .before .before .before .before .before .before .before .before .before .before .before .before .before .before .before .before .before .before .loop .inv .going .queues .ofDatas .bank)) (λ c. omega (arith, c .before .before .before .before .before .before .before .before .before .before .before .before .before .before .before .before .before .before .before .before .before .before .before .before .before .before .before .before .before .before .before .before .before .before .loop .inv .going .queues .ofDatas .bank)) (λ c. omega (arith, c .before .before .before .before .before .before .before .before .before .before .before .before .before .before .before .before .before .before .before .before .before .before .before .before .before .before .before .before .group-of2 .ensures .1, holds (c .before .before .before .before .before .before .before .before .before .before .before .before .before .before .before .before .before .before .before .before .before .before .before .before .before .before .before .before .before .before .before .before .before .before .before .before .before .before .before .before .before .before .before .before .before .before) .groups)) (λ c. omega (arith, c .before .before .before .before .before .before .before .before .before .before .before .before .before .before .before .before .before .before .before .before .before .before .before .before .before .before .before .before .group-of2 .ensures .1, holds (c .before .before .before .before .before .before .before .before .before .before .before .before .before .before .before .before .before .before .before .before .before .before .before .before .before .before .before .before .before .before .before .before .before .before .before .before .before .before .before .before .before .before .before .before .before .before) .groups)) (λ c κs. search needs) (λ c. omega (arith, c .before .before .before .before .before .before .before .before .before .before .before .before .before .before .before .before .before .before .before .before .before .before .before .before .before .before .before .before .before .before .group-of2 .ensures .1, holds (c .before .before .before .before .before .before .before .before .before .before .before .before .before .before .before .before .before .before .before .before .before .before .before .before .before .before .before .before .before .before .before .before .before .before .before .before .before .before .before .before .before .before .before .before .before .before .before .before) .groups)) (λ c. omega (arith, c .before .before .before .before .before .before .before .before .before .before .before .before .before .before .before .before .before .before .before .before .before .before .before .before .before .before .before .before .before .before .group-of2 .ensures .1, holds (c .before .before .before .before .before .before .before .before .before .before .before .before .before .before .before .before .before .before .before .before .before .before .before .before .before .before .before .before .before .before .before .before .before .before .before .before .before .before .before .before .before .before .before .before .before .before .before .before) .groups)) (λ c κs. search needs) (λ c. let l = c .before .before .before .before .before .before .before .before .before .before .before .before .before .before .before .before .before .before .before .before .before .before .before .before .before .before .before .before .before .before .before .before .before .before .before .before .before in let v = l .loop in let h = v .inv in let r = c .before .before .before .before .before .before .before .before .before .before .before .before .before .before .before .before .before .before .before .before .before .before .before .before .before .before .before .before .before .before .before .before .before .before .before .before .before .before .before .before .before .before .before .before .before .before .before .before .before .pre in let u = computed (c .before .before .before .before .before .before .before .before .before .before .before .before .before .before .before .before .before .before .before) in omega (arith, early h (r .0) u (ahead (c .before .before .before .before .before .before .before .before .before .before .before .before .before .before .before .before .before .before)) .1, (ahead (c .before .before .before .before .before .before .before .before .before .before .before .before .before .before .before .before .before .before)))) loop-again (λ c. omega (arith, c .before .before .before .before .before .before .before .before .before .before .before .before .before .before .before .before .before .before .before .before .before .before .before .before .before .before .before .before .before .before .before .before .loop .inv .going .queues .ofDatas .bank)) (λ c. omega (arith, c .before .before .before .before .before .before .before .before .before .before .before .before .before .before .before .before .before .before .before .before .before .before .before .before .before .before .before .before .before .before .before .before .loop .inv .going .queues .ofDatas .bank)) (λ c κs. search needs) (λ c. omega (arith, c .before .before .before .before .before .before .before .before .before .before .before .before .before .before .before .before .before .before .before .before .before .before .before .before .before .before .before .before .before .before .before .before .before .before .loop .inv .going .queues .ofDatas .bank)) (λ c. omega (arith, c .before .before .before .before .before .before .before .before .before .before .before .before .before .before .before .before .before .before .before .before .before .before .before .before .before .before .before .before .before .before .before .before .before .before .loop .inv .going .queues .ofDatas .bank)) (λ c. omega (arith, c .before .before .before .before .before .before .before .before .before .before .before .before .before .before .before .before .before .before .before .before .before .before .before .before .before .before .before .before .group-of2 .ensures .1, holds (c .before .before .before .before .before .before .before .before .before .before .before .before .before .before .before .before .before .before .before .before .before .before .before .before .before .before .before .before .before .before .before .before .before .before .before .before .before .before .before .before .before .before .before .before .before .before) .groups)) (λ c. omega (arith, c .before .before .before .before .before .before .before .before .before .before .before .before .before .before .before .before .before .before .before .before .before .before .before .before .before .before .before .before .group-of2 .ensures .1, holds (c .before .before .before .before .before .before .before .before .before .before .before .before .before .before .before .before .before .before .before .before .before .before .before .before .before .before .before .before .before .before .before .before .before .before .before .before .before .before .before .before .before .before .before .before .before .before) .groups)) (λ c κs. search needs) (λ c. omega (arith, c .before .before .before .before .before .before .before .before .before .before .before .before .before .before .before .before .before .before .before .before .before .before .before .before .before .before .before .before .before .before .group-of2 .ensures .1, holds (c .before .before .before .before .before .before .before .before .before .before .before .before .before .before .before .before .before .before .before .before .before .before .before .before .before .before .before .before .before .before .before .before .before .before .before .before .before .before .before .before .before .before .before .before .before .before .before .before) .groups)) (λ c. omega (arith, c .before .before .before .before .before .before .before .before .before .before .before .before .before .before .before .before .before .before .before .before .before .before .before .before .before .before .before .before .before .before .group-of2 .ensures .1, holds (c .before .before .before .before .before .before .before .before .before .before .before .before .before .before .before .before .before .before .before .before .before .before .before .before .before .before .before .before .before .before .before .before .before .before .before .before .before .before .before .before .before .before .before .before .before .before .before .before) .groups)) (λ c κs. search needs) (λ c. let l = c .before .before .before .before .before .before .before .before .before .before .before .before .before .before .before .before .before .before .before .before .before .before .before .before .before .before .before .before .before .before .before .before .before .before .before .before .before in let v = l .loop in let h = v .inv in let r = c .before .before .before .before .before .before .before .before .before .before .before .before .before .before .before .before .before .before .before .before .before .before .before .before .before .before .before .before .before .before .before .before .before .before .before .before .before .before .before .before .before .before .before .before .before .before .before .before .before .pre in let u = computed (c .before .before .before .before .before .before .before .before .before .before .before .before .before .before .before .before .before .before .before) in omega (arith, early h (r .0) u (ahead (c .before .before .before .before .before .before .before .before .before .before .before .before .before .before .before .before .before .before)) .1, (ahead (c .before .before .before .before .before .before .before .before .before .before .before .before .before .before .before .before .before .before)))) loop-again-2 (λ c κs. let l = c .before .before .before .before .before .before .before .before .before .before .before .before .before .before .before .before .before .before .before .before in let v = l .loop in let h = v .inv in let r = c .before .before .before .before .before .before .before .before .before .before .before .before .before .before .before .before .before .before .before .before .before .before .before .before .before .before .before .before .before .before .before .before .pre in let u = computed (c .before .before) in omega (arith, early h (r .0) u (ahead (c .before)) .0)) (λ c. let l = c .before .before .before .before .before .before .before .before .before .before .before .before .before .before .before .before .before .before .before .before .before .before in let v = l .loop in let h = v .inv in let r = c .before .before .before .before .before .before .before .before .before .before .before .before .before .before .before .before .before .before .before .before .before .before .before .before .before .before .before .before .before .before .before .before .before .before .pre in let u = computed (c .before .before .before .before) in omega (arith, few (act-goes h (r .0) u (ahead (c .before .before .before)) (c .before .before .if3 .left)), c .before .before .before .before .before .before .before .before .before .before .before .before .before .before .before .before .before .before .before .before .before .before .before .before .before .before .before .before .before .before .before .before .before .before .fits .count)) (λ c κs. let l = c .before .before .before .before .before .before .before .before .before .before .before .before .before .before .before .before .before .before .before .before .before .before in let v = l .loop in let h = v .inv in let r = c .before .before .before .before .before .before .before .before .before .before .before .before .before .before .before .before .before .before .before .before .before .before .before .before .before .before .before .before .before .before .before .before .before .before .pre in let u = computed (c .before .before .before .before) in room-for (act-goes h (r .0) u (ahead (c .before .before .before)) (c .before .before .if3 .left))) (λ c. let l = c .before .before .before .before .before .before .before .before .before .before .before .before .before .before .before .before .before .before .before .before .before .before .before .before .before in let v = l .loop in let h = v .inv in let r = c .before .before .before .before .before .before .before .before .before .before .before .before .before .before .before .before .before .before .before .before .before .before .before .before .before .before .before .before .before .before .before .before .before .before .before .before .before .pre in let u = computed (c .before .before .before .before .before .before .before) in omega (arith, few (act-goes h (r .0) u (ahead (c .before .before .before .before .before .before)) (c .before .before .before .before .before .if3 .left)), c .before .before .before .before .before .before .before .before .before .before .before .before .before .before .before .before .before .before .before .before .before .before .before .before .before .before .before .before .before .before .before .before .before .before .before .before .before .fits .count)) advance-requires (λ c κs. search needs) add-s-2 (λ c. let l = c .before .before .before .before .before .before .before .before .before .before .before .before .before .before .before .before .before .before .before .before .before .before .before .before .before .before .before .before .before .before .before .before in let v = l .loop in let h = v .inv in let r = c .before .before .before .before .before .before .before .before .before .before .before .before .before .before .before .before .before .before .before .before .before .before .before .before .before .before .before .before .before .before .before .before .before .before .before .before .before .before .before .before .before .before .before .before .pre in let u = computed (c .before .before .before .before .before .before .before .before .before .before .before .before .before .before) in omega (arith, act-for h (r .0) u (ahead (c .before .before .before .before .before .before .before .before .before .before .before .before .before)) (c .before .before .before .before .before .before .before .before .before .before .before .before .if3 .left), few-listed (r .0 .list))) (λ c. let l = c .before .before .before .before .before .before .before .before .before .before .before .before .before .before .before .before .before .before .before .before .before .before .before .before .before .before .before .before .before .before .before .before in let v = l .loop in let h = v .inv in let r = c .before .before .before .before .before .before .before .before .before .before .before .before .before .before .before .before .before .before .before .before .before .before .before .before .before .before .before .before .before .before .before .before .before .before .before .before .before .before .before .before .before .before .before .before .pre in let u = computed (c .before .before .before .before .before .before .before .before .before .before .before .before .before .before) in omega (arith, early h (r .0) u (ahead (c .before .before .before .before .before .before .before .before .before .before .before .before .before)) .0)) (λ c. let l = c .before .before .before .before .before .before .before .before .before .before .before .before .before .before .before .before .before .before .before .before .before .before .before .before .before .before .before .before .before .before .before .before in let v = l .loop in let h = v .inv in let r = c .before .before .before .before .before .before .before .before .before .before .before .before .before .before .before .before .before .before .before .before .before .before .before .before .before .before .before .before .before .before .before .before .before .before .before .before .before .before .before .before .before .before .before .before .pre in let u = computed (c .before .before .before .before .before .before .before .before .before .before .before .before .before .before) in omega (arith, act-for h (r .0) u (ahead (c .before .before .before .before .before .before .before .before .before .before .before .before .before)) (c .before .before .before .before .before .before .before .before .before .before .before .before .if3 .left), few-listed (r .0 .list))) (λ c. let l = c .before .before .before .before .before .before .before .before .before .before .before .before .before .before .before .before .before .before .before .before .before .before .before .before .before .before .before .before .before .before .before .before in let v = l .loop in let h = v .inv in let r = c .before .before .before .before .before .before .before .before .before .before .before .before .before .before .before .before .before .before .before .before .before .before .before .before .before .before .before .before .before .before .before .before .before .before .before .before .before .before .before .before .before .before .before .before .pre in let u = computed (c .before .before .before .before .before .before .before .before .before .before .before .before .before .before) in omega (arith, act-for h (r .0) u (ahead (c .before .before .before .before .before .before .before .before .before .before .before .before .before)) (c .before .before .before .before .before .before .before .before .before .before .before .before .if3 .left), r .2, h .marking .marked .size)) (λ c. let l = c .before .before .before .before .before .before .before .before .before .before .before .before .before .before .before .before .before .before .before .before .before .before .before .before .before .before .before .before .before .before .before .before in let v = l .loop in let h = v .inv in let r = c .before .before .before .before .before .before .before .before .before .before .before .before .before .before .before .before .before .before .before .before .before .before .before .before .before .before .before .before .before .before .before .before .before .before .before .before .before .before .before .before .before .before .before .before .pre in let u = computed (c .before .before .before .before .before .before .before .before .before .before .before .before .before .before) in omega (arith, early h (r .0) u (ahead (c .before .before .before .before .before .before .before .before .before .before .before .before .before)) .1, (ahead (c .before .before .before .before .before .before .before .before .before .before .before .before .before)))) loop-again-3 (λ c. omega (arith, c .before .before .before .before .before .before .before .before .before .before .before .before .before .before .before .before .before .before .before .before .before .before .before .before .before .before .before .before .before .before .before .loop .inv .going .queues .ofActs .bank)) (λ c. omega (arith, c .before .before .before .before .before .before .before .before .before .before .before .before .before .before .before .before .before .before .before .before .before .before .before .before .before .before .before .before .before .before .before .loop .inv .going .queues .ofActs .bank)) (λ c. omega (arith, c .before .before .before .before .before .before .before .before .before .before .before .before .before .before .before .before .before .before .before .before .before .before .before .before .before .before .group-of .ensures .1, holds (c .before .before .before .before .before .before .before .before .before .before .before .before .before .before .before .before .before .before .before .before .before .before .before .before .before .before .before .before .before .before .before .before .before .before .before .before .before .before .before .before .before .before .before) .groups)) (λ c. omega (arith, c .before .before .before .before .before .before .before .before .before .before .before .before .before .before .before .before .before .before .before .before .before .before .before .before .before .before .group-of .ensures .1, holds (c .before .before .before .before .before .before .before .before .before .before .before .before .before .before .before .before .before .before .before .before .before .before .before .before .before .before .before .before .before .before .before .before .before .before .before .before .before .before .before .before .before .before .before) .groups)) (λ c κs. search needs) (λ c. omega (arith, c .before .before .before .before .before .before .before .before .before .before .before .before .before .before .before .before .before .before .before .before .before .before .before .before .before .before .before .before .group-of .ensures .1, holds (c .before .before .before .before .before .before .before .before .before .before .before .before .before .before .before .before .before .before .before .before .before .before .before .before .before .before .before .before .before .before .before .before .before .before .before .before .before .before .before .before .before .before .before .before .before) .groups)) (λ c. omega (arith, c .before .before .before .before .before .before .before .before .before .before .before .before .before .before .before .before .before .before .before .before .before .before .before .before .before .before .before .before .group-of .ensures .1, holds (c .before .before .before .before .before .before .before .before .before .before .before .before .before .before .before .before .before .before .before .before .before .before .before .before .before .before .before .before .before .before .before .before .before .before .before .before .before .before .before .before .before .before .before .before .before) .groups)) (λ c κs. search needs) (λ c. let l = c .before .before .before .before .before .before .before .before .before .before .before .before .before .before .before .before .before .before .before .before .before .before .before .before .before .before .before .before .before .before .before .before .before .before in let v = l .loop in let h = v .inv in let r = c .before .before .before .before .before .before .before .before .before .before .before .before .before .before .before .before .before .before .before .before .before .before .before .before .before .before .before .before .before .before .before .before .before .before .before .before .before .before .before .before .before .before .before .before .before .before .pre in let u = computed (c .before .before .before .before .before .before .before .before .before .before .before .before .before .before .before .before) in omega (arith, early h (r .0) u (ahead (c .before .before .before .before .before .before .before .before .before .before .before .before .before .before .before)) .1, (ahead (c .before .before .before .before .before .before .before .before .before .before .before .before .before .before .before)))) loop-again-4)
