@@ -154,6 +154,26 @@ static void captures(void) {
     MUST(finds(skv_judge_capture(EDITION, table, 32, again, 12, commands, 25), 11, 2, EDITION, 0, 0, 0));
 }
 
+static void serving(void) {
+    const skv_transaction two[2] = {{.kind = 0, .start = 9, .bi = 1, .bc = 1, .arrival = 70}, {.kind = 1, .start = 3, .bi = 1, .bc = 1, .arrival = 80}};
+    uint8_t schedule[40];
+    put(schedule, 0, 0, 9, 0);
+    put(schedule + 8, 11, 2, 9, 0);
+    put(schedule + 16, 300, 0, 3, 1);
+    put(schedule + 24, 311, 4, 3, 1);
+    asked(two, 2, schedule, 32, 1, 0, 0, 0);
+    asked(two, 1, schedule, 16, 1, 0, 0, 0);
+    /* The write is missing; the read, and with it the lower, is. */
+    asked(two, 2, schedule, 16, 0, 0, 0, 1);
+    asked(two, 2, schedule + 16, 16, 0, 0, 0, 0);
+    /* A record outside the list. */
+    asked(two, 1, schedule, 32, 0, 0, 0, 1);
+    asked(two, 0, schedule, 32, 0, 0, 0, 0);
+    /* The judge comes first: the last record nearer to its ACT than RCD. */
+    put(schedule + 24, 310, 4, 3, 1);
+    asked(two, 2, schedule, 32, 0, 8, 3, 0);
+}
+
 static const skv_transaction three[3] = {{.kind = 1, .start = 3, .bi = 1, .bc = 2, .arrival = 800},
                                          {.kind = 0, .start = 9, .bi = 1, .bc = 2, .arrival = 900},
                                          {.kind = 2, .start = 0, .bi = 0, .bc = 0, .arrival = 1000}};
@@ -259,6 +279,7 @@ int main(void) {
     lists();
     verdicts();
     captures();
+    serving();
     running_controllers();
     return wrong;
 }

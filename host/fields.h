@@ -39,8 +39,33 @@ static int finds(skv_capture_answer a, uint32_t refused, uint32_t position, uint
     return a.refused == refused && a.position == position && a.edition == edition && a.count == count && a.rule == rule && a.record == record;
 }
 
+static int tells(skv_serves_answer a, uint32_t refused, uint32_t position, uint32_t edition, uint32_t serves, uint32_t rule, uint32_t record,
+                 uint32_t transaction) {
+    return a.refused == refused && a.position == position && a.edition == edition && a.serves == serves && a.rule == rule && a.record == record &&
+           a.transaction == transaction;
+}
+
 static void put(uint8_t *out, uint32_t cycle, uint8_t kind, uint8_t bank, uint16_t number) {
     const uint8_t bytes[8] = {(uint8_t)cycle, (uint8_t)(cycle >> 8), (uint8_t)(cycle >> 16), (uint8_t)(cycle >> 24),
                               kind,           bank,                  (uint8_t)number,        (uint8_t)(number >> 8)};
     memcpy(out, bytes, 8);
+}
+
+/* By each call, of the lent list and of its bytes. */
+static void asked(const skv_transaction *list, size_t n, const uint8_t *schedule, size_t size, uint32_t serves, uint32_t rule, uint32_t record,
+                  uint32_t transaction) {
+    uint8_t four[12], eight[24];
+    for (size_t k = 0; k < n; k++) {
+        MUST(skv_write_later(list[k].kind, list[k].start, list[k].bi, list[k].bc, list[k].arrival, eight + 8 * k, 8).refused == 0);
+        memcpy(four + 4 * k, eight + 8 * k, 4);
+    }
+    MUST(tells(skv_serves(EDITION, table, 32, list, n, schedule, size), 0, 0, EDITION, serves, rule, record, transaction));
+    MUST(tells(skv_serves_bytes(EDITION, table, 32, four, 4 * n, schedule, size), 0, 0, EDITION, serves, rule, record, transaction));
+    MUST(tells(skv_serves_later_bytes(EDITION, table, 32, eight, 8 * n, schedule, size), 0, 0, EDITION, serves, rule, record, transaction));
+    MUST(tells(skv_serves(EDITION, table, 32, list, n, schedule, size + 1), 7, 0, EDITION, 0, 0, 0, 0));
+    MUST(tells(skv_serves_bytes(EDITION, table, 32, four, 4 * n + 1, schedule, size), 3, 0, EDITION, 0, 0, 0, 0));
+    MUST(tells(skv_serves_later_bytes(EDITION, table, 32, eight, 8 * n + 4, schedule, size), 3, 0, EDITION, 0, 0, 0, 0));
+    MUST(tells(skv_serves(1, table, 32, list, n, schedule, size), 10, EDITION, EDITION, 0, 0, 0, 0));
+    MUST(tells(skv_serves_bytes(1, table, 32, four, 4 * n, schedule, size), 10, EDITION, EDITION, 0, 0, 0, 0));
+    MUST(tells(skv_serves_later_bytes(1, table, 32, eight, 8 * n, schedule, size), 10, EDITION, EDITION, 0, 0, 0, 0));
 }

@@ -38,6 +38,12 @@ int main(void) {
     FIELD(skv_capture_answer, rule);
     FIELD(skv_capture_answer, record);
     WHOLE(skv_capture_answer);
+    HEAD(skv_serves_answer);
+    FIELD(skv_serves_answer, serves);
+    FIELD(skv_serves_answer, rule);
+    FIELD(skv_serves_answer, record);
+    FIELD(skv_serves_answer, transaction);
+    WHOLE(skv_serves_answer);
     HEAD(skv_table_answer);
     FIELD(skv_table_answer, numbers);
     WHOLE(skv_table_answer);

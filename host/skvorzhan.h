@@ -95,6 +95,13 @@ typedef struct skv_capture_answer {
     uint32_t count, rule, record;
 } skv_capture_answer;
 
+/* serves: 1 where the schedule serves the list, else 0. rule and record: as in a verdict, both 0 where the judge accepts. transaction: where it
+ * accepts and serves is 0, the lowest transaction at fault, from 0, or the list's length where none is; else 0. Where refused, all four are 0. */
+typedef struct skv_serves_answer {
+    uint32_t refused, position, edition;
+    uint32_t serves, rule, record, transaction;
+} skv_serves_answer;
+
 /* The twenty numbers, of a table of 32 bytes with 1 group and the short CCD, RRD and WTR again. Where refused, all twenty are 0. */
 typedef struct skv_table_answer {
     uint32_t refused, position, edition;
@@ -123,15 +130,9 @@ typedef struct skv_capture_record_answer {
     uint8_t kind, bank;
 } skv_capture_record_answer;
 
-/* The sixteen numbers of a table of 32 bytes, in the order of its bytes. */
-typedef struct skv_numbers {
-    uint16_t numbers[16];
-} skv_numbers;
-
-/* The twenty numbers of a table of 40 bytes, in the order of its bytes. */
-typedef struct skv_group_numbers {
-    uint16_t numbers[20];
-} skv_group_numbers;
+/* The sixteen numbers of a table of 32 bytes, and the twenty of one of 40, in the order of its bytes. */
+typedef struct skv_numbers { uint16_t numbers[16]; } skv_numbers;
+typedef struct skv_group_numbers { uint16_t numbers[20]; } skv_group_numbers;
 
 typedef struct skv_transaction {
     uint8_t kind;     /* 0 read, 1 write, 2 refresh; of a refresh start, bi and bc are 0 */
@@ -150,9 +151,7 @@ typedef struct skv_bank {
 } skv_bank;
 
 /* A group of banks: the cycles of its latest ACT, RD and WR. */
-typedef struct skv_group {
-    uint32_t act, rd, wr;
-} skv_group;
+typedef struct skv_group { uint32_t act, rd, wr; } skv_group;
 
 /* A running controller. Any bits are one; what number 9 says of them is checked by the calls. Of the banks and of the groups only the table's
  * are read or changed. No byte lies between the fields: it is 98 numbers in 392 bytes. */
@@ -176,10 +175,8 @@ typedef struct skv_controller_answer {
 /* Checks 1, 2. Answers the twenty numbers and the table's edition. */
 skv_table_answer skv_read_table(const uint8_t *bytes, size_t bytes_len);
 
-/* Checks 1 (out is not 32 bytes), 2. Writes the 32 bytes of the table. The edition is the table's, count is 0. */
+/* Checks 1 (out is not 32 bytes, or for twenty numbers 40), 2. Writes the bytes of the table. The edition is the table's, count is 0. */
 skv_answer skv_write_table(skv_numbers numbers, uint8_t *out, size_t out_len);
-
-/* Checks 1 (out is not 40 bytes), 2. Writes the 40 bytes of the table. The edition is the table's, count is 0. */
 skv_answer skv_write_group_table(skv_group_numbers numbers, uint8_t *out, size_t out_len);
 
 /* Checks 3 (not 4 bytes), 4 (out of range, banks counting as 16, a refresh accepted; position 0). Answers the four numbers. */
@@ -206,12 +203,10 @@ skv_capture_record_answer skv_read_capture_record(const uint8_t *bytes, size_t b
  * stood. count is 0. */
 skv_answer skv_write_capture_record(uint16_t stamp, uint8_t kind, uint8_t bank, uint8_t *out, size_t out_len);
 
-/* Checks 1, 2, 10, 3 (bytes not a multiple of 4, over 256 transactions, or more than list has places), 4. Writes the transactions into list;
- * places beyond them stay as they stood. count is the number of transactions. */
+/* Checks 1, 2, 10, 3 (bytes not a multiple of 4, or for transactions of 8 bytes of 8, over 256 transactions, or more than list has places), 4.
+ * Writes the transactions into list; places beyond them stay as they stood. count is the number of transactions. */
 skv_answer skv_read_transactions(uint16_t expected, const uint8_t *table, size_t table_len, const uint8_t *bytes, size_t bytes_len,
                                  skv_transaction *list, size_t list_len);
-
-/* The same from transactions of 8 bytes: 3 where bytes_len is not a multiple of 8. */
 skv_answer skv_read_later_transactions(uint16_t expected, const uint8_t *table, size_t table_len, const uint8_t *bytes, size_t bytes_len,
                                        skv_transaction *list, size_t list_len);
 
@@ -223,11 +218,9 @@ skv_answer skv_read_later_transactions(uint16_t expected, const uint8_t *table, 
 skv_answer skv_schedule(uint16_t expected, const uint8_t *table, size_t table_len, const skv_transaction *list, size_t list_len,
                         uint8_t *commands, size_t commands_len, uint32_t *finishes, size_t finishes_len);
 
-/* As skv_schedule, with the transactions' bytes for the list: 3 also where list_len is not a multiple of 4. */
+/* As skv_schedule, with the transactions' bytes for the list, 4 of each, or 8: 3 also where list_len is not a multiple of that. */
 skv_answer skv_schedule_bytes(uint16_t expected, const uint8_t *table, size_t table_len, const uint8_t *list, size_t list_len,
                               uint8_t *commands, size_t commands_len, uint32_t *finishes, size_t finishes_len);
-
-/* The same from transactions of 8 bytes: 3 where list_len is not a multiple of 8. */
 skv_answer skv_schedule_later_bytes(uint16_t expected, const uint8_t *table, size_t table_len, const uint8_t *list, size_t list_len,
                                     uint8_t *commands, size_t commands_len, uint32_t *finishes, size_t finishes_len);
 
@@ -249,6 +242,23 @@ skv_verdict_answer skv_judge_pattern(uint16_t expected, const uint8_t *table, si
  * cycle 65,536, no gap of 65,536 or more, and at most 69,632 records in all, comes back with its cycles, kinds and banks. */
 skv_capture_answer skv_judge_capture(uint16_t expected, const uint8_t *table, size_t table_len, const uint8_t *capture, size_t capture_len,
                                      uint8_t *commands, size_t commands_len);
+
+/* Checks 1, 2, 10, 3 (over 256 transactions), 4, 7. Does the schedule serve the list? Yes exactly when the judge accepts it, no record's number
+ * is outside the list, no record is anything but a command due under its number, and every transaction's ACTs and data commands occur exactly
+ * once, with its number, banks and type, all data commands in queue order, the last at each bank with auto precharge; ACTs may stand in any order,
+ * but the latest ACT of a data command's bank carries that command's number; a refresh's REF occurs exactly once, after every command of earlier
+ * transactions and before every command of later ones. Otherwise the judge's verdict is told, or, where it accepts, the lowest transaction at
+ * fault: one of which a command is missing, repeated or not its own, of which a data command comes after an ACT that carries another number or
+ * stands after one that the queue places later, or whose REF is misplaced. Where none is, a record's number is outside the list, and the list's
+ * length is told: for an empty list and a schedule that is not empty, 0. Arrivals are not looked at. A schedule of skv_schedule serves its list. */
+skv_serves_answer skv_serves(uint16_t expected, const uint8_t *table, size_t table_len, const skv_transaction *list, size_t list_len,
+                             const uint8_t *schedule, size_t schedule_len);
+
+/* As skv_serves, with the transactions' bytes for the list, 4 of each, or 8: 3 also where list_len is not a multiple of that. */
+skv_serves_answer skv_serves_bytes(uint16_t expected, const uint8_t *table, size_t table_len, const uint8_t *list, size_t list_len,
+                                   const uint8_t *schedule, size_t schedule_len);
+skv_serves_answer skv_serves_later_bytes(uint16_t expected, const uint8_t *table, size_t table_len, const uint8_t *list, size_t list_len,
+                                         const uint8_t *schedule, size_t schedule_len);
 
 /* Checks 1, 2, 10, 4 (bi or bc outside 1 to 16, or bi above banks; position 0). count is the bound: the last data command of a transaction of
  * (bi, bc) comes at most so many cycles after the later of its arrival and the last data command of the one before it, where that is a refresh
@@ -274,12 +284,10 @@ skv_answer skv_run(skv_controller *c, uint16_t expected, const uint8_t *table, s
 skv_answer skv_step(skv_controller *c, uint16_t expected, const uint8_t *table, size_t table_len, const skv_transaction *list, size_t list_len,
                     uint8_t *room, size_t room_len);
 
-/* As skv_run, with the transactions' bytes for the list (3 also where list_len is not a multiple of 4), and with the controller handed in and
- * back by value. Where refused, it comes back as it was. */
+/* As skv_run, with the transactions' bytes for the list, 4 of each, or 8 (3 also where list_len is not a multiple of that), and with the
+ * controller handed in and back by value. Where refused, it comes back as it was. */
 skv_controller_answer skv_run_bytes(skv_controller c, uint16_t expected, const uint8_t *table, size_t table_len, const uint8_t *list,
                                     size_t list_len, uint32_t count, uint8_t *room, size_t room_len);
-
-/* The same from transactions of 8 bytes: 3 where list_len is not a multiple of 8. */
 skv_controller_answer skv_run_later_bytes(skv_controller c, uint16_t expected, const uint8_t *table, size_t table_len, const uint8_t *list,
                                           size_t list_len, uint32_t count, uint8_t *room, size_t room_len);
 

@@ -6,8 +6,8 @@ mod told;
 use std::fmt::{Display, Write};
 
 use crate::desk::*;
-use crate::house::TABLE_A;
-use cases::{cases, Case, CAPTURES};
+use crate::house::{with, RFC, TABLE_A};
+use cases::{cases, Case, BUILT, BUILT_FOR, CAPTURES};
 use told::*;
 
 pub fn lines() -> String {
@@ -18,6 +18,9 @@ pub fn lines() -> String {
         out.lists(&case);
         out.schedules(&case);
         out.runs(&case);
+    }
+    for (list, bytes) in BUILT {
+        out.built(&list, bytes);
     }
     for bytes in CAPTURES {
         out.capture(bytes);
@@ -151,9 +154,54 @@ impl Lines {
             let rest = [spaced(&finishes), hex(&room)].join(" ");
             self.line(name, &[host(answer), rest]);
         }
+        self.serves(expected, &table, &case.list, case.bytes, case.bytes);
         let x = case.list[0];
         let answer = bound(expected, &table, x.bi, x.bc).map(|(e, cycles)| (e, cycles as u32, 0));
         self.line("skv_bound", &[host(answer)]);
+    }
+
+    /// Whether the schedule serves the list, and whether it serves the one in the bytes.
+    fn serves(
+        &mut self,
+        expected: u16,
+        table: &[u8],
+        list: &[Transaction],
+        bytes: &[u8],
+        schedule: &[u8],
+    ) {
+        let answer = serves(expected, table, list, schedule);
+        self.line("serves", &[desk_served(answer)]);
+        let answers = [
+            ("skv_serves", answer),
+            (
+                "skv_serves_bytes",
+                serves_bytes(expected, table, bytes, schedule),
+            ),
+            (
+                "skv_serves_later_bytes",
+                serves_later_bytes(expected, table, bytes, schedule),
+            ),
+        ];
+        for (name, answer) in answers {
+            self.line(name, &[host_served(answer)]);
+        }
+    }
+
+    /// A schedule that is built for one list, and others.
+    fn built(&mut self, list: &[[u8; 4]], bytes: &[u8]) {
+        let numbers = with(&[(RFC, 50)]);
+        let expected = numbers[0];
+        let mut table = [0; 32];
+        let written = host(write_table(numbers, &mut table).map(|e| (e, 0, 0)));
+        self.line("skv_write_table", &[written, hex(&table)]);
+        let of = |list: &[[u8; 4]]| -> Vec<Transaction> {
+            list.iter().map(|x| Transaction::of(x)).collect()
+        };
+        let (mut room, mut finishes) = ([0; 40], [0; 3]);
+        let answer = schedule(expected, &table, &of(&BUILT_FOR), &mut room, &mut finishes);
+        let answer = answer.map(|s| (s.edition, s.commands, 0));
+        self.line("schedule", &[desk(answer, 2)]);
+        self.serves(expected, &table, &of(list), bytes, &room);
     }
 
     fn runs(&mut self, case: &Case) {

@@ -34,9 +34,10 @@ pub use crate::records::{write_command, write_group_table, write_later, write_ta
 pub use crate::records::{Command, GroupTable, Refusal, Table, Transaction};
 pub use crate::rules::{PatternVerdict, Verdict};
 pub use crate::scheduler::{Bank, Group, State as Controller, NEVER};
+pub use crate::serves::Served;
 
 use crate::records::{EDITION, LATER, PLAIN};
-use crate::{capture, rules, scheduler};
+use crate::{capture, rules, scheduler, serves};
 
 /// Numbers 1, 2 and 10, for every call that takes a table: "If they differ it's refused as number 10, position the table's edition,
 /// straight after number 2; expected 0 always differs", since no table of edition 0 gets past number 2.
@@ -194,6 +195,40 @@ pub fn judge_capture(
         commands: commands.len() as u32,
         verdict: rules::judge(&table, &room[..8 * commands.len()])?,
     })
+}
+
+/// Numbers 1, 2, 10, 3, 4 and 7. Answers the edition, and whether the schedule serves the list.
+pub fn serves(
+    expected: u16,
+    table: &[u8],
+    list: &[Transaction],
+    bytes: &[u8],
+) -> Result<(u16, Served), Refusal> {
+    let table = admit(expected, table)?;
+    scheduler::check_list(&table, list, scheduler::MOST_TRANSACTIONS)?;
+    Ok((table[EDITION], serves::serves(&table, list, bytes)?))
+}
+
+/// The same from the transactions' bytes.
+pub fn serves_bytes(
+    expected: u16,
+    table: &[u8],
+    list: &[u8],
+    bytes: &[u8],
+) -> Result<(u16, Served), Refusal> {
+    let list = scheduler::decode(&admit(expected, table)?, list, PLAIN)?;
+    serves(expected, table, &list, bytes)
+}
+
+/// The same from records of 8 bytes.
+pub fn serves_later_bytes(
+    expected: u16,
+    table: &[u8],
+    list: &[u8],
+    bytes: &[u8],
+) -> Result<(u16, Served), Refusal> {
+    let list = scheduler::decode(&admit(expected, table)?, list, LATER)?;
+    serves(expected, table, &list, bytes)
 }
 
 /// Numbers 1, 2, 10 and 4: "the bound gives 4, position 0, for BI or BC outside 1 to 16 or BI above banks". Answers the edition and

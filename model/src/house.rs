@@ -127,6 +127,13 @@ pub fn command(cycle: u32, kind: u8, bank: u8, transaction: u16) -> [u8; 8] {
     [c0, c1, c2, c3, kind, bank, t0, t1]
 }
 
+/// Commands, each with its kind, bank and transaction number, in this order: so far apart that no distance of table A, with a refresh or
+/// without, is too short.
+pub fn loose(order: &[(u8, u8, u16)]) -> Vec<u8> {
+    let at = |(&(kind, bank, number), i): (_, u32)| command(60 * i, kind, bank, number);
+    order.iter().zip(0..).flat_map(at).collect()
+}
+
 /// The first so many bytes and the others, unless there are fewer.
 pub fn split(bytes: &[u8], n: usize) -> Option<(&[u8], &[u8])> {
     (n <= bytes.len()).then(|| bytes.split_at(n))

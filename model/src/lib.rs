@@ -2,7 +2,7 @@
 //! against.
 //!
 //! The public calls are in `desk`, the house tables in `house`, captures are written by `sent`, and `pins` tells who holds the data pins.
-//! What the calls rest on is in `records`, `rules`, `scheduler` and `capture`; the other modules make the stored cases of the programs, the
+//! What the calls rest on is in `records`, `rules`, `scheduler`, `capture` and `serves`; the other modules make the stored cases of the programs, the
 //! example files, and what must be printed for each.
 
 mod calls;
@@ -22,6 +22,8 @@ mod rules;
 mod runs;
 mod scheduler;
 pub mod sent;
+mod served;
+mod serves;
 pub mod trace;
 mod traces;
 pub mod vectors;

@@ -1,4 +1,4 @@
-//! `model vectors ROOT` writes what the programs `hostile`, `verdicts`, `runs`, `listings` and `traces` are run on and what they and `calls` must
+//! `model vectors ROOT` writes what the programs `hostile`, `verdicts`, `served`, `runs`, `listings` and `traces` are run on and what they and `calls` must
 //! write.
 //! `model listing` is the listing program: standard input, standard output; `model trace` is the program `trace`.
 //! `model examples ROOT` writes the example files with their texts.

@@ -121,6 +121,16 @@ impl Queues {
     }
 }
 
+/// A command that is due: kind, bank and transaction number.
+pub type Due = (u8, u8, u16);
+
+/// What a list that the table accepts puts into the ACT queue, and into the data queue.
+pub fn dues(table: &GroupTable, list: &[Transaction]) -> [Vec<Due>; 2] {
+    let due = |w: &Waiting| (w.kind, w.bank, w.transaction);
+    let queues = Queues::of(table, list);
+    [queues.acts, queues.datas].map(|queue| queue.iter().map(due).collect())
+}
+
 pub struct Built {
     pub commands: Vec<Command>,
     /// One for each transaction.

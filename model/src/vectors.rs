@@ -1,11 +1,11 @@
-//! What the programs `hostile`, `verdicts`, `runs`, `listings` and `traces` are run on, and what they and `calls`, which is run on nothing, must
+//! What the programs `hostile`, `verdicts`, `served`, `runs`, `listings` and `traces` are run on, and what they and `calls`, which is run on nothing, must
 //! write.
 
 use std::fs;
 use std::io;
 use std::path::Path;
 
-use crate::{calls, hostile, listings, runs, traces, verdicts};
+use crate::{calls, hostile, listings, runs, served, traces, verdicts};
 
 /// A program's name, its input and its output.
 type Stored = (&'static str, Vec<u8>, String);
@@ -13,9 +13,10 @@ type Stored = (&'static str, Vec<u8>, String);
 pub fn all() -> Vec<Stored> {
     type Cases = fn() -> Vec<u8>;
     type Lines = fn(&[u8]) -> String;
-    let programs: [(&str, Cases, Lines); 6] = [
+    let programs: [(&str, Cases, Lines); 7] = [
         ("hostile", hostile::cases, hostile::lines),
         ("verdicts", verdicts::cases, verdicts::lines),
+        ("served", served::cases, served::lines),
         ("runs", runs::cases, runs::lines),
         ("listings", listings::cases, listings::lines),
         ("traces", traces::cases, traces::lines),

@@ -4,11 +4,11 @@ use crate::told::number;
 use crate::told::numbers;
 use crate::told::small;
 use crate::told::text;
+use answers::reader::CaptureRecordAnswer;
+use answers::verdict::CaptureAnswer;
 use host::one_record::skv_read_capture_record;
 use host::one_record::skv_write_capture_record;
-use host::reader::CaptureRecordAnswer;
 use host::tracing::skv_judge_capture;
-use host::verdict::CaptureAnswer;
 use records::transaction::Transaction;
 
 // Room for three commands, and a byte more.

@@ -12,6 +12,8 @@ use crate::one_record::later_written;
 use crate::one_record::records_read;
 use crate::one_record::table_written;
 use crate::one_record::transaction_written;
+use crate::serving::asked;
+use crate::serving::asked_built;
 use crate::told::text;
 use crate::whole::bounded;
 use crate::whole::byte_schedules;
@@ -84,9 +86,26 @@ fn all_calls(
     host_schedules(expected, table, list);
     byte_schedules(expected, table, bytes);
     later_schedules(expected, table, bytes);
+    asked(expected, table, list, bytes, bytes);
     bounded(expected, table, x);
     starts(expected, table);
     runs(started_as, expected, table, list, bytes, count);
+}
+
+// The schedule of a read, a refresh and a read, by table A with RFC 50, and a list.
+pub(crate) fn of_built(list: [Transaction; 3], bytes: &[u8]) {
+    let mut t = [0u8; 32];
+    let table = &mut t[..];
+    table_written(
+        [7, 8, 4, 4, 10, 10, 28, 38, 6, 32, 10, 8, 6, 12, 6, 50],
+        table,
+    );
+    asked_built(
+        table,
+        [of(0, 0, 1, 1), of(2, 0, 0, 0), of(0, 0, 1, 1)],
+        list,
+        bytes,
+    );
 }
 
 // A capture by table A.

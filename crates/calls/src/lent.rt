@@ -7,8 +7,10 @@ use desk::read_later_transactions;
 use desk::read_transactions;
 use desk::run;
 use desk::schedule;
+use desk::serves;
 use desk::step;
 use records::transaction::Transaction;
+use serves::answer::ServesAnswer;
 
 pub(crate) fn lent_read(expected: u16, table: &[u8], bytes: &[u8], list: [Transaction; 3]) {
     let mut places = list;
@@ -30,6 +32,15 @@ pub(crate) fn lent_schedule(
     finishes: &mut [u32],
 ) -> BuildAnswer {
     schedule(expected, table, &list[..], commands, finishes)
+}
+
+pub(crate) fn lent_serves(
+    expected: u16,
+    table: &[u8],
+    list: [Transaction; 3],
+    commands: &[u8],
+) -> ServesAnswer {
+    serves(expected, table, &list[..], commands)
 }
 
 pub(crate) fn lent_run(

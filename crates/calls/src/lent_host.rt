@@ -1,11 +1,13 @@
 // The same of the host's forms.
 use crate::told::answered;
+use answers::answer::Answer;
+use answers::answer::RunAnswer;
+use answers::verdict::ServesAnswer;
 use controller::controller::Controller;
-use host::answer::Answer;
-use host::answer::RunAnswer;
 use host::running::skv_run;
 use host::running::skv_step;
 use host::schedules::skv_schedule;
+use host::serving::skv_serves;
 use host::transactions::skv_read_later_transactions;
 use host::transactions::skv_read_transactions;
 use records::transaction::Transaction;
@@ -30,6 +32,15 @@ pub(crate) fn host_schedule(
     finishes: &mut [u32],
 ) -> Answer {
     skv_schedule(expected, table, &list[..], commands, finishes)
+}
+
+pub(crate) fn host_serves(
+    expected: u16,
+    table: &[u8],
+    list: [Transaction; 3],
+    commands: &[u8],
+) -> ServesAnswer {
+    skv_serves(expected, table, &list[..], commands)
 }
 
 pub(crate) fn host_run(

@@ -5,6 +5,7 @@ mod each;
 mod lent;
 mod lent_host;
 mod one_record;
+mod serving;
 mod told;
 mod whole;
 
@@ -12,6 +13,7 @@ use each::capture;
 use each::case;
 use each::group_case;
 use each::of;
+use each::of_built;
 use records::house::table_a;
 use records::house::table_d;
 use records::house::table_t;
@@ -189,6 +191,46 @@ fn main() {
         [of(0, 0, 1, 1), of(0, 0, 1, 1), arriving(of(0, 0, 1, 1), 1)],
         &[0, 0, 1, 1, 0, 0, 0, 0, 0, 0, 1, 1],
         5,
+    );
+    // The schedule of a read, a refresh and a read: of these, lent and of 4 bytes each
+    of_built(
+        [of(0, 0, 1, 1), of(2, 0, 0, 0), of(0, 0, 1, 1)],
+        &[0, 0, 1, 1, 2, 0, 0, 0, 0, 0, 1, 1],
+    );
+    // Of a write in the last one's place; of the three as 8 bytes each, with arrivals
+    of_built(
+        [of(0, 0, 1, 1), of(2, 0, 0, 0), of(1, 0, 1, 1)],
+        &[
+            0,
+            0,
+            1,
+            1,
+            25,
+            0,
+            0,
+            0,
+            2,
+            0,
+            0,
+            0,
+            25,
+            0,
+            0,
+            0,
+            0,
+            0,
+            1,
+            1,
+            99,
+            0,
+            0,
+            0,
+        ],
+    );
+    // Of three refreshes; of the first two, as 4 bytes each, and of the first, as 8
+    of_built(
+        [of(2, 0, 0, 0), of(2, 0, 0, 0), of(2, 0, 0, 0)],
+        &[0, 0, 1, 1, 2, 0, 0, 0],
     );
     // Captures that go round the wrap, with a tick: accepted, and with the RDA too early; a gap of 65,536
     capture(&[250, 255, 0, 0, 255, 255, 255, 0, 4, 0, 2, 0]);

@@ -4,6 +4,9 @@ use crate::told::number;
 use crate::told::numbers;
 use crate::told::small;
 use crate::told::text;
+use answers::reader::CommandAnswer;
+use answers::reader::TableAnswer;
+use answers::reader::TransactionAnswer;
 use host::one_record::GroupNumbers;
 use host::one_record::Numbers;
 use host::one_record::skv_read_command;
@@ -15,9 +18,6 @@ use host::one_record::skv_write_group_table;
 use host::one_record::skv_write_later;
 use host::one_record::skv_write_table;
 use host::one_record::skv_write_transaction;
-use host::reader::CommandAnswer;
-use host::reader::TableAnswer;
-use host::reader::TransactionAnswer;
 use records::transaction::Transaction;
 
 pub(crate) fn table_written(n: [u16; 16], table: &mut [u8]) {

@@ -1,4 +1,6 @@
 // What the calls answer, as numbers, and the buffers, as bytes. A line has the call's name first.
+use answers::answer::Answer;
+use answers::verdict::VerdictAnswer;
 use builder::build::BuildAnswer;
 use controller::controller::Controller;
 use controller::controller::HostBank;
@@ -7,8 +9,6 @@ use controller::run::RunAnswer;
 use controller::run::RunTold;
 use desk::running::StartAnswer;
 use desk::running::StartTold;
-use host::answer::Answer;
-use host::verdict::VerdictAnswer;
 use libc::STDOUT_FILENO;
 use lists::decode::Decoded;
 use records::refusal::Refusal;
@@ -102,7 +102,7 @@ pub(crate) fn verdict(a: VerdictAnswer) {
     text(b"\n");
 }
 
-fn refused(r: Refusal) {
+pub(crate) fn refused(r: Refusal) {
     text(b" refused");
     number(r.number as u32);
     number(r.position);

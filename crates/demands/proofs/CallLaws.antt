@@ -141,7 +141,7 @@ many-transactions later s l e k = by (fewInto later s (length l)) (rangeFrom tab
     by g x e = rw e refl
 
 -- the check of so many bytes
-bytes-many : (later : Bool) (s : List ℕ) → length s ≡ 257 * recordSize later → checkBytes later tableA s ≡ NotFine (refusal 3 0 7)
+pub bytes-many : (later : Bool) (s : List ℕ) → length s ≡ 257 * recordSize later → checkBytes later tableA s ≡ NotFine (refusal 3 0 7)
 unfolding checkBytes
 bytes-many later s e = by (fewBytes later s) (rangeFrom tableA 0 (listOf later s) 0) (over-256 later e)
   where

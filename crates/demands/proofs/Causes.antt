@@ -1,23 +1,19 @@
 -- Each call tells the first row of document 01's table that applies.
 -- Assumes nothing.
-use Prim.Native.Nat.{ℕ, suc, _+_, _-_, _*_, min}
-use native.Mathlib.Omega.{arith}
-use native.Mathlib.Nat.{zero-add}
-use mathlib.Core.Bool.{Bool, true, false, not, _&&_}
+use Prim.Native.Nat.{ℕ, _+_, _-_, _*_, min}
+use mathlib.Core.Bool.{Bool, not, _&&_}
 use mathlib.Core.Path.{_≡_, refl, sym, ap, _∙_, subst}
 use mathlib.Core.List.{List, [], _∷_}
 use lib.Dec.{leb, ltb, eqb}
 use lib.ListN.{length}
-use borrow.Author.Tests.{eqb-true}
 use Rattle.records.specs.declared.table.Table.{Table}
-use Rattle.records.specs.declared.table.TableRead.{TableRead}
-use Rattle.records.specs.declared.table.TableRead.the-variants.{Read, Refused}
+use Rattle.records.specs.declared.table.TableRead.the-variants.{Read}
 use Rattle.records.specs.declared.transaction.Transaction.{Transaction}
 use Rattle.records.specs.declared.refusal.Refusal.{Refusal}
-use Rattle.records.specs.Tests.{pick, within}
-use Rattle.records.specs.Told.{refusal, firstFailed}
-use Rattle.records.specs.Table.{tableAt, inRange, tableSize, readTable}
-use Rattle.records.specs.Transaction.{recordCount, listOf, fitsAfter, fitsFrom}
+use Rattle.records.specs.Tests.{within}
+use Rattle.records.specs.Told.{refusal}
+use Rattle.records.specs.Table.{tableAt}
+use Rattle.records.specs.Transaction.{recordCount, listOf}
 use Rattle.records.specs.Command.{commandsIn}
 use Rattle.rules.specs.Queues.{actQueue, dataQueue}
 use Rattle.rules.specs.Verdict.{judge}
@@ -27,103 +23,32 @@ use Rattle.judge.specs.declared.answer.Judged.the-variants.{Verdict, Refused as
 use Rattle.judge.specs.declared.answer.PatternJudged.{PatternJudged}
 use Rattle.judge.specs.declared.answer.PatternJudged.the-variants.{Verdict as PatternVerdict, Refused as PatternNotJudged}
 use Rattle.judge.specs.Answer.{notASchedule, scheduleRefusal, judged}
+use Rattle.serves.specs.declared.answer.ServesAnswer.{ServesAnswer}
+use Rattle.serves.specs.declared.answer.ServesAnswer.the-variants.{Told, Refused as NotTold}
 use Rattle.builder.specs.declared.bound.BoundAnswer.the-variants.{Bound, Refused as NoBound}
 use Rattle.builder.specs.declared.build.BuildAnswer.{BuildAnswer}
 use Rattle.builder.specs.declared.build.BuildAnswer.the-variants.{Built, Refused as NotBuilt}
 use Rattle.builder.specs.Bound.{boundRefusal, boundTold}
 use Rattle.lists.specs.declared.check.Checked.{Checked}
 use Rattle.lists.specs.declared.check.Checked.the-variants.{Fine, Refused as NotFine}
-use Rattle.lists.specs.Check.{rangeFrom, checkSized, checkList, checkBytes, checkInto}
+use Rattle.lists.specs.Check.{checkSized, checkList, checkBytes, checkInto}
 use Rattle.lists.specs.Decode.{decodedBy, decoding}
 use Rattle.controller.specs.declared.controller.Controller.{Controller}
 use Rattle.controller.specs.Controller.{tells}
 use Rattle.controller.specs.Run.{RunLeft, ranLeft, refusedLeft, runController}
 use Rattle.refusals.specs.Refused.{sound, runRefusal}
-use Rattle.desk.specs.Admit.{expecting, admitted}
+use Rattle.desk.specs.Admit.{admitted}
 use Rattle.desk.specs.Judging.{judging, PatternTold}
 use Rattle.desk.specs.Tracing.{capturing}
 use Rattle.desk.specs.Bounds.{bounding}
 use Rattle.desk.specs.Transactions.{reading}
 use Rattle.desk.specs.Schedules.{BuildsChecked, Schedules}
 use Rattle.desk.specs.Running.{starting, runsChecked, running}
-use Rattle.desk.specs.Numbers.{Numbers, telling, refusing, judgedNumbers, patternNumbers, captureNumbers, boundNumbers, readNumbers, buildNumbers, startNumbers, runNumbers}
-use Rattle.demands.specs.Causes.{Row, row, FirstRow, tableRows, lowestOut, listRows, fewBytes, fewInto, buildRows, runRows, scheduleRow, captureRows, Causes}
+use Rattle.desk.specs.Serving.{ServesChecked, Serving}
+use Rattle.desk.specs.Numbers.{Numbers, telling, refusing, judgedNumbers, patternNumbers, captureNumbers, boundNumbers, readNumbers, buildNumbers, startNumbers, runNumbers, servesNumbers}
+use Rattle.demands.specs.Causes.{Row, row, FirstRow, tableRows, listRows, fewBytes, fewInto, buildRows, runRows, scheduleRow, captureRows, Causes}
 use Rattle.demands.proofs.Captures.{capture-rows}
-
--- an answer tells a number and a position
-abbrev Tells : Numbers → ℕ → ℕ → Type 0
-Tells a n p = (a .refused ≡ n) × (a .position ≡ p)
-
--- ---- rows at position 0
-
-pub one : (n : ℕ) (b : Bool) (a : Numbers) → Tells a (firstFailed ((n, b) ∷ [])) 0 → FirstRow (row n 0 b ∷ []) a
-one n true a t = t
-one n false a t = t
-
-pub two : (n m : ℕ) (b c : Bool) (a : Numbers) → Tells a (firstFailed ((n, b) ∷ (m, c) ∷ [])) 0 → FirstRow (row n 0 b ∷ row m 0 c ∷ []) a
-two n m true c a t = t
-two n m false true a t = t
-two n m false false a t = t
-
-three : (n m k : ℕ) (b c d : Bool) (a : Numbers) → Tells a (firstFailed ((n, b) ∷ (m, c) ∷ (k, d) ∷ [])) 0 → FirstRow (row n 0 b ∷ row m 0 c ∷ row k 0 d ∷ []) a
-three n m k true c d a t = t
-three n m k false c d a t = two m k c d a t
-
-tells-same : (a b : Numbers) → a ≡ b → Tells a (b .refused) (b .position)
-tells-same a b e = (ap (λ (n : Numbers). n .refused) e, ap (λ (n : Numbers). n .position) e)
-
--- an answer by a refusal's number z: f of x where it is 0, and else f of y
-pub by-number : {A : Type 0} (f : A → Numbers) (z : ℕ) (x y : A) → Tells (f x) 0 0 → Tells (f y) z 0 → Tells (f (pick (eqb z 0) x y)) z 0
-by-number f z x y p q = on (eqb z 0) refl
-  where
-    on : (b : Bool) → eqb z 0 ≡ b → Tells (f (pick b x y)) z 0
-    on true e = (p .0 ∙ sym (eqb-true z 0 e), p .1)
-    on false e = q
-
--- ---- by the table, and by the list: R says which answers the call may give
-
-module _ (expected : ℕ) (table : List ℕ) (R : TableRead → Numbers → Type 0) (rest : List Row)
-    (gives : (x : Refusal) (a : Numbers) → R (Refused x) a → a ≡ refusing x) (goes-on : (a : Numbers) → R (Read (tableAt table)) a → FirstRow rest a) where
-  by-table : (a : Numbers) → R (admitted expected table) a → FirstRow (tableRows expected table rest) a
-  unfolding admitted readTable
-  by-table a = on (not (tableSize (length table))) (not (inRange (tableAt table)))
-    where
-      t : Table
-      t = tableAt table
-
-      by : Bool → Bool → ℕ
-      by b c = firstFailed ((1, b) ∷ (2, c) ∷ [])
-
-      other : (b : Bool) → R (pick b (Read t) (Refused (refusal 10 (t .edition) (t .edition)))) a → FirstRow (row 10 (t .edition) (not b) ∷ rest) a
-      other true r = goes-on a r
-      other false r = tells-same a (refusing (refusal 10 (t .edition) (t .edition))) (gives (refusal 10 (t .edition) (t .edition)) a r)
-
-      on : (b c : Bool) → R (expecting expected (pick (eqb (by b c) 0) (Read t) (Refused (refusal (by b c) 0 0)))) a
-          → FirstRow (row 1 0 b ∷ row 2 0 c ∷ row 10 (t .edition) (not (eqb (t .edition) expected)) ∷ rest) a
-      on true c r = tells-same a (refusing (refusal 1 0 0)) (gives (refusal 1 0 0) a r)
-      on false true r = tells-same a (refusing (refusal 2 0 0)) (gives (refusal 2 0 0) a r)
-      on false false r = other (eqb (t .edition) expected) r
-
-module _ (τ : Table) (R : Checked → Numbers → Type 0) (rest : List Row) (a : Numbers)
-    (gives : (x : Refusal) → R (NotFine x) a → a ≡ refusing x) (goes-on : R Fine a → FirstRow rest a) where
-  by-range : (t : ℕ) (l : List Transaction) (k p : ℕ) → p ≡ k + lowestOut τ t l → R (rangeFrom τ t l k) a
-      → FirstRow (row 4 p (not (fitsFrom t τ l)) ∷ rest) a
-  unfolding rangeFrom
-  by-range t [] k p e r = goes-on r
-  by-range t (x ∷ l) k p e r = on (fitsAfter t τ x) e r (by-range (x .arrival) l (k + 1) p)
-    where
-      on : (b : Bool) → p ≡ k + pick b (suc (lowestOut τ (x .arrival) l)) 0 → R (pick b (rangeFrom τ (x .arrival) l (k + 1)) (NotFine (refusal 4 k (τ .edition)))) a
-          → (p ≡ k + 1 + lowestOut τ (x .arrival) l → R (rangeFrom τ (x .arrival) l (k + 1)) a → FirstRow (row 4 p (not (fitsFrom (x .arrival) τ l)) ∷ rest) a)
-          → FirstRow (row 4 p (not (b && fitsFrom (x .arrival) τ l)) ∷ rest) a
-      on true e r ih = ih (omega arith) r
-      on false e r ih =
-          let w = tells-same a (refusing (refusal 4 k (τ .edition))) (gives (refusal 4 k (τ .edition)) r) in
-          (w .0, omega (arith, w .1, e))
-
-  by-list : (good : Bool) (l : List Transaction) (c : Checked) → c ≡ checkSized τ good l → R c a → FirstRow (listRows τ good l rest) a
-  by-list true l c e r = by-range 0 l 0 (lowestOut τ 0 l) (sym (zero-add (lowestOut τ 0 l))) (subst (λ (d : Checked). R d a) e r)
-  by-list false l c e r =
-      tells-same a (refusing (refusal 3 0 (τ .edition))) (gives (refusal 3 0 (τ .edition)) (subst (λ (d : Checked). R d a) e r))
+use Rattle.demands.proofs.FirstRows.{one, two, three, tells-same, by-number, by-table, by-list}
 
 -- the checks of a list by its size
 list-sized : (τ : Table) (l : List Transaction) → checkList τ l ≡ checkSized τ (leb (length l) 256) l
@@ -180,6 +105,24 @@ module _ (τ : Table) (l : List Transaction) (b₀ b f₀ f : List ℕ) where
   build-gives : (x : Refusal) (a : Numbers) → BuildTells (NotFine x) a → a ≡ refusing x
   unfolding BuildsChecked
   build-gives x a (r, h, e) = e ∙ ap buildNumbers (h .0)
+
+module _ (τ : Table) (l : List Transaction) (s : List ℕ) where
+  -- the numbers that may be told of a list and a schedule, by what the check of the list finds
+  abbrev ServesTells : Checked → Numbers → Type 0
+  ServesTells c a = (r : ServesAnswer) × ServesChecked c τ l s r × (a ≡ servesNumbers r)
+
+  serves-rows : (a : Numbers) → ServesTells Fine a → FirstRow (scheduleRow s ∷ []) a
+  unfolding ServesChecked
+  serves-rows a (r, h, e) = subst (FirstRow (scheduleRow s ∷ [])) (sym e) (by-answer r h)
+    where
+      by-answer : (r : ServesAnswer) → ServesChecked Fine τ l s r → FirstRow (scheduleRow s ∷ []) (servesNumbers r)
+      by-answer (Told e v) h = one 7 (notASchedule (length s)) (servesNumbers (Told e v)) (sym (h .0), refl)
+      by-answer (NotTold x) h =
+          one 7 (notASchedule (length s)) (refusing x) (ap (λ (y : Refusal). y .number) (h .1), ap (λ (y : Refusal). y .position) (h .1))
+
+  serves-gives : (x : Refusal) (a : Numbers) → ServesTells (NotFine x) a → a ≡ refusing x
+  unfolding ServesChecked
+  serves-gives x a (r, h, e) = e ∙ ap servesNumbers h
 
 module _ (τ : Table) (c : Controller) (l : List Transaction) (n : ℕ) (b : List ℕ) where
   run-rows : FirstRow (runRows τ l c n (length b)) (runNumbers (runsChecked Fine c τ l n b .told .answer))
@@ -251,6 +194,15 @@ module _ (expected : ℕ) (table : List ℕ) where
         rows : List Row
         rows = buildRows t l (length b₀) (length f₀)
 
+    serves-told : (s : List ℕ) (r : ServesAnswer) → Serving check (admitted expected table) l s r
+        → FirstRow (tableRows expected table (listRows t good l (scheduleRow s ∷ []))) (servesNumbers r)
+    unfolding Serving
+    serves-told s r h =
+        by-table expected table (λ a n. (v : ServesAnswer) × Serving check a l s v × (n ≡ servesNumbers v)) (listRows t good l (scheduleRow s ∷ []))
+        (λ x a k. k .2 ∙ ap servesNumbers (k .1))
+        (λ a k. by-list t (ServesTells t l s) (scheduleRow s ∷ []) a (λ x. serves-gives t l s x a) (serves-rows t l s a) good l (check t) sized k)
+        (servesNumbers r) (r, h, refl)
+
     run-told : (c : Controller) (n : ℕ) (b : List ℕ)
         → FirstRow (tableRows expected table (listRows t good l (runRows t l c n (length b)))) (runNumbers (running check (admitted expected table) c l n b .told .answer))
     unfolding running runsChecked
@@ -279,6 +231,8 @@ module _ (expected : ℕ) (table : List ℕ) where
         readTransactions = read-told;
         schedule = λ l. build-told (λ τ. checkList τ l) (leb (length l) 256) l (list-sized t l);
         scheduleBytes = λ later s. build-told (λ τ. checkBytes later τ s) (fewBytes later s) (listOf later s) (bytes-sized later t s);
+        serves = λ l. serves-told (λ τ. checkList τ l) (leb (length l) 256) l (list-sized t l);
+        servesBytes = λ later b. serves-told (λ τ. checkBytes later τ b) (fewBytes later b) (listOf later b) (bytes-sized later t b);
         start = start-told;
         run = λ c l. run-told (λ τ. checkList τ l) (leb (length l) 256) l (list-sized t l) c;
         runBytes = λ later c s. run-told (λ τ. checkBytes later τ s) (fewBytes later s) (listOf later s) (bytes-sized later t s) c;

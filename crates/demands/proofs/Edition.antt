@@ -1,12 +1,12 @@
 -- Demand 1: a refused call leaves everything as it stood, and every answer names the table's edition.
 -- Assumes nothing.
-use Prim.Native.Nat.{ℕ, _+_}
+use Prim.Native.Nat.{ℕ}
 use mathlib.Core.Bool.{Bool, true, false, not}
 use mathlib.Core.Path.{_≡_, refl, sym, ap, _∙_}
 use mathlib.Core.Logic.{_⊎_, inl, inr, ⊎-elim}
 use mathlib.Core.List.{List, [], _∷_}
 use native.Mathlib.Omega.{arith}
-use lib.Dec.{eqb, leb}
+use lib.Dec.{eqb}
 use lib.ListN.{length}
 use borrow.Author.Tests.{eqb-false}
 use Rattle.records.specs.declared.table.Table.{Table}
@@ -17,7 +17,7 @@ use Rattle.records.specs.declared.refusal.Refusal.{Refusal}
 use Rattle.records.specs.Tests.{pick}
 use Rattle.records.specs.Told.{refusal, firstFailed}
 use Rattle.records.specs.Table.{tableAt, inRange, tableSize, tableRefusal, readTable, Accepted}
-use Rattle.records.specs.Transaction.{listOf, fitsAfter}
+use Rattle.records.specs.Transaction.{listOf}
 use Rattle.records.specs.Command.{commandsIn}
 use Rattle.records.proofs.Laws.{read-was, table-size}
 use Rattle.rules.specs.Verdict.{judge}
@@ -28,6 +28,8 @@ use Rattle.judge.specs.declared.answer.Judged.the-variants.{Verdict, Refused as
 use Rattle.judge.specs.declared.answer.PatternJudged.{PatternJudged}
 use Rattle.judge.specs.declared.answer.PatternJudged.the-variants.{Verdict as PatternVerdict, Refused as PatternNotJudged}
 use Rattle.judge.specs.Answer.{scheduleRefusal, judged}
+use Rattle.serves.specs.declared.answer.ServesAnswer.{ServesAnswer}
+use Rattle.serves.specs.declared.answer.ServesAnswer.the-variants.{Told, Refused as NotTold}
 use Rattle.builder.specs.declared.bound.BoundAnswer.{BoundAnswer}
 use Rattle.builder.specs.declared.bound.BoundAnswer.the-variants.{Bound, Refused as NoBound}
 use Rattle.builder.specs.declared.build.BuildAnswer.{BuildAnswer}
@@ -36,7 +38,7 @@ use Rattle.builder.specs.Bound.{boundRefusal, boundTold}
 use Rattle.lists.specs.declared.check.Checked.{Checked}
 use Rattle.lists.specs.declared.check.Checked.the-variants.{Fine, Refused as NotFine}
 use Rattle.lists.specs.declared.decode.Decoded.{Decoded}
-use Rattle.lists.specs.Check.{rangeFrom, checkSized, checkList, checkBytes, checkInto}
+use Rattle.lists.specs.Check.{checkList, checkBytes, checkInto}
 use Rattle.lists.specs.Decode.{decodedBy, decoding}
 use Rattle.controller.specs.declared.controller.Controller.{Controller}
 use Rattle.controller.specs.declared.run.RunAnswer.{RunAnswer}
@@ -52,11 +54,12 @@ use Rattle.desk.specs.Bounds.{bounding}
 use Rattle.desk.specs.Transactions.{reading}
 use Rattle.desk.specs.Schedules.{BuildsChecked, Schedules}
 use Rattle.desk.specs.Running.{starting, runsChecked, running}
-use Rattle.desk.specs.Numbers.{judgedNumbers, patternNumbers, captureNumbers, boundNumbers, readNumbers, buildNumbers, startNumbers, runNumbers}
-use Rattle.demands.specs.Causes.{fewBytes, fewInto}
+use Rattle.desk.specs.Serving.{ServesChecked, Serving}
+use Rattle.desk.specs.Numbers.{judgedNumbers, patternNumbers, captureNumbers, boundNumbers, readNumbers, buildNumbers, startNumbers, runNumbers, servesNumbers}
 use Rattle.demands.specs.Demands.{EitherSize, NotAdmitted, Demand1}
 use Rattle.desk.proofs.Laws.{expected-read, read-accepted}
 use Rattle.demands.proofs.Sizes.{either-size, neither-size}
+use Rattle.demands.proofs.Names.{list-names, bytes-names, into-names, NamesIts}
 use Rattle.demands.proofs.Causes.{causes}
 use Rattle.demands.proofs.RecordCauses.{record-causes}
 use Rattle.demands.proofs.Stood.{unread, unbuilt, unrun, table-unwritten, group-table-unwritten, transaction-unwritten, later-unwritten, command-unwritten, capture-unwritten}
@@ -122,35 +125,6 @@ admits e s τ r =
     let q : tableAt s ≡ τ = let k = w .1 in cc in
     (either-size s (table-size (length s) (tableAt s) (w .0)), sym q, read-accepted e s τ r, p .1)
 
--- ---- the check of a list names the table's edition
-
-module _ (τ : Table) (x : Refusal) where
-  range-names : (a : ℕ) (l : List Transaction) (k : ℕ) → rangeFrom τ a l k ≡ NotFine x → x .edition ≡ τ .edition
-  unfolding rangeFrom
-  range-names a [] k e = let z : _≡_ {A = ℕ} 0 1 = cc in absurd (omega arith)
-  range-names a (t ∷ l) k e = on (fitsAfter a τ t) e (range-names (t .arrival) l (k + 1))
-    where
-      on : (b : Bool) → pick b (rangeFrom τ (t .arrival) l (k + 1)) (NotFine (refusal 4 k (τ .edition))) ≡ NotFine x
-          → (rangeFrom τ (t .arrival) l (k + 1) ≡ NotFine x → x .edition ≡ τ .edition) → x .edition ≡ τ .edition
-      on true e ih = ih e
-      on false e ih = let w : refusal 4 k (τ .edition) ≡ x = cc in ap (λ (y : Refusal). y .edition) (sym w)
-
-  sized-names : (b : Bool) (l : List Transaction) → checkSized τ b l ≡ NotFine x → x .edition ≡ τ .edition
-  sized-names true l e = range-names 0 l 0 e
-  sized-names false l e = let w : refusal 3 0 (τ .edition) ≡ x = cc in ap (λ (y : Refusal). y .edition) (sym w)
-
-  list-names : (l : List Transaction) → checkList τ l ≡ NotFine x → x .edition ≡ τ .edition
-  unfolding checkList
-  list-names l e = sized-names (leb (length l) 256) l e
-
-  bytes-names : (later : Bool) (s : List ℕ) → checkBytes later τ s ≡ NotFine x → x .edition ≡ τ .edition
-  unfolding checkBytes
-  bytes-names later s e = sized-names (fewBytes later s) (listOf later s) e
-
-  into-names : (later : Bool) (s : List ℕ) (places : ℕ) → checkInto later τ s places ≡ NotFine x → x .edition ≡ τ .edition
-  unfolding checkInto
-  into-names later s places e = sized-names (fewInto later s places) (listOf later s) e
-
 -- ---- what each answer names, by what `admit` answered
 
 abbrev judgedNames : Judged → ℕ
@@ -167,6 +141,9 @@ readNames r = readNumbers r .edition
 
 abbrev buildNames : BuildAnswer → ℕ
 buildNames r = buildNumbers r .edition
+
+abbrev servesNames : ServesAnswer → ℕ
+servesNames r = servesNumbers r .edition
 
 abbrev startNames : StartAnswer → ℕ
 startNames r = startNumbers r .edition
@@ -212,10 +189,6 @@ read-names (Read τ) later s l = on (checkInto later τ s (length l)) (λ x. int
     on (NotFine x) n = n x refl
 read-names (Refused x) later s l = refl
 
--- the check of the list names the table's edition where it refuses
-abbrev NamesIts : (Table → Checked) → Type 0
-NamesIts check = (τ : Table) (x : Refusal) → check τ ≡ NotFine x → x .edition ≡ τ .edition
-
 module _ (l : List Transaction) (b₀ b f₀ f : List ℕ) where
   builds-names : (τ : Table) (c : Checked) → ((x : Refusal) → c ≡ NotFine x → x .edition ≡ τ .edition)
       → (r : BuildAnswer) → BuildsChecked c τ l b₀ b f₀ f r → buildNames r ≡ τ .edition
@@ -229,6 +202,19 @@ module _ (l : List Transaction) (b₀ b f₀ f : List ℕ) where
   unfolding Schedules
   schedule-names check n (Read τ) r p = builds-names τ (check τ) (n τ) r p
   schedule-names check n (Refused x) r p = ap buildNames (p .0)
+
+module _ (l : List Transaction) (s : List ℕ) where
+  serves-names : (τ : Table) (c : Checked) → ((x : Refusal) → c ≡ NotFine x → x .edition ≡ τ .edition)
+      → (r : ServesAnswer) → ServesChecked c τ l s r → servesNames r ≡ τ .edition
+  unfolding ServesChecked
+  serves-names τ Fine n (Told e v) p = p .1
+  serves-names τ Fine n (NotTold x) p = ap (λ (y : Refusal). y .edition) (p .1)
+  serves-names τ (NotFine x) n r p = ap servesNames p ∙ n x refl
+
+  serving-names : (check : Table → Checked) → NamesIts check → (a : TableRead) (r : ServesAnswer) → Serving check a l s r → servesNames r ≡ told a
+  unfolding Serving
+  serving-names check n (Read τ) r p = serves-names τ (check τ) (n τ) r p
+  serving-names check n (Refused x) r p = ap servesNames p
 
 start-names : (a : TableRead) → startNames (starting a .answer) ≡ told a
 unfolding starting
@@ -280,6 +266,8 @@ demand-1 expected table =
       read = λ later s l. read-names a later s l ∙ e;
       schedule = λ l b₀ b f₀ f r p. schedule-names l b₀ b f₀ f (λ τ. checkList τ l) (λ τ x. list-names τ x l) a r p ∙ e;
       scheduleBytes = λ later s b₀ b f₀ f r p. schedule-names (listOf later s) b₀ b f₀ f (λ τ. checkBytes later τ s) (λ τ x. bytes-names τ x later s) a r p ∙ e;
+      serves = λ l s r p. serving-names l s (λ τ. checkList τ l) (λ τ x. list-names τ x l) a r p ∙ e;
+      servesBytes = λ later b s r p. serving-names (listOf later b) s (λ τ. checkBytes later τ b) (λ τ x. bytes-names τ x later b) a r p ∙ e;
       start = start-names a ∙ e;
       run = λ c l n b. run-names c l n b (λ τ. checkList τ l) (λ τ x. list-names τ x l) a ∙ e;
       runBytes = λ later c s n b. run-names c (listOf later s) n b (λ τ. checkBytes later τ s) (λ τ x. bytes-names τ x later s) a ∙ e;

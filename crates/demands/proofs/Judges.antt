@@ -59,7 +59,7 @@ module _ (τ : Table) (l : List Transaction) (b₀ b f₀ f : List ℕ) (e n : �
 
 module _ (τ : Table) (s : List ℕ) where
   -- where number 7 does not refuse, the verdict is told
-  told : scheduleRefusal (length s) ≡ 0 → judgedNumbers (judging (Read τ) s) ≡ telling (τ .edition) (verdictValues (judge τ (commandsIn s)))
+  pub told : scheduleRefusal (length s) ≡ 0 → judgedNumbers (judging (Read τ) s) ≡ telling (τ .edition) (verdictValues (judge τ (commandsIn s)))
   unfolding judging judged
   told z =
       let x = NotJudged (refusal (scheduleRefusal (length s)) 0 (τ .edition)) in

@@ -1,9 +1,11 @@
 -- The theorems about the public calls.
 pub mod Captures
+pub mod FirstRows
 pub mod Causes
 pub mod RecordCauses
 pub mod Stood
 pub mod Sizes
+pub mod Names
 pub mod Edition
 pub mod Rows
 pub mod Judges
@@ -14,7 +16,9 @@ pub mod Pieces
 pub mod CallLaws
 pub mod GroupCalls
 pub mod ArrivalCalls
+pub mod ServesCalls
 pub mod Calls
 pub mod Traces
 pub mod OneGroup
 pub mod Pins
+pub mod ServesList

@@ -48,7 +48,7 @@ module _ (τ : Table) (s : List ℕ) where
   unfolding PatternTold
   all-legal L p = p .2
 
-  bytes-fit : (later : Bool) → checkBytes later τ s ≡ Fine → listFits τ (listOf later s) ≡ true
+  pub bytes-fit : (later : Bool) → checkBytes later τ s ≡ Fine → listFits τ (listOf later s) ≡ true
   bytes-fit later e = fine-fits τ (listOf later s) (into-list later τ s 256 (into-256 later τ s ∙ e))
 
 -- ---- a list of which a schedule or a run was answered was found fine
@@ -59,7 +59,7 @@ module _ (τ : Table) (l : List Transaction) where
   fine-built b₀ b f₀ f e n Fine h = refl
   fine-built b₀ b f₀ f e n (NotFine x) h = let y : _≡_ {A = ℕ} 0 1 = let k = h .0 in cc in absurd (omega arith)
 
-  built-fine : (check : Table → Checked) (b₀ b f₀ f : List ℕ) (e n : ℕ) → Schedules check (Read τ) l b₀ b f₀ f (Built e n) → check τ ≡ Fine
+  pub built-fine : (check : Table → Checked) (b₀ b f₀ f : List ℕ) (e n : ℕ) → Schedules check (Read τ) l b₀ b f₀ f (Built e n) → check τ ≡ Fine
   unfolding Schedules
   built-fine check b₀ b f₀ f e n h = fine-built b₀ b f₀ f e n (check τ) h
 

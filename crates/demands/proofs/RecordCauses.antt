@@ -19,7 +19,7 @@ use Rattle.capture.specs.declared.one_record.CaptureRecordRead.the-variants.{Re
 use Rattle.capture.specs.Record.{recordAt, bytesOfRecord, recordRefusal, readCaptureRecord, recordRoom, writeCaptureRecord}
 use Rattle.desk.specs.Numbers.{writtenNumbers, tableNumbers, transactionNumbers, commandNumbers, captureRecordNumbers}
 use Rattle.demands.specs.Causes.{RecordCauses}
-use Rattle.demands.proofs.Causes.{one, two, by-number}
+use Rattle.demands.proofs.FirstRows.{one, two, by-number}
 
 module _ (s : List ℕ) where
   -- what a writer that z refuses leaves

@@ -67,15 +67,15 @@ few-judged : (size n : ℕ) → size ≡ 8 * n → n ≤ 69632 → scheduleRefus
 few-judged size n e h = rw (eq-eqb (size % 8) 0 (omega arith), le-ltb 69632 (size / 8) (omega arith))
 
 module _ (τ : Table) (acc : Accepted τ) (l : List Transaction) (fit : listFits τ l ≡ true) (rs : List Command) (q : Kept τ l rs) where
+  pub bytes-taken : scheduleRefusal (length (bytesOfAll rs)) ≡ 0
+  bytes-taken = few-judged (length (bytesOfAll rs)) (length rs) (length-bytes rs) (omega (arith, q .count, few-due τ acc l fit))
+
+  pub bytes-same : commandsIn (bytesOfAll rs) ≡ rs
+  bytes-same = read-whole rs (readable l rs (ours τ l rs (q .built)) (q .early))
+
   bytes-pass : judging (Read τ) (bytesOfAll rs) ≡ Verdict (τ .edition) Passed
   unfolding judging
-  bytes-pass = judge-accepts τ (bytesOfAll rs) .1 (taken, subst (Legal τ) (sym same) (q .passes))
-    where
-      taken : scheduleRefusal (length (bytesOfAll rs)) ≡ 0
-      taken = few-judged (length (bytesOfAll rs)) (length rs) (length-bytes rs) (omega (arith, q .count, few-due τ acc l fit))
-
-      same : commandsIn (bytesOfAll rs) ≡ rs
-      same = read-whole rs (readable l rs (ours τ l rs (q .built)) (q .early))
+  bytes-pass = judge-accepts τ (bytesOfAll rs) .1 (bytes-taken, subst (Legal τ) (sym bytes-same) (q .passes))
 
 -- ---- the finishing cycles
 

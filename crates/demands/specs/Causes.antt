@@ -20,6 +20,7 @@ use Rattle.capture.specs.declared.one_record.CaptureRecord.{CaptureRecord}
 use Rattle.capture.specs.Record.{readCaptureRecord, writeCaptureRecord}
 use Rattle.capture.specs.Capture.{timedIn, lowest}
 use Rattle.capture.specs.Answer.{commandsSeen}
+use Rattle.serves.specs.declared.answer.ServesAnswer.{ServesAnswer}
 use Rattle.builder.specs.declared.build.BuildAnswer.{BuildAnswer}
 use Rattle.lists.specs.Check.{checkList, checkBytes}
 use Rattle.refusals.specs.Refused.{sound}
@@ -32,7 +33,8 @@ use Rattle.desk.specs.Bounds.{bounding}
 use Rattle.desk.specs.Transactions.{reading}
 use Rattle.desk.specs.Schedules.{Schedules}
 use Rattle.desk.specs.Running.{starting, running}
-use Rattle.desk.specs.Numbers.{Numbers, writtenNumbers, tableNumbers, transactionNumbers, commandNumbers, captureRecordNumbers, judgedNumbers, patternNumbers, captureNumbers, boundNumbers, readNumbers, buildNumbers, startNumbers, runNumbers}
+use Rattle.desk.specs.Serving.{Serving}
+use Rattle.desk.specs.Numbers.{Numbers, writtenNumbers, tableNumbers, transactionNumbers, commandNumbers, captureRecordNumbers, judgedNumbers, patternNumbers, captureNumbers, servesNumbers, boundNumbers, readNumbers, buildNumbers, startNumbers, runNumbers}
 
 -- a row: its number, its position, and whether it applies
 pub record Row : Type 0 where
@@ -126,6 +128,11 @@ pub record Causes (expected : ℕ) (table : List ℕ) : Type 0 where
       → Schedules (λ τ. checkBytes later τ s) (admitted expected table) (listOf later s) b₀ b f₀ f r
       → FirstRow (tableRows expected table (listRows (tableAt table) (fewBytes later s) (listOf later s) (buildRows (tableAt table) (listOf later s) (length b₀) (length f₀))))
       (buildNumbers r)
+  -- does it serve the list (document 02, request 10): 3 and 4 by the list, then 7 by the schedule
+  pub serves : (l : List Transaction) (s : List ℕ) (r : ServesAnswer) → Serving (λ τ. checkList τ l) (admitted expected table) l s r
+      → FirstRow (tableRows expected table (listRows (tableAt table) (leb (length l) 256) l (scheduleRow s ∷ []))) (servesNumbers r)
+  pub servesBytes : (later : Bool) (b s : List ℕ) (r : ServesAnswer) → Serving (λ τ. checkBytes later τ b) (admitted expected table) (listOf later b) s r
+      → FirstRow (tableRows expected table (listRows (tableAt table) (fewBytes later b) (listOf later b) (scheduleRow s ∷ []))) (servesNumbers r)
   pub start : FirstRow (tableRows expected table []) (startNumbers (starting (admitted expected table) .answer))
   -- a step is a run of one cycle
   pub run : (c : Controller) (l : List Transaction) (n : ℕ) (b : List ℕ)

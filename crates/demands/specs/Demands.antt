@@ -40,6 +40,7 @@ use Rattle.judge.specs.Answer.{scheduleRefusal, patternRefusal}
 use Rattle.capture.specs.declared.one_record.CaptureRecord.{CaptureRecord}
 use Rattle.capture.specs.declared.answer.CaptureJudged.the-variants.{Refused as NotCaptured}
 use Rattle.capture.specs.Record.{writeCaptureRecord}
+use Rattle.serves.specs.declared.answer.ServesAnswer.{ServesAnswer}
 use Rattle.builder.specs.declared.bound.BoundAnswer.the-variants.{Bound}
 use Rattle.builder.specs.declared.build.BuildAnswer.{BuildAnswer}
 use Rattle.builder.specs.declared.build.BuildAnswer.the-variants.{Built, Refused as NotBuilt}
@@ -55,8 +56,9 @@ use Rattle.desk.specs.Bounds.{bounding}
 use Rattle.desk.specs.Transactions.{reading}
 use Rattle.desk.specs.Schedules.{Schedules}
 use Rattle.desk.specs.Running.{starting, running}
+use Rattle.desk.specs.Serving.{Serving}
 use Rattle.demands.specs.Causes.{Causes, RecordCauses}
-use Rattle.desk.specs.Numbers.{telling, ruleNumber, commandNumbers, judgedNumbers, patternNumbers, captureNumbers, boundNumbers, readNumbers, buildNumbers, startNumbers, runNumbers}
+use Rattle.desk.specs.Numbers.{telling, ruleNumber, commandNumbers, judgedNumbers, patternNumbers, captureNumbers, servesNumbers, boundNumbers, readNumbers, buildNumbers, startNumbers, runNumbers}
 
 -- a table's bytes are 32 or 40
 abbrev pub EitherSize : List ℕ → Type 0
@@ -105,6 +107,10 @@ pub record Demand1 (expected : ℕ) (table : List ℕ) : Type 0 where
   pub scheduleBytes : (later : Bool) (s b₀ b f₀ f : List ℕ) (r : BuildAnswer)
       → Schedules (λ τ. checkBytes later τ s) (admitted expected table) (listOf later s) b₀ b f₀ f r
       → buildNumbers r .edition ≡ editionOf (readTable table)
+  pub serves : (l : List Transaction) (s : List ℕ) (r : ServesAnswer) → Serving (λ τ. checkList τ l) (admitted expected table) l s r
+      → servesNumbers r .edition ≡ editionOf (readTable table)
+  pub servesBytes : (later : Bool) (b s : List ℕ) (r : ServesAnswer) → Serving (λ τ. checkBytes later τ b) (admitted expected table) (listOf later b) s r
+      → servesNumbers r .edition ≡ editionOf (readTable table)
   pub start : startNumbers (starting (admitted expected table) .answer) .edition ≡ editionOf (readTable table)
   pub run : (c : Controller) (l : List Transaction) (n : ℕ) (b : List ℕ)
       → runNumbers (running (λ τ. checkList τ l) (admitted expected table) c l n b .told .answer) .edition ≡ editionOf (readTable table)

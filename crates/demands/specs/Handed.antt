@@ -15,6 +15,7 @@ use Rattle.rules.specs.Worked.{read}
 use Rattle.judge.specs.declared.answer.PatternJudged.{PatternJudged}
 use Rattle.capture.specs.declared.one_record.CaptureRecord.{CaptureRecord}
 use Rattle.capture.specs.Record.{captureRecord, bytesOfRecord}
+use Rattle.serves.specs.declared.answer.ServesAnswer.{ServesAnswer}
 use Rattle.builder.specs.declared.build.BuildAnswer.{BuildAnswer}
 use Rattle.lists.specs.Check.{checkList, checkBytes}
 use Rattle.controller.specs.declared.controller.Controller.{Controller}
@@ -25,7 +26,8 @@ use Rattle.desk.specs.Bounds.{bounding}
 use Rattle.desk.specs.Transactions.{reading}
 use Rattle.desk.specs.Schedules.{Schedules}
 use Rattle.desk.specs.Running.{running}
-use Rattle.desk.specs.Numbers.{Numbers, refusing, writtenNumbers, judgedNumbers, patternNumbers, captureNumbers, boundNumbers, readNumbers, buildNumbers, runNumbers}
+use Rattle.desk.specs.Serving.{Serving}
+use Rattle.desk.specs.Numbers.{Numbers, refusing, writtenNumbers, judgedNumbers, patternNumbers, captureNumbers, servesNumbers, boundNumbers, readNumbers, buildNumbers, runNumbers}
 
 -- ---- what is handed in
 
@@ -176,6 +178,13 @@ Builds e t l b₀ f₀ n b f =
 abbrev pub BuildsBytes : Bool → ℕ → List ℕ → List ℕ → List ℕ → List ℕ → Numbers → List ℕ → List ℕ → Type 0
 BuildsBytes later e t s b₀ f₀ n b f =
     (r : BuildAnswer) (b' f' : List ℕ) → Schedules (λ τ. checkBytes later τ s) (admitted e t) (listOf later s) b₀ b' f₀ f' r → (buildNumbers r ≡ n) × (b' ≡ b) × (f' ≡ f)
+
+-- whatever is answered of a list and a schedule's bytes s, it tells these numbers
+abbrev pub ServesTo : ℕ → List ℕ → List Transaction → List ℕ → Numbers → Type 0
+ServesTo e t l s n = (r : ServesAnswer) → Serving (λ τ. checkList τ l) (admitted e t) l s r → servesNumbers r ≡ n
+
+abbrev pub ServesToBytes : Bool → ℕ → List ℕ → List ℕ → List ℕ → Numbers → Type 0
+ServesToBytes later e t b s n = (r : ServesAnswer) → Serving (λ τ. checkBytes later τ b) (admitted e t) (listOf later b) s r → servesNumbers r ≡ n
 
 abbrev pub runs : ℕ → List ℕ → Controller → List Transaction → ℕ → ℕ → Numbers
 runs e t c l n room = runNumbers (running (λ τ. checkList τ l) (admitted e t) c l n (replicate room 9) .told .answer)

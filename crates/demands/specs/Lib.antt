@@ -6,6 +6,8 @@ pub mod Traces
 pub mod Handed
 pub mod GroupCalls
 pub mod ArrivalCalls
+pub mod ServesCalls
 pub mod Calls
 pub mod OneGroup
 pub mod Pins
+pub mod ServesList

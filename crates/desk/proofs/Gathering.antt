@@ -27,10 +27,10 @@ use denote.Triple.Spec.{tripleOf}
 use denote.Triple.Walked.{says}
 use Rattle.records.specs.declared.transaction.Transaction.{Transaction}
 use Rattle.lists.specs.Packed.{packed}
-use Rattle.desk.specs.declared.admit.WayIn.{WayIn}
+use Rattle.admission.specs.declared.admit.WayIn.{WayIn}
 use Rattle.desk.specs.Admit.{admitted, wayIn}
 use Rattle.records.proofs.transaction.Transaction as T
-use Rattle.desk.proofs.admit.admit_lent as e
+use Rattle.admission.proofs.admit.admit_lent as e
 use Rattle.lists.proofs.packed.gather as g
 
 -- the contracts

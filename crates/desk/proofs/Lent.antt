@@ -27,14 +27,16 @@ use Rattle.lists.proofs.Packing.{held-whole}
 use Rattle.lists.proofs.Storing.{stored-none, plan-room, plan-decodes}
 use Rattle.refusals.specs.Refused.{runRefusal}
 use Rattle.builder.specs.declared.build.BuildAnswer.{BuildAnswer}
+use Rattle.serves.specs.declared.answer.ServesAnswer.{ServesAnswer}
 use Rattle.controller.specs.declared.controller.Controller.{Controller}
 use Rattle.controller.specs.declared.run.RunTold.{RunTold}
 use Rattle.controller.specs.Controller.{tells}
 use Rattle.controller.specs.Run.{RunLeft, ranLeft, refusedLeft, leftBy, runController, LeavesRun}
-use Rattle.desk.specs.declared.admit.WayIn.{WayIn}
+use Rattle.admission.specs.declared.admit.WayIn.{WayIn}
 use Rattle.desk.specs.Admit.{admitted, noWay, wayIn, LetIn}
 use Rattle.desk.specs.Schedules.{BuildsChecked, Schedules}
 use Rattle.desk.specs.Running.{runsChecked, running, Runs, hasRun}
+use Rattle.desk.specs.Serving.{ServesChecked, Serving}
 use Rattle.desk.specs.Transactions.{reading, readingPlan}
 use Rattle.desk.proofs.Laws.{read-accepted}
 
@@ -89,6 +91,24 @@ module _ (l : List Transaction) where
 
     pub schedules-lent : (a : TableRead) (w : WayIn) → w ≡ wayIn (length l) a → (s : List ℕ) → s ≡ packed (w .n) l → Built w s → Schedules (λ τ. checkList τ l) a l b₀ b f₀ f r
     schedules-lent a w e s k h = schedules a (subst (λ (z : WayIn). Built z (packed (z .n) l)) e (subst (λ (z : List ℕ). Built w z) k h))
+
+  -- ---- does a schedule serve it
+
+  module _ (s : List ℕ) (r : ServesAnswer) where
+    abbrev Told : WayIn → List ℕ → Type 0
+    Told w p = Serving (λ τ. checkList τ (held (w .n) p)) (w .table) (held (w .n) p) s r
+
+    served : (a : TableRead) → Told (wayIn (length l) a) (packed (wayIn (length l) a .n) l) → Serving (λ τ. checkList τ l) a l s r
+    unfolding Serving ServesChecked
+    served (Read τ) = on (leb (length l) 256) refl
+      where
+        on : (y : Bool) → leb (length l) 256 ≡ y → Told (by y τ) (packed (by y τ .n) l) → ServesChecked (checkList τ l) τ l s r
+        on true t h = subst (λ (m : List Transaction). ServesChecked (checkList τ m) τ m s r) (held-whole l) h
+        on false t h = subst (λ (d : Checked). ServesChecked d τ l s r) (over τ t) h
+    served (Refused x) = λ h. h
+
+    pub serves-lent : (a : TableRead) (w : WayIn) → w ≡ wayIn (length l) a → (p : List ℕ) → p ≡ packed (w .n) l → Told w p → Serving (λ τ. checkList τ l) a l s r
+    serves-lent a w e p k h = served a (subst (λ (z : WayIn). Told z (packed (z .n) l)) e (subst (λ (z : List ℕ). Told w z) k h))
 
   -- ---- a run
 

@@ -19,6 +19,9 @@ use Rattle.capture.proofs.Unique.{one-captured}
 use Rattle.builder.specs.declared.build.BuildAnswer.{BuildAnswer}
 use Rattle.builder.specs.declared.build.BuildAnswer.the-variants.{Refused as NotBuilt}
 use Rattle.builder.proofs.Unique.{build-only}
+use Rattle.serves.specs.declared.answer.ServesAnswer.{ServesAnswer}
+use Rattle.serves.specs.declared.answer.ServesAnswer.the-variants.{Refused as NotTold}
+use Rattle.serves.proofs.Unique.{serves-only}
 use Rattle.lists.specs.declared.check.Checked.{Checked}
 use Rattle.lists.specs.declared.check.Checked.the-variants.{Fine, Refused as NotFine}
 use Rattle.lists.specs.Check.{checkList, checkBytes}
@@ -30,6 +33,7 @@ use Rattle.desk.specs.Bounds.{bounding}
 use Rattle.desk.specs.Transactions.{reading}
 use Rattle.desk.specs.Schedules.{NothingBuilt, BuildsChecked, Schedules}
 use Rattle.desk.specs.Running.{starting, running}
+use Rattle.desk.specs.Serving.{ServesChecked, Serving}
 use Rattle.desk.specs.Only.{Only}
 use Rattle.desk.proofs.Laws.{read-accepted}
 
@@ -59,6 +63,17 @@ module _ (l : List Transaction) (b₀ f₀ : List ℕ) (x y : BuildAnswer) (b d 
   schedules-only check fit (Read τ) acc p q = builds-only τ (acc τ refl) (check τ) (fit τ) p q
   schedules-only check fit (Refused r) acc p q = nothing-only r p q
 
+module _ (l : List Transaction) (s : List ℕ) (x y : ServesAnswer) where
+  checked-only : (τ : Table) (c : Checked) → ServesChecked c τ l s x → ServesChecked c τ l s y → x ≡ y
+  unfolding ServesChecked
+  checked-only τ Fine p q = serves-only τ l s x y p q
+  checked-only τ (NotFine r) p q = one-answer (NotTold r) x y p q
+
+  serving-only : (check : Table → Checked) (a : TableRead) → Serving check a l s x → Serving check a l s y → x ≡ y
+  unfolding Serving
+  serving-only check (Read τ) p q = checked-only τ (check τ) p q
+  serving-only check (Refused r) p q = one-answer (NotTold r) x y p q
+
 -- ---- all of them
 
 pub only : (expected : ℕ) (table : List ℕ) → Only expected table
@@ -75,6 +90,8 @@ only expected table =
           schedules-only l b₀ f₀ x y b d f g (λ τ. checkList τ l) (λ τ. fine-fits τ l) (admitted expected table) (read-accepted expected table);
       scheduleBytes = λ later s b₀ f₀ x y b d f g.
           schedules-only (listOf later s) b₀ f₀ x y b d f g (λ τ. checkBytes later τ s) (bytes-fit later s) (admitted expected table) (read-accepted expected table);
+      serves = λ l s x y. serving-only l s x y (λ τ. checkList τ l) (admitted expected table);
+      servesBytes = λ later b s x y. serving-only (listOf later b) s x y (λ τ. checkBytes later τ b) (admitted expected table);
       start = one-answer (starting (admitted expected table));
       run = λ c₀ l n b₀ x y c e b d p q.
           let w = running (λ τ. checkList τ l) (admitted expected table) c₀ l n b₀ in

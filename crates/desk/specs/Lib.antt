@@ -5,5 +5,6 @@ pub mod Bounds
 pub mod Transactions
 pub mod Schedules
 pub mod Running
+pub mod Serving
 pub mod Numbers
 pub mod Only

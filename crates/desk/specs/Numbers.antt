@@ -26,6 +26,10 @@ use Rattle.capture.specs.declared.one_record.CaptureRecordRead.{CaptureRecordRe
 use Rattle.capture.specs.declared.one_record.CaptureRecordRead.the-variants.{Read as RecordIs, Refused as NoRecord}
 use Rattle.capture.specs.declared.answer.CaptureJudged.{CaptureJudged}
 use Rattle.capture.specs.declared.answer.CaptureJudged.the-variants.{Verdict as CaptureSays, Refused as NotCaptured}
+use Rattle.serves.specs.declared.answer.Served.{Served}
+use Rattle.serves.specs.declared.answer.Served.the-variants.{Serves, Refused as Against, AtFault}
+use Rattle.serves.specs.declared.answer.ServesAnswer.{ServesAnswer}
+use Rattle.serves.specs.declared.answer.ServesAnswer.the-variants.{Told, Refused as NotTold}
 use Rattle.builder.specs.declared.bound.BoundAnswer.{BoundAnswer}
 use Rattle.builder.specs.declared.bound.BoundAnswer.the-variants.{Bound, Refused as NoBound}
 use Rattle.builder.specs.declared.build.BuildAnswer.{BuildAnswer}
@@ -118,6 +122,17 @@ patternNumbers (PatternNotJudged x) = refusing x
 abbrev pub captureNumbers : CaptureJudged → Numbers
 captureNumbers (CaptureSays e n v) = telling e (n ∷ verdictValues v)
 captureNumbers (NotCaptured x) = refusing x
+
+-- does it serve the list: no values if it does; else "the judge's verdict", the rule and the record, or the transaction's number, which is the
+-- list's length where none is at fault
+abbrev pub servedValues : Served → List ℕ
+servedValues Serves = []
+servedValues (Against x i) = ruleNumber x ∷ i ∷ []
+servedValues (AtFault x) = x ∷ []
+
+abbrev pub servesNumbers : ServesAnswer → Numbers
+servesNumbers (Told e a) = telling e (servedValues a)
+servesNumbers (NotTold x) = refusing x
 
 -- ---- lists, schedules, the bound
 

@@ -11,6 +11,7 @@ use Rattle.capture.specs.declared.answer.CaptureJudged.{CaptureJudged}
 use Rattle.capture.specs.Answer.{LeavesCapture}
 use Rattle.builder.specs.declared.bound.BoundAnswer.{BoundAnswer}
 use Rattle.builder.specs.declared.build.BuildAnswer.{BuildAnswer}
+use Rattle.serves.specs.declared.answer.ServesAnswer.{ServesAnswer}
 use Rattle.lists.specs.declared.decode.Decoded.{Decoded}
 use Rattle.lists.specs.Check.{checkList, checkBytes}
 use Rattle.lists.specs.Decode.{Decodes}
@@ -26,6 +27,7 @@ use Rattle.desk.specs.Bounds.{bounding}
 use Rattle.desk.specs.Transactions.{reading}
 use Rattle.desk.specs.Schedules.{Schedules}
 use Rattle.desk.specs.Running.{starting, running, Runs}
+use Rattle.desk.specs.Serving.{Serving}
 
 -- Bytes of a list are records of 8 where `later`, else of 4; x and y are two results that keep the promise; each other letter that comes twice is a buffer or a controller as either leaves it
 pub record Only (expected : ℕ) (table : List ℕ) : Type 0 where
@@ -42,6 +44,11 @@ pub record Only (expected : ℕ) (table : List ℕ) : Type 0 where
   pub scheduleBytes : (later : Bool) (s b₀ f₀ : List ℕ) (x y : BuildAnswer) (b d f g : List ℕ)
       → Schedules (λ τ. checkBytes later τ s) (admitted expected table) (listOf later s) b₀ b f₀ f x
       → Schedules (λ τ. checkBytes later τ s) (admitted expected table) (listOf later s) b₀ d f₀ g y → (x ≡ y) × (b ≡ d) × (f ≡ g)
+  pub serves : (l : List Transaction) (s : List ℕ) (x y : ServesAnswer)
+      → Serving (λ τ. checkList τ l) (admitted expected table) l s x → Serving (λ τ. checkList τ l) (admitted expected table) l s y → x ≡ y
+  pub servesBytes : (later : Bool) (b s : List ℕ) (x y : ServesAnswer)
+      → Serving (λ τ. checkBytes later τ b) (admitted expected table) (listOf later b) s x
+      → Serving (λ τ. checkBytes later τ b) (admitted expected table) (listOf later b) s y → x ≡ y
   pub start : (x y : StartTold) → x ≡ starting (admitted expected table) → y ≡ starting (admitted expected table) → x ≡ y
   pub run : (c₀ : Controller) (l : List Transaction) (n : ℕ) (b₀ : List ℕ) (x y : RunAnswer) (c e : Controller) (b d : List ℕ)
       → Runs (running (λ τ. checkList τ l) (admitted expected table) c₀ l n b₀) x c b → Runs (running (λ τ. checkList τ l) (admitted expected table) c₀ l n b₀) y e d

@@ -1,5 +1,5 @@
 // By when must a transaction finish?
-use crate::admit::admit;
+use admission::admit::admit;
 use builder::bound::BoundAnswer;
 use builder::bound::tell_bound;
 use records::table::TableRead;

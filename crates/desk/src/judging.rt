@@ -1,5 +1,5 @@
 // Is the schedule legal and, if not, which record breaks which rule first? And is a pattern, however often it is repeated?
-use crate::admit::admit;
+use admission::admit::admit;
 use judge::answer::Judged;
 use judge::answer::PatternJudged;
 use judge::schedule::judge_schedule;

@@ -1,11 +1,11 @@
 // The desk: what the customer calls. Any bytes may be handed in; a call refuses what it cannot take, with the number, the position and the
 // edition of document 01, and then changes nothing.
-pub mod admit;
 pub mod bounding;
 pub mod judging;
 pub mod numbers;
 pub mod running;
 pub mod schedules;
+pub mod serving;
 pub mod tracing;
 pub mod transactions;
 
@@ -31,6 +31,9 @@ pub use running::step;
 pub use schedules::schedule;
 pub use schedules::schedule_bytes;
 pub use schedules::schedule_later_bytes;
+pub use serving::serves;
+pub use serving::serves_bytes;
+pub use serving::serves_later_bytes;
 pub use tracing::judge_capture;
 pub use transactions::read_later_transactions;
 pub use transactions::read_transactions;

@@ -1,31 +1,25 @@
 // A controller that is run a few cycles at a time.
-use crate::admit::WayIn;
-use crate::admit::admit;
-use crate::admit::admit_lent;
+use admission::admit::admit;
+use admission::admit::admit_lent;
 use controller::controller::Controller;
 use controller::controller::start_of;
 use controller::run::RunAnswer;
 use controller::run::RunTold;
-use controller::run::run_controller;
-use lists::check::Checked;
-use lists::check::check_bytes;
 use lists::packed::gather;
-use lists::packed::widen;
 use records::refusal::Refusal;
-use records::table::Table;
 use records::table::TableRead;
 use records::table::table_of;
 use records::transaction::Transaction;
+use runner::running::has_run;
+use runner::running::run_held;
+use runner::running::run_records;
 ghost use mathlib.Core.Bool.{true, false};
 ghost use mathlib.Core.Path.{_≡_};
-ghost use Rattle.records.specs.Table.{Accepted};
-ghost use Rattle.records.specs.Transaction.{transactionsIn, laterIn, listOf};
-ghost use Rattle.lists.specs.declared.check.Checked.the-variants.{Fine};
+ghost use Rattle.records.specs.Transaction.{transactionsIn, laterIn};
 ghost use Rattle.lists.specs.Check.{checkList, checkBytes};
-ghost use Rattle.lists.specs.Packed.{held};
-ghost use Rattle.controller.specs.Run.{runController, LeavesRun};
-ghost use Rattle.desk.specs.Admit.{admitted, LetIn};
-ghost use Rattle.desk.specs.Running.{starting, running, runsChecked, Runs, hasRun};
+ghost use Rattle.controller.specs.Run.{LeavesRun};
+ghost use Rattle.desk.specs.Admit.{admitted};
+ghost use Rattle.desk.specs.Running.{starting, running, Runs};
 
 // The table's edition, or the refusal.
 pub enum StartAnswer {
@@ -61,62 +55,6 @@ pub fn start(expected: u16, table: &[u8]) -> StartTold
     }
 }
 
-// The run over a list that fits an accepted table: records of 8 bytes where `later`, else of 4, which are widened.
-fn run_fine(
-    c: Controller,
-    t: Table,
-    later: bool,
-    list: &[u8],
-    count: u32,
-    room: &mut [u8],
-) -> RunTold
-    requires { ⌜ Accepted t × (checkBytes later t (now list) ≡ Fine) ⌝ }
-    ensures { λ r. ⌜ LeavesRun (runController c t (listOf later (now (list .entry))) count (now (room .entry))) r (now (room .exit)) ⌝ }
-{
-    if later {
-        return run_controller(c, t, list, count, room);
-    }
-    let n = list.len() / 4;
-    let bytes = widen(list, n);
-    let end = 8 * n;
-    run_controller(c, t, &bytes[..end], count, room)
-}
-
-// Numbers 3 to 5, 9 and 12, by an accepted table; then the run.
-fn run_by(c: Controller, t: Table, later: bool, list: &[u8], count: u32, room: &mut [u8]) -> RunTold
-    requires { ⌜ Accepted t ⌝ }
-    ensures { λ r. ⌜ LeavesRun (runsChecked (checkBytes later t (now (list .entry))) c t (listOf later (now (list .entry))) count (now (room .entry))) r (now (room .exit)) ⌝ }
-{
-    match check_bytes(t, later, list) {
-        Checked::Fine => run_fine(c, t, later, list, count, room),
-        Checked::Refused(r) => RunTold {
-            controller: c,
-            answer: RunAnswer::Refused(r),
-        },
-    }
-}
-
-// Numbers 1, 2, 10, 3 to 5, 9 and 12; then the run of a controller handed in and back, over the list's bytes.
-fn run_records(
-    c: Controller,
-    expected: u16,
-    table: &[u8],
-    later: bool,
-    list: &[u8],
-    count: u32,
-    room: &mut [u8],
-) -> RunTold
-    ensures { λ r. ⌜ LeavesRun (running (λ τ. checkBytes later τ (now (list .entry))) (admitted expected (now (table .entry))) c (listOf later (now (list .entry))) count (now (room .entry))) r (now (room .exit)) ⌝ }
-{
-    match admit(expected, table) {
-        TableRead::Read(t) => run_by(c, t, later, list, count, room),
-        TableRead::Refused(r) => RunTold {
-            controller: c,
-            answer: RunAnswer::Refused(r),
-        },
-    }
-}
-
 // Of records of 4 bytes.
 pub fn run_bytes(
     c: Controller,
@@ -143,31 +81,6 @@ pub fn run_later_bytes(
     ensures { λ r. ⌜ LeavesRun (running (λ τ. checkBytes true τ (now (list .entry))) (admitted expected (now (table .entry))) c (laterIn (now (list .entry))) count (now (room .entry))) r (now (room .exit)) ⌝ }
 {
     run_records(c, expected, table, true, list, count, room)
-}
-
-// The same of a lent run of records, gathered.
-fn run_held(c: Controller, w: WayIn, bytes: [u8; 2048], count: u32, room: &mut [u8]) -> RunTold
-    requires { ⌜ LetIn w ⌝ }
-    ensures { λ r. ⌜ LeavesRun (running (λ τ. checkList τ (held (w .n) bytes)) (w .table) c (held (w .n) bytes) count (now (room .entry))) r (now (room .exit)) ⌝ }
-{
-    let end = 8 * w.n;
-    let table = w.table;
-    match table {
-        TableRead::Read(t) => run_by(c, t, true, &bytes[..end], count, room),
-        TableRead::Refused(r) => RunTold {
-            controller: c,
-            answer: RunAnswer::Refused(r),
-        },
-    }
-}
-
-fn has_run(a: RunAnswer) -> bool
-    ensures { λ r. ⌜ r ≡ hasRun a ⌝ }
-{
-    match a {
-        RunAnswer::Ran(x) => true,
-        RunAnswer::Refused(r) => false,
-    }
 }
 
 // The host's form: the controller is run where it lies, over a lent run of records.

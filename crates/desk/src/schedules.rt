@@ -1,92 +1,15 @@
 // The schedule of the cycle rule, with a finishing cycle for each transaction.
-use crate::admit::WayIn;
-use crate::admit::admit;
-use crate::admit::admit_lent;
+use admission::admit::admit_lent;
 use builder::build::BuildAnswer;
-use builder::build::build_schedule;
-use lists::check::Checked;
-use lists::check::check_bytes;
 use lists::packed::gather;
-use lists::packed::widen;
-use records::table::Table;
-use records::table::TableRead;
 use records::transaction::Transaction;
-ghost use Prim.Native.Nat.{_/_};
+use scheduler::schedules::schedule_held;
+use scheduler::schedules::schedule_records;
 ghost use mathlib.Core.Bool.{true, false};
-ghost use mathlib.Core.Path.{_≡_};
-ghost use lib.ListN.{length};
-ghost use Rattle.records.specs.Table.{Accepted};
-ghost use Rattle.records.specs.Transaction.{transactionsIn, laterIn, listOf};
-ghost use Rattle.heads.specs.Queue.{Listed};
-ghost use Rattle.lists.specs.declared.check.Checked.the-variants.{Fine};
+ghost use Rattle.records.specs.Transaction.{transactionsIn, laterIn};
 ghost use Rattle.lists.specs.Check.{checkList, checkBytes};
-ghost use Rattle.lists.specs.Packed.{held};
-ghost use Rattle.builder.specs.Build.{LeavesBuild};
-ghost use Rattle.desk.specs.Admit.{admitted, LetIn};
-ghost use Rattle.desk.specs.Schedules.{Schedules, BuildsChecked};
-
-// The schedule of a list of 8-byte records that fits an accepted table.
-fn schedule_packed(t: Table, list: &[u8], commands: &mut [u8], finishes: &mut [u32]) -> BuildAnswer
-    requires { ⌜ Listed t (now list) (length (now list) / 8) ⌝ }
-    ensures { λ r. ⌜ LeavesBuild t (laterIn (now (list .entry))) (now (commands .entry)) (now (commands .exit)) (now (finishes .entry)) (now (finishes .exit)) r ⌝ }
-{
-    let n = list.len() / 8;
-    build_schedule(t, list, n, commands, finishes)
-}
-
-// The same of records of 8 bytes where `later`, else of 4, which are widened.
-fn schedule_fine(
-    t: Table,
-    later: bool,
-    list: &[u8],
-    commands: &mut [u8],
-    finishes: &mut [u32],
-) -> BuildAnswer
-    requires { ⌜ Accepted t × (checkBytes later t (now list) ≡ Fine) ⌝ }
-    ensures { λ r. ⌜ LeavesBuild t (listOf later (now (list .entry))) (now (commands .entry)) (now (commands .exit)) (now (finishes .entry)) (now (finishes .exit)) r ⌝ }
-{
-    if later {
-        return schedule_packed(t, list, commands, finishes);
-    }
-    let n = list.len() / 4;
-    let bytes = widen(list, n);
-    let end = 8 * n;
-    schedule_packed(t, &bytes[..end], commands, finishes)
-}
-
-// Numbers 3 to 6, by an accepted table; then the schedule.
-fn schedule_by(
-    t: Table,
-    later: bool,
-    list: &[u8],
-    commands: &mut [u8],
-    finishes: &mut [u32],
-) -> BuildAnswer
-    requires { ⌜ Accepted t ⌝ }
-    ensures { λ r. ⌜ BuildsChecked (checkBytes later t (now (list .entry))) t (listOf later (now (list .entry))) (now (commands .entry)) (now (commands .exit)) (now (finishes .entry)) (now (finishes .exit)) r ⌝ }
-{
-    match check_bytes(t, later, list) {
-        Checked::Fine => schedule_fine(t, later, list, commands, finishes),
-        Checked::Refused(r) => BuildAnswer::Refused(r),
-    }
-}
-
-// Numbers 1, 2, 10, 3 to 6; then the schedule from the start of `commands`, the finishing cycles from the start of `finishes`.
-fn schedule_records(
-    expected: u16,
-    table: &[u8],
-    later: bool,
-    list: &[u8],
-    commands: &mut [u8],
-    finishes: &mut [u32],
-) -> BuildAnswer
-    ensures { λ r. ⌜ Schedules (λ τ. checkBytes later τ (now (list .entry))) (admitted expected (now (table .entry))) (listOf later (now (list .entry))) (now (commands .entry)) (now (commands .exit)) (now (finishes .entry)) (now (finishes .exit)) r ⌝ }
-{
-    match admit(expected, table) {
-        TableRead::Read(t) => schedule_by(t, later, list, commands, finishes),
-        TableRead::Refused(r) => BuildAnswer::Refused(r),
-    }
-}
+ghost use Rattle.desk.specs.Admit.{admitted};
+ghost use Rattle.desk.specs.Schedules.{Schedules};
 
 // Of records of 4 bytes.
 pub fn schedule_bytes(
@@ -112,24 +35,6 @@ pub fn schedule_later_bytes(
     ensures { λ r. ⌜ Schedules (λ τ. checkBytes true τ (now (list .entry))) (admitted expected (now (table .entry))) (laterIn (now (list .entry))) (now (commands .entry)) (now (commands .exit)) (now (finishes .entry)) (now (finishes .exit)) r ⌝ }
 {
     schedule_records(expected, table, true, list, commands, finishes)
-}
-
-// The same of a lent run of records, gathered.
-fn schedule_held(
-    w: WayIn,
-    bytes: [u8; 2048],
-    commands: &mut [u8],
-    finishes: &mut [u32],
-) -> BuildAnswer
-    requires { ⌜ LetIn w ⌝ }
-    ensures { λ r. ⌜ Schedules (λ τ. checkList τ (held (w .n) bytes)) (w .table) (held (w .n) bytes) (now (commands .entry)) (now (commands .exit)) (now (finishes .entry)) (now (finishes .exit)) r ⌝ }
-{
-    let end = 8 * w.n;
-    let table = w.table;
-    match table {
-        TableRead::Read(t) => schedule_by(t, true, &bytes[..end], commands, finishes),
-        TableRead::Refused(r) => BuildAnswer::Refused(r),
-    }
 }
 
 // Numbers 1, 2, 10, 3 to 6; then the schedule of a lent run of records.

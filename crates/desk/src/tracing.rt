@@ -1,5 +1,5 @@
 // A caller's logic analyser trace, straight into the judge.
-use crate::admit::admit;
+use admission::admit::admit;
 use capture::answer::CaptureJudged;
 use records::table::TableRead;
 ghost use mathlib.Core.Path.{_≡_};

@@ -1,5 +1,5 @@
 // Transactions decoded into a lent run of records.
-use crate::admit::admit;
+use admission::admit::admit;
 use lists::decode::Decoded;
 use lists::decode::Plan;
 use lists::decode::planned;

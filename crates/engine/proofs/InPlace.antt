@@ -31,7 +31,7 @@ use Rattle.timing.specs.declared.kept.KeptGroup.{KeptGroup}
 use Rattle.timing.specs.declared.kept.Kept.{Kept}
 use Rattle.timing.specs.Kept.{isClosing, stampOf, toldBank, toldGroup, told, shutKept, quietKept, keptOpened, keptAfter, groupOpened, groupMoved}
 use Rattle.timing.proofs.Telling.{told-at, told-group, actKept, told-act, dataKept, told-data, refKept, told-ref}
-use Rattle.engine.specs.Choose.{commandOf, seenAt, dataFree, actFree}
+use Rattle.choices.specs.Choose.{commandOf, seenAt, dataFree, actFree}
 use Rattle.engine.proofs.Laws.{all-data, all-act, goes-data, data-head-kind, goes-act, act-head-kind, goes-ref}
 use Rattle.engine.proofs.Going.{Going, early, stops-is, idles, Moving, note-asked, moves}
 

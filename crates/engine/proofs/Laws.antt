@@ -31,7 +31,7 @@ use Rattle.heads.specs.declared.queue.Queues.{Queues}
 use Rattle.heads.specs.Head.{dueOf}
 use Rattle.heads.specs.Queue.{Listed, BothStand}
 use Rattle.heads.proofs.Laws.{first, first-fits}
-use Rattle.engine.specs.Choose.{commandOf, seenAt, dataFree, actFree}
+use Rattle.choices.specs.Choose.{commandOf, seenAt, dataFree, actFree}
 use Rattle.engine.proofs.Tried.{Asked, apart, ref-rules, data-all, act-all}
 
 -- ---- a head that is tried

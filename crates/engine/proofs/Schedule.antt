@@ -43,7 +43,8 @@ use Rattle.heads.specs.Queue.{Listed}
 use Rattle.heads.proofs.Laws.{first, length-from, whole}
 use Rattle.engine.specs.declared.run.Ran as Answer
 use Rattle.engine.specs.Run.{commandsLeft, Ready, Runs}
-use Rattle.engine.specs.Build.{finishesFrom, cycleOr, Marked, Finished, Builds}
+use Rattle.finishing.specs.Finish.{cycleOr, Marked, Finished}
+use Rattle.engine.specs.Build.{finishesFrom, Builds}
 
 -- ---- what goes comes from a transaction of the list, and is of a known kind
 

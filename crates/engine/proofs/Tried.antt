@@ -18,7 +18,7 @@ use Rattle.rules.specs.State.{bankOf, groupAt, actsFar, dataFar, rule7, rule11,
 use Rattle.rules.proofs.TestLaws.{true-false}
 use Rattle.heads.specs.declared.head.Head.{Head}
 use Rattle.timing.proofs.Grouped.{Rest, act-rest, data-rest}
-use Rattle.engine.specs.Choose.{commandOf, seenAt, dataFree, actFree}
+use Rattle.choices.specs.Choose.{commandOf, seenAt, dataFree, actFree}
 
 -- what code found of the groups, y: it asked them all where the own group lets the command go, x, and the table has more than one
 abbrev pub Asked : ℕ → Bool → Bool → Bool → Type 0

@@ -1,19 +1,16 @@
 -- What building leaves: the schedule's bytes, and the finishing cycles.
-use Prim.Native.Nat.{ℕ, suc, _*_, _≤_, _<_}
+use Prim.Native.Nat.{ℕ, suc}
 use mathlib.Core.Path.{_≡_}
 use mathlib.Core.List.{List, [], _∷_}
-use lib.ListN.{length, getD}
+use lib.ListN.{length}
 use Rattle.records.specs.Told.{over}
 use Rattle.records.specs.declared.table.Table.{Table}
 use Rattle.records.specs.declared.transaction.Transaction.{Transaction}
 use Rattle.records.specs.declared.command.Command.{Command}
-use Rattle.records.specs.Transaction.{laterAt}
 use Rattle.records.specs.Command.{bytesOfAll}
-use Rattle.rules.specs.declared.state.Stamp.{Stamp}
-use Rattle.rules.specs.declared.state.Stamp.the-variants.{Never, At}
 use Rattle.rules.specs.Pattern.{onto}
 use Rattle.rules.specs.CycleRule.{Built}
-use Rattle.rules.specs.Finish.{lastCommand, finishOf, finish}
+use Rattle.rules.specs.Finish.{finish}
 use Rattle.rules.specs.Promise.{nextCycle, cycleOf}
 use Rattle.engine.specs.declared.build.Schedule.{Schedule}
 
@@ -21,22 +18,6 @@ use Rattle.engine.specs.declared.build.Schedule.{Schedule}
 abbrev pub finishesFrom : Table → List Transaction → ℕ → List Command → List ℕ
 finishesFrom τ [] k rs = []
 finishesFrom τ (x ∷ xs) k rs = cycleOf (finish τ x k rs) ∷ finishesFrom τ xs (suc k) rs
-
--- a stamp's cycle, d for never
-abbrev pub cycleOr : ℕ → Stamp → ℕ
-cycleOr d Never = d
-cycleOr d (At c) = c
-
--- at each number the cycle of the last command of it, and else what stood there
-pub record Marked (cs : List Command) (f₀ f : List ℕ) : Type 0 where
-  pub size : length f ≡ length f₀
-  pub each : (k : ℕ) → getD f k 0 ≡ cycleOr (getD f₀ k 0) (lastCommand k cs)
-
--- the cycles f of last commands became g: finishing cycles, for the first n transactions of the bytes s, and all beyond as it stood
-pub record Finished (τ : Table) (s : List ℕ) (n : ℕ) (f g : List ℕ) : Type 0 where
-  pub size : length g ≡ length f
-  pub each : (k : ℕ) → k < n → getD g k 0 ≡ finishOf τ (laterAt s (8 * k)) (getD f k 0)
-  pub beyond : (k : ℕ) → n ≤ k → getD g k 0 ≡ getD f k 0
 
 -- r is the answer, b and f what the two buffers hold after they were b₀ and f₀: the built schedule from the start of the one, its finishing
 -- cycles from the start of the other, and all beyond as it stood

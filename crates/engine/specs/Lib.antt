@@ -1,3 +1,2 @@
-pub mod Choose
 pub mod Run
 pub mod Build

@@ -1,7 +1,7 @@
 // The built schedule: a fresh run to the end, and two passes for the finishing cycles.
-use crate::finish::finish_all;
-use crate::finish::mark;
 use crate::run::run;
+use finishing::finish::finish_all;
+use finishing::finish::mark;
 use heads::due::due;
 use records::table::Table;
 use timing::kept::kept_fresh;

@@ -1,5 +1,3 @@
-// The cycle rule at work: one cycle, a run of a few, the built schedule with its finishing cycles.
+// The cycle rule at work: a run of a few cycles, and the built schedule with its finishing cycles.
 pub mod build;
-pub mod choose;
-pub mod finish;
 pub mod run;

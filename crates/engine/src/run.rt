@@ -1,8 +1,8 @@
 // A run of a few cycles, which writes its commands.
-use crate::choose::act_goes;
-use crate::choose::command_of;
-use crate::choose::data_goes;
-use crate::choose::ref_waited;
+use choices::choose::act_goes;
+use choices::choose::command_of;
+use choices::choose::data_goes;
+use choices::choose::ref_waited;
 use commands::command::put_command;
 use heads::due::Counts;
 use heads::queue::Queues;

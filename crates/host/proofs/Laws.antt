@@ -38,8 +38,8 @@ use Rattle.desk.specs.Admit.{admitted}
 use Rattle.desk.specs.Schedules.{NothingBuilt, BuildsChecked, Schedules}
 use Rattle.desk.specs.Tracing.{capturing}
 use Rattle.desk.proofs.Laws.{read-accepted}
-use Rattle.host.specs.Answers.{countOf}
-use Rattle.host.specs.Verdicts.{commandsWritten}
+use Rattle.answers.specs.Answers.{countOf}
+use Rattle.answers.specs.Verdicts.{commandsWritten}
 
 module _ (l : List Transaction) (b₀ b f₀ f : List ℕ) where
   -- 256 transactions of at most 16 ACTs and 256 data commands

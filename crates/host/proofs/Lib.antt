@@ -1,4 +1,3 @@
 -- The laws and theorems about the exported calls.
 pub mod Laws
 pub mod Unique
-pub mod Cases

@@ -17,9 +17,9 @@ use Rattle.desk.specs.Bounds.{bounding}
 use Rattle.desk.specs.Transactions.{reading}
 use Rattle.desk.specs.Running.{starting, running}
 use Rattle.desk.proofs.Unique.{only as desk-only}
-use Rattle.host.specs.declared.answer.Answer.{Answer}
-use Rattle.host.specs.Answers.{ofWritten, ofTable, ofTransaction, ofCommand, ofCaptureRecord, ofRead, ofBuild, ofBound, startOf, ofRun, runOf}
-use Rattle.host.specs.Verdicts.{verdictOf, patternOf, captureOf}
+use Rattle.answers.specs.declared.answer.Answer.{Answer}
+use Rattle.answers.specs.Answers.{ofWritten, ofTable, ofTransaction, ofCommand, ofCaptureRecord, ofRead, ofBuild, ofBound, startOf, ofRun, runOf}
+use Rattle.answers.specs.Verdicts.{verdictOf, patternOf, captureOf, servesOf}
 use Rattle.host.specs.Promises.{Writes}
 use Rattle.host.specs.Only.{OnlyRecord, Only}
 
@@ -64,6 +64,8 @@ only expected table =
       scheduleBytes = λ later s b₀ f₀ x y b d f g p q.
           let k = desk-only expected table .scheduleBytes later s b₀ f₀ (p .0) (q .0) b d f g (p .1) (q .1) in
           (made ofBuild (p .0) (q .0) x y (k .0) (p .2) (q .2), k .1, k .2);
+      serves = λ l s x y p q. made servesOf (p .0) (q .0) x y (desk-only expected table .serves l s (p .0) (q .0) (p .1) (q .1)) (p .2) (q .2);
+      servesBytes = λ later b s x y p q. made servesOf (p .0) (q .0) x y (desk-only expected table .servesBytes later b s (p .0) (q .0) (p .1) (q .1)) (p .2) (q .2);
       start = one-answer (startOf (starting (admitted expected table)));
       run = λ c₀ l n b₀ x y c e b d p q.
           let w = running (λ τ. checkList τ l) (admitted expected table) c₀ l n b₀ in

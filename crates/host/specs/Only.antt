@@ -17,18 +17,19 @@ use Rattle.desk.specs.Tracing.{capturing}
 use Rattle.desk.specs.Bounds.{bounding}
 use Rattle.desk.specs.Transactions.{reading}
 use Rattle.desk.specs.Running.{starting, running}
-use Rattle.host.specs.declared.answer.Answer.{Answer}
-use Rattle.host.specs.declared.reader.TableAnswer.{TableAnswer}
-use Rattle.host.specs.declared.reader.TransactionAnswer.{TransactionAnswer}
-use Rattle.host.specs.declared.reader.CommandAnswer.{CommandAnswer}
-use Rattle.host.specs.declared.reader.CaptureRecordAnswer.{CaptureRecordAnswer}
-use Rattle.host.specs.declared.answer.StartAnswer.{StartAnswer}
-use Rattle.host.specs.declared.answer.RunAnswer.{RunAnswer}
-use Rattle.host.specs.declared.verdict.VerdictAnswer.{VerdictAnswer}
-use Rattle.host.specs.declared.verdict.CaptureAnswer.{CaptureAnswer}
-use Rattle.host.specs.Answers.{ofTable, ofTransaction, ofCommand, ofCaptureRecord, ofBound, startOf}
-use Rattle.host.specs.Verdicts.{verdictOf}
-use Rattle.host.specs.Promises.{Writes, PatternSaid, Traces, ReadsInto, Scheduled, RunsIn, RunsBack}
+use Rattle.answers.specs.declared.answer.Answer.{Answer}
+use Rattle.answers.specs.declared.reader.TableAnswer.{TableAnswer}
+use Rattle.answers.specs.declared.reader.TransactionAnswer.{TransactionAnswer}
+use Rattle.answers.specs.declared.reader.CommandAnswer.{CommandAnswer}
+use Rattle.answers.specs.declared.reader.CaptureRecordAnswer.{CaptureRecordAnswer}
+use Rattle.answers.specs.declared.answer.StartAnswer.{StartAnswer}
+use Rattle.answers.specs.declared.answer.RunAnswer.{RunAnswer}
+use Rattle.answers.specs.declared.verdict.VerdictAnswer.{VerdictAnswer}
+use Rattle.answers.specs.declared.verdict.CaptureAnswer.{CaptureAnswer}
+use Rattle.answers.specs.declared.verdict.ServesAnswer.{ServesAnswer}
+use Rattle.answers.specs.Answers.{ofTable, ofTransaction, ofCommand, ofCaptureRecord, ofBound, startOf}
+use Rattle.answers.specs.Verdicts.{verdictOf}
+use Rattle.host.specs.Promises.{Writes, PatternSaid, Traces, ReadsInto, Scheduled, ServesSaid, RunsIn, RunsBack}
 
 -- x and y are two results that keep the promise; b and d, f and g, c and e are a buffer or a controller as either leaves it. First the calls
 -- on one record: s is the bytes read, or what the buffer held
@@ -68,6 +69,11 @@ pub record Only (expected : ℕ) (table : List ℕ) : Type 0 where
   pub scheduleBytes : (later : Bool) (s b₀ f₀ : List ℕ) (x y : Answer) (b d f g : List ℕ)
       → Scheduled (λ τ. checkBytes later τ s) (admitted expected table) (listOf later s) b₀ b f₀ f x
       → Scheduled (λ τ. checkBytes later τ s) (admitted expected table) (listOf later s) b₀ d f₀ g y → (x ≡ y) × (b ≡ d) × (f ≡ g)
+  pub serves : (l : List Transaction) (s : List ℕ) (x y : ServesAnswer)
+      → ServesSaid (λ τ. checkList τ l) (admitted expected table) l s x → ServesSaid (λ τ. checkList τ l) (admitted expected table) l s y → x ≡ y
+  pub servesBytes : (later : Bool) (b s : List ℕ) (x y : ServesAnswer)
+      → ServesSaid (λ τ. checkBytes later τ b) (admitted expected table) (listOf later b) s x
+      → ServesSaid (λ τ. checkBytes later τ b) (admitted expected table) (listOf later b) s y → x ≡ y
   pub start : (x y : StartAnswer) → x ≡ startOf (starting (admitted expected table)) → y ≡ startOf (starting (admitted expected table)) → x ≡ y
   -- `skv_step` is the run of one cycle
   pub run : (c₀ : Controller) (l : List Transaction) (n : ℕ) (b₀ : List ℕ) (x y : Answer) (c e : Controller) (b d : List ℕ)

@@ -8,6 +8,7 @@ use Rattle.records.specs.declared.transaction.Transaction.{Transaction}
 use Rattle.records.specs.Told.{Wrote}
 use Rattle.judge.specs.declared.answer.PatternJudged.{PatternJudged}
 use Rattle.capture.specs.Answer.{Captured}
+use Rattle.serves.specs.declared.answer.ServesAnswer.{ServesAnswer as ServesTold}
 use Rattle.lists.specs.declared.check.Checked.{Checked}
 use Rattle.lists.specs.Decode.{Decoding}
 use Rattle.builder.specs.declared.build.BuildAnswer.{BuildAnswer}
@@ -15,12 +16,14 @@ use Rattle.controller.specs.declared.controller.Controller.{Controller}
 use Rattle.controller.specs.Run.{RunLeft}
 use Rattle.desk.specs.Judging.{PatternTold}
 use Rattle.desk.specs.Schedules.{Schedules}
-use Rattle.host.specs.declared.answer.Answer.{Answer}
-use Rattle.host.specs.declared.answer.RunAnswer.{RunAnswer}
-use Rattle.host.specs.declared.verdict.VerdictAnswer.{VerdictAnswer}
-use Rattle.host.specs.declared.verdict.CaptureAnswer.{CaptureAnswer}
-use Rattle.host.specs.Answers.{ofWritten, ofRead, ofBuild, ofRun, runOf}
-use Rattle.host.specs.Verdicts.{patternOf, captureOf}
+use Rattle.desk.specs.Serving.{Serving}
+use Rattle.answers.specs.declared.answer.Answer.{Answer}
+use Rattle.answers.specs.declared.answer.RunAnswer.{RunAnswer}
+use Rattle.answers.specs.declared.verdict.VerdictAnswer.{VerdictAnswer}
+use Rattle.answers.specs.declared.verdict.CaptureAnswer.{CaptureAnswer}
+use Rattle.answers.specs.declared.verdict.ServesAnswer.{ServesAnswer}
+use Rattle.answers.specs.Answers.{ofWritten, ofRead, ofBuild, ofRun, runOf}
+use Rattle.answers.specs.Verdicts.{patternOf, captureOf, servesOf}
 
 -- one record written: r is the answer, b what the buffer holds as the call returns
 abbrev pub Writes : Wrote → Answer → List ℕ → Type 0
@@ -41,6 +44,10 @@ ReadsInto d r l = (r ≡ ofRead (d .answer)) × (l ≡ d .list)
 -- a schedule: b₀ and f₀ are what the two buffers held, b and f what they hold
 abbrev pub Scheduled : (Table → Checked) → TableRead → List Transaction → List ℕ → List ℕ → List ℕ → List ℕ → Answer → Type 0
 Scheduled check a l b₀ b f₀ f r = (v : BuildAnswer) × Schedules check a l b₀ b f₀ f v × (r ≡ ofBuild v)
+
+-- a schedule and a list: r is the numbers of the one answer that the desk may give
+abbrev pub ServesSaid : (Table → Checked) → TableRead → List Transaction → List ℕ → ServesAnswer → Type 0
+ServesSaid check a l s r = (v : ServesTold) × Serving check a l s v × (r ≡ servesOf v)
 
 -- a run where the controller lies: c is the controller and b the room as the call returns
 abbrev pub RunsIn : RunLeft → Answer → Controller → List ℕ → Type 0

@@ -1,11 +1,11 @@
 // By when must a transaction finish?
-use crate::answer::Answer;
-use crate::answer::of_bound;
+use answers::answer::Answer;
+use answers::answer::of_bound;
 use desk::bounding::bound;
 ghost use mathlib.Core.Path.{_≡_};
 ghost use Rattle.desk.specs.Admit.{admitted};
 ghost use Rattle.desk.specs.Bounds.{bounding};
-ghost use Rattle.host.specs.Answers.{ofBound};
+ghost use Rattle.answers.specs.Answers.{ofBound};
 
 #[no_mangle]
 pub extern "C" fn skv_bound(expected: u16, table: &[u8], bi: u8, bc: u8) -> Answer

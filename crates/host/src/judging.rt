@@ -1,13 +1,13 @@
 // Is the schedule legal and, if not, which record breaks which rule first? And is a pattern, however often it is repeated?
-use crate::verdict::VerdictAnswer;
-use crate::verdict::pattern_of;
-use crate::verdict::verdict_of;
+use answers::verdict::VerdictAnswer;
+use answers::verdict::pattern_of;
+use answers::verdict::verdict_of;
 use desk::judging::judge;
 use desk::judging::judge_pattern;
 ghost use mathlib.Core.Path.{_≡_};
 ghost use Rattle.desk.specs.Admit.{admitted};
 ghost use Rattle.desk.specs.Judging.{judging};
-ghost use Rattle.host.specs.Verdicts.{verdictOf};
+ghost use Rattle.answers.specs.Verdicts.{verdictOf};
 ghost use Rattle.host.specs.Promises.{PatternSaid};
 
 #[no_mangle]

@@ -1,11 +1,9 @@
 // What the host links: every call of the desk, with slices, plain numbers and structs of plain numbers. Any bytes may be handed in.
-pub mod answer;
 pub mod bounding;
 pub mod judging;
 pub mod one_record;
-pub mod reader;
 pub mod running;
 pub mod schedules;
+pub mod serving;
 pub mod tracing;
 pub mod transactions;
-pub mod verdict;

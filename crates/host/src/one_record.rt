@@ -1,14 +1,14 @@
 // One record read or written: a table, a transaction, a command, a record of a capture.
-use crate::answer::Answer;
-use crate::answer::of_written;
-use crate::reader::CaptureRecordAnswer;
-use crate::reader::CommandAnswer;
-use crate::reader::TableAnswer;
-use crate::reader::TransactionAnswer;
-use crate::reader::of_capture_record;
-use crate::reader::of_command;
-use crate::reader::of_table;
-use crate::reader::of_transaction;
+use answers::answer::Answer;
+use answers::answer::of_written;
+use answers::reader::CaptureRecordAnswer;
+use answers::reader::CommandAnswer;
+use answers::reader::TableAnswer;
+use answers::reader::TransactionAnswer;
+use answers::reader::of_capture_record;
+use answers::reader::of_command;
+use answers::reader::of_table;
+use answers::reader::of_transaction;
 use capture::one_record::CaptureRecord;
 use capture::one_record::read_capture_record;
 use capture::one_record::write_capture_record;
@@ -27,7 +27,7 @@ ghost use Rattle.records.specs.Table.{readTable, writeTable, writeGroupTable};
 ghost use Rattle.records.specs.Transaction.{transaction, arriving, readTransaction, writeTransaction, readLater, writeLater};
 ghost use Rattle.records.specs.Command.{kindOf, command, readCommand, writeCommand};
 ghost use Rattle.capture.specs.Record.{captureRecord, readCaptureRecord, writeCaptureRecord};
-ghost use Rattle.host.specs.Answers.{ofTable, ofTransaction, ofCommand, ofCaptureRecord};
+ghost use Rattle.answers.specs.Answers.{ofTable, ofTransaction, ofCommand, ofCaptureRecord};
 ghost use Rattle.host.specs.Promises.{Writes};
 
 // The sixteen numbers of a table of 32 bytes.

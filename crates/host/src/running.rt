@@ -1,10 +1,10 @@
 // A controller that is run a few cycles at a time.
-use crate::answer::Answer;
-use crate::answer::RunAnswer;
-use crate::answer::StartAnswer;
-use crate::answer::of_run;
-use crate::answer::run_of;
-use crate::answer::start_of;
+use answers::answer::Answer;
+use answers::answer::RunAnswer;
+use answers::answer::StartAnswer;
+use answers::answer::of_run;
+use answers::answer::run_of;
+use answers::answer::start_of;
 use controller::controller::Controller;
 use desk::running::run;
 use desk::running::run_bytes;
@@ -17,7 +17,7 @@ ghost use Rattle.records.specs.Transaction.{transactionsIn, laterIn};
 ghost use Rattle.lists.specs.Check.{checkList, checkBytes};
 ghost use Rattle.desk.specs.Admit.{admitted};
 ghost use Rattle.desk.specs.Running.{starting, running};
-ghost use Rattle.host.specs.Answers.{startOf};
+ghost use Rattle.answers.specs.Answers.{startOf};
 ghost use Rattle.host.specs.Promises.{RunsIn, RunsBack};
 
 // A refused start hands out a controller of edition 0, which no table has.

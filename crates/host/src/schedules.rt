@@ -1,6 +1,6 @@
 // The schedule of the cycle rule, with a finishing cycle for each transaction.
-use crate::answer::Answer;
-use crate::answer::of_build;
+use answers::answer::Answer;
+use answers::answer::of_build;
 use desk::schedules::schedule;
 use desk::schedules::schedule_bytes;
 use desk::schedules::schedule_later_bytes;

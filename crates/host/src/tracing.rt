@@ -1,6 +1,6 @@
 // A caller's logic analyser trace, straight into the judge.
-use crate::verdict::CaptureAnswer;
-use crate::verdict::capture_of;
+use answers::verdict::CaptureAnswer;
+use answers::verdict::capture_of;
 use desk::tracing::judge_capture;
 ghost use Rattle.desk.specs.Admit.{admitted};
 ghost use Rattle.desk.specs.Tracing.{capturing};

@@ -1,6 +1,6 @@
 // Transactions decoded into a lent run of records.
-use crate::answer::Answer;
-use crate::answer::of_read;
+use answers::answer::Answer;
+use answers::answer::of_read;
 use desk::transactions::read_later_transactions;
 use desk::transactions::read_transactions;
 use records::transaction::Transaction;

@@ -24,8 +24,8 @@ use Rattle.rules.specs.Pattern.{copy, onto, copiesFrom, copies}
 use Rattle.rules.proofs.JudgeState.{Judging, judging-fresh}
 use Rattle.rules.proofs.Pattern.{five-legal, refused-from, accepted-below}
 use Rattle.judge.specs.Answer.{PatternSays}
-use Rattle.judge.specs.Seen.{whole}
-use Rattle.judge.proofs.Seen.{whole-next}
+use Rattle.copies.specs.Seen.{whole}
+use Rattle.copies.proofs.Seen.{whole-next}
 
 -- k copies are judged: the state sums them up, and the verdict on those left is that on all five
 pub record Round (τ : Table) (L : ℕ) (s : List ℕ) (k : ℕ) (st : State) : Type 0 where

@@ -1,7 +1,6 @@
 -- What the proofs of the judges cite.
 -- Assumes nothing.
-use Prim.Native.Nat.{ℕ, _*_, _/_, _%_, _≤_, _<_}
-use native.Mathlib.Nat.{mul-le-mul}
+use Prim.Native.Nat.{ℕ, _/_, _%_, _≤_}
 use native.Mathlib.Omega.{arith}
 use mathlib.Core.Path.{_≡_, refl}
 use mathlib.Core.Bool.{Bool, true, false, not, _||_}
@@ -10,14 +9,8 @@ use lib.Dec.{ltb, eqb}
 use borrow.Author.Tests.{ltb-false}
 use Rattle.records.specs.Told.{firstFailed}
 use Rattle.records.proofs.Laws.{passes}
-use Rattle.rules.specs.declared.verdict.Rule.{Rule}
-use Rattle.rules.specs.declared.verdict.Verdict.the-variants.{Accepted, Refused}
 use Rattle.rules.proofs.TestLaws.{true-false}
 use Rattle.judge.specs.Answer.{notASchedule}
-
--- L × k for a length of 32 bits and one of five copies
-pub shift-small : (L k : ℕ) → L < 4294967296 → k < 5 → L * k ≤ 17179869180
-shift-small L k l m = mul-le-mul {n₁ = L} {m₁ = k} {n₂ = 4294967295} {m₂ = 4} (omega arith) (omega arith)
 
 -- a schedule that is not refused has few records
 pub few : (size : ℕ) (l : List (ℕ × Bool)) → firstFailed ((7, notASchedule size) ∷ l) ≡ 0 → size / 8 ≤ 69632
@@ -28,9 +21,3 @@ few size l e =
     on : (b : Bool) → (b || ltb 69632 (size / 8)) ≡ false → ltb 69632 (size / 8) ≡ false
     on true e = true-false true refl e
     on false e = e
-
--- a verdict that refuses does not accept
-pub not-accepted : {A : Type 0} (x : Rule) (n : ℕ) → Refused x n ≡ Accepted → A
-not-accepted x n e =
-    let z : _≡_ {A = ℕ} 0 1 = cc in
-    absurd (omega arith)

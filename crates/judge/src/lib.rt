@@ -1,6 +1,4 @@
 // The judge of schedules and the judge of repeated patterns.
-pub mod alone;
-pub mod among;
 pub mod answer;
 pub mod copy;
 pub mod pattern;

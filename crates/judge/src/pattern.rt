@@ -14,7 +14,7 @@ ghost use Rattle.records.specs.Command.{commandsIn};
 ghost use Rattle.rules.specs.Pattern.{copies};
 ghost use Rattle.rules.specs.State.{Held};
 ghost use Rattle.judge.specs.Answer.{PatternAnswers};
-ghost use Rattle.judge.specs.Seen.{recordCount};
+ghost use Rattle.copies.specs.Seen.{recordCount};
 
 // The verdict on five copies, which is that on any number from five on.
 pub fn judge_five(t: Table, s: &[u8], length: u32) -> PatternVerdict

@@ -13,7 +13,7 @@ ghost use Rattle.records.specs.Command.{commandsIn};
 ghost use Rattle.rules.specs.Verdict.{judge};
 ghost use Rattle.rules.specs.State.{Held};
 ghost use Rattle.judge.specs.Answer.{judged};
-ghost use Rattle.judge.specs.Seen.{recordCount};
+ghost use Rattle.copies.specs.Seen.{recordCount};
 
 // The verdict on records that number 7 lets pass. A schedule is the first copy of itself, 0 cycles later.
 pub fn verdict_on(t: Table, s: &[u8]) -> Verdict

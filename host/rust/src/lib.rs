@@ -9,12 +9,14 @@ pub mod raw;
 mod records;
 mod running;
 mod schedules;
+mod serving;
 
 pub use captures::*;
 pub use raw::{Controller, HostBank, HostGroup, Transaction};
 pub use records::*;
 pub use running::*;
 pub use schedules::*;
+pub use serving::*;
 
 use raw::Answer;
 use std::fmt;

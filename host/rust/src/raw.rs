@@ -37,6 +37,18 @@ pub struct CaptureAnswer {
 
 #[repr(C)]
 #[derive(Debug, Clone, Copy, PartialEq, Eq)]
+pub struct ServesAnswer {
+    pub refused: u32,
+    pub position: u32,
+    pub edition: u32,
+    pub serves: u32,
+    pub rule: u32,
+    pub record: u32,
+    pub transaction: u32,
+}
+
+#[repr(C)]
+#[derive(Debug, Clone, Copy, PartialEq, Eq)]
 pub struct TableAnswer {
     pub refused: u32,
     pub position: u32,
@@ -182,6 +194,12 @@ extern "C" {
         length: u32) -> VerdictAnswer;
     pub fn skv_judge_capture(expected: u16, table: *const u8, table_len: usize, capture: *const u8, capture_len: usize,
         commands: *mut u8, commands_len: usize) -> CaptureAnswer;
+    pub fn skv_serves(expected: u16, table: *const u8, table_len: usize, list: *const Transaction, list_len: usize,
+        schedule: *const u8, schedule_len: usize) -> ServesAnswer;
+    pub fn skv_serves_bytes(expected: u16, table: *const u8, table_len: usize, list: *const u8, list_len: usize,
+        schedule: *const u8, schedule_len: usize) -> ServesAnswer;
+    pub fn skv_serves_later_bytes(expected: u16, table: *const u8, table_len: usize, list: *const u8, list_len: usize,
+        schedule: *const u8, schedule_len: usize) -> ServesAnswer;
     pub fn skv_bound(expected: u16, table: *const u8, table_len: usize, bi: u8, bc: u8) -> Answer;
     pub fn skv_start(expected: u16, table: *const u8, table_len: usize) -> ControllerAnswer;
     pub fn skv_run(c: *mut Controller, expected: u16, table: *const u8, table_len: usize, list: *const Transaction, list_len: usize,

@@ -120,6 +120,21 @@ pub fn cases() -> Vec<Case> {
     ]
 }
 
+/// The list of which a schedule is built, by table A with a refresh of 50 cycles.
+pub const BUILT_FOR: [[u8; 4]; 3] = [[0, 0, 1, 1], [2, 0, 0, 0], [0, 0, 1, 1]];
+
+/// The lists that it's asked to serve, each with the bytes of another.
+pub const BUILT: [([[u8; 4]; 3], &[u8]); 3] = [
+    (BUILT_FOR, &[0, 0, 1, 1, 2, 0, 0, 0, 0, 0, 1, 1]),
+    (
+        [[0, 0, 1, 1], [2, 0, 0, 0], [1, 0, 1, 1]],
+        &[
+            0, 0, 1, 1, 25, 0, 0, 0, 2, 0, 0, 0, 25, 0, 0, 0, 0, 0, 1, 1, 99, 0, 0, 0,
+        ],
+    ),
+    ([[2, 0, 0, 0]; 3], &[0, 0, 1, 1, 2, 0, 0, 0]),
+];
+
 /// By table A.
 pub const CAPTURES: [&[u8]; 3] = [
     &[250, 255, 0, 0, 255, 255, 255, 0, 4, 0, 2, 0],

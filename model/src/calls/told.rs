@@ -34,6 +34,37 @@ pub fn flat<T>(
     [spaced(&head), spaced(&numbers)].join(" ")
 }
 
+/// An edition, and whether a schedule serves a list.
+pub type ServedTold = Result<(u16, Served), Refusal>;
+
+/// The desk's answer: the edition, and no number where the schedule serves the list, two of a verdict, one of a transaction.
+pub fn desk_served(answer: ServedTold) -> String {
+    match answer {
+        Ok((edition, served)) => {
+            let numbers = match served {
+                Served::Serves => vec![],
+                Served::Broken { rule, record } => vec![rule.into(), record as u32],
+                Served::AtFault { transaction } => vec![transaction as u32],
+            };
+            spaced(&[&[edition.into()], &numbers[..]].concat())
+        }
+        Err(r) => desk(Err(r), 0),
+    }
+}
+
+/// The host's: 1 or 0, the rule, the record and the transaction, 0 where it has none.
+pub fn host_served(answer: ServedTold) -> String {
+    let four = |(edition, served)| {
+        let numbers = match served {
+            Served::Serves => [1, 0, 0, 0],
+            Served::Broken { rule, record } => [0, rule.into(), record as u32, 0],
+            Served::AtFault { transaction } => [0, 0, 0, transaction as u32],
+        };
+        (edition, numbers.to_vec())
+    };
+    flat(answer, four, 4)
+}
+
 pub fn spaced(numbers: &[u32]) -> String {
     let each: Vec<String> = numbers.iter().map(u32::to_string).collect();
     each.join(" ")

@@ -6,6 +6,7 @@ mod captures;
 mod editions;
 mod groups;
 mod refreshes;
+mod serving;
 
 use skvorzhan::*;
 

@@ -46,9 +46,9 @@ use Rattle.calls.proofs.Lend.{In, lends-array, array-back, last-said, e
 use Rattle.records.specs.declared.transaction.Transaction.{Transaction}
 use Rattle.records.proofs.transaction.Transaction as T
 use Rattle.records.proofs.transaction.Transaction.Laws as T′
-use Rattle.host.specs.declared.answer.Answer.{Answer}
-use Rattle.host.proofs.answer.Answer as N
-use Rattle.host.proofs.answer.Answer.Laws as N′
+use Rattle.answers.specs.declared.answer.Answer.{Answer}
+use Rattle.answers.proofs.answer.Answer as N
+use Rattle.answers.proofs.answer.Answer.Laws as N′
 use Rattle.calls.proofs.told.answered as g
 use Rattle.calls.proofs.told.answered.Symbol as g-def
 use Rattle.calls.proofs.told.answered.Symbol.{name as #answered}

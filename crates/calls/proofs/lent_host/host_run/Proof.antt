@@ -49,12 +49,12 @@ use Rattle.records.proofs.transaction.Transaction as T
 use Rattle.records.proofs.transaction.Transaction.Laws as T′
 use Rattle.controller.proofs.controller.Controller as S
 use Rattle.controller.proofs.controller.Controller.Laws as S′
-use Rattle.host.specs.declared.answer.Answer.{Answer}
-use Rattle.host.specs.declared.answer.RunAnswer.{RunAnswer}
-use Rattle.host.proofs.answer.Answer as N
-use Rattle.host.proofs.answer.Answer.Laws as N′
-use Rattle.host.proofs.answer.RunAnswer as R
-use Rattle.host.proofs.answer.RunAnswer.Laws as R′
+use Rattle.answers.specs.declared.answer.Answer.{Answer}
+use Rattle.answers.specs.declared.answer.RunAnswer.{RunAnswer}
+use Rattle.answers.proofs.answer.Answer as N
+use Rattle.answers.proofs.answer.Answer.Laws as N′
+use Rattle.answers.proofs.answer.RunAnswer as R
+use Rattle.answers.proofs.answer.RunAnswer.Laws as R′
 use Rattle.host.proofs.running.skv_run as h
 use Rattle.host.proofs.running.skv_run.Symbol as h-def
 use Rattle.host.proofs.running.skv_run.Symbol.{name as #skv-run}

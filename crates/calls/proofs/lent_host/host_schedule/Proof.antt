@@ -42,11 +42,11 @@ use denote.Triple.Walked.{Stays, stay-none, stay-none-slice, gave-slice, walkOf,
 use denote.Exit.{yes}
 use Rattle.calls.proofs.Lend.{In, Part, lends-shared, shared-back, last-said, ends-unsaid}
 use Rattle.records.specs.declared.transaction.Transaction.{Transaction}
-use Rattle.host.specs.declared.answer.Answer.{Answer}
+use Rattle.answers.specs.declared.answer.Answer.{Answer}
 use Rattle.records.proofs.transaction.Transaction as T
 use Rattle.records.proofs.transaction.Transaction.Laws as T′
-use Rattle.host.proofs.answer.Answer as R
-use Rattle.host.proofs.answer.Answer.Laws as R′
+use Rattle.answers.proofs.answer.Answer as R
+use Rattle.answers.proofs.answer.Answer.Laws as R′
 use Rattle.host.proofs.schedules.skv_schedule as h
 use Rattle.host.proofs.schedules.skv_schedule.Symbol as h-def
 use Rattle.host.proofs.schedules.skv_schedule.Symbol.{name as #skv-schedule}

@@ -52,7 +52,7 @@ use Rattle.lists.proofs.While.{when}
 use Rattle.controller.specs.declared.controller.Controller.{Controller}
 use Rattle.controller.specs.declared.run.RunTold.{RunTold}
 use Rattle.controller.specs.Run.{LeavesRun}
-use Rattle.desk.specs.declared.admit.WayIn.{WayIn}
+use Rattle.admission.specs.declared.admit.WayIn.{WayIn}
 use Rattle.desk.specs.Admit.{admitted, LetIn}
 use Rattle.desk.specs.Running.{running, hasRun}
 use Rattle.desk.proofs.Gathering.{Way, Gather, val, Let, Packs, to-admit, goes-admit, said-admit, to-gather, goes-gather, said-gather}
@@ -64,24 +64,24 @@ use Rattle.controller.proofs.run.RunTold as R
 use Rattle.controller.proofs.run.RunTold.Laws as R′
 use Rattle.controller.proofs.run.RunAnswer as N
 use Rattle.controller.proofs.run.RunAnswer.Laws as N′
-use Rattle.desk.proofs.admit.WayIn as Y
-use Rattle.desk.proofs.admit.WayIn.Laws as Y′
-use Rattle.desk.proofs.admit.admit_lent as e
-use Rattle.desk.proofs.admit.admit_lent.Symbol as e-def
-use Rattle.desk.proofs.admit.admit_lent.Symbol.{name as #admit-lent}
-use Rattle.desk.proofs.admit.admit_lent.Met as e-thm
+use Rattle.admission.proofs.admit.WayIn as Y
+use Rattle.admission.proofs.admit.WayIn.Laws as Y′
+use Rattle.admission.proofs.admit.admit_lent as e
+use Rattle.admission.proofs.admit.admit_lent.Symbol as e-def
+use Rattle.admission.proofs.admit.admit_lent.Symbol.{name as #admit-lent}
+use Rattle.admission.proofs.admit.admit_lent.Met as e-thm
 use Rattle.lists.proofs.packed.gather as g
 use Rattle.lists.proofs.packed.gather.Symbol as g-def
 use Rattle.lists.proofs.packed.gather.Symbol.{name as #gather}
 use Rattle.lists.proofs.packed.gather.Met as g-thm
-use Rattle.desk.proofs.running.run_held as h
-use Rattle.desk.proofs.running.run_held.Symbol as h-def
-use Rattle.desk.proofs.running.run_held.Symbol.{name as #run-held}
-use Rattle.desk.proofs.running.run_held.Met as h-thm
-use Rattle.desk.proofs.running.has_run as p
-use Rattle.desk.proofs.running.has_run.Symbol as p-def
-use Rattle.desk.proofs.running.has_run.Symbol.{name as #has-run}
-use Rattle.desk.proofs.running.has_run.Met as p-thm
+use Rattle.runner.proofs.running.run_held as h
+use Rattle.runner.proofs.running.run_held.Symbol as h-def
+use Rattle.runner.proofs.running.run_held.Symbol.{name as #run-held}
+use Rattle.runner.proofs.running.run_held.Met as h-thm
+use Rattle.runner.proofs.running.has_run as p
+use Rattle.runner.proofs.running.has_run.Symbol as p-def
+use Rattle.runner.proofs.running.has_run.Symbol.{name as #has-run}
+use Rattle.runner.proofs.running.has_run.Met as p-thm
 use Rattle.desk.proofs.running.run.Key.{name as #run}
 use Rattle.desk.proofs.running.run as f
 use Rattle.desk.proofs.running.run.Statement as stated
@@ -262,8 +262,8 @@ run-spec 𝓤 H 𝓜 𝓖 𝓡 =
     entered 𝓤 H (tripleOf 𝓤 H (𝓖 .A) f.signature (f.spec 𝓤 H (𝓖 .A) (𝓜 .mem) (𝓡 .run)))
     (tables 𝓤 H 𝓜 𝓡 code.env .C) (tables 𝓤 H 𝓜 𝓡 code.env .Λ) #run code.function (code.unfolded 𝓤 H 𝓜 𝓡)
     (meets 𝓤 H (𝓖 .A) (givenOf 𝓤 H 𝓜 𝓖) (𝓜 .mem) (𝓡 .run) (tablesOf 𝓤 H 𝓜 (tables 𝓤 H 𝓜 𝓡 code.env)) (
-      cited 𝓤 H (Way 𝓤 H (𝓖 .A) (𝓜 .mem) (𝓡 .run)) 𝓜 𝓡 code.env #admit-lent e-def.routine code.calls-desk·admit·admit-lent (e-thm.met 𝓤 H 𝓜 𝓖 𝓡),
+      cited 𝓤 H (Way 𝓤 H (𝓖 .A) (𝓜 .mem) (𝓡 .run)) 𝓜 𝓡 code.env #admit-lent e-def.routine code.calls-admission·admit·admit-lent (e-thm.met 𝓤 H 𝓜 𝓖 𝓡),
       cited 𝓤 H (Gather 𝓤 H (𝓖 .A) (𝓜 .mem) (𝓡 .run)) 𝓜 𝓡 code.env #gather g-def.routine code.calls-lists·packed·gather (g-thm.met 𝓤 H 𝓜 𝓖 𝓡),
-      cited 𝓤 H (Held 𝓤 H (𝓖 .A) (𝓜 .mem) (𝓡 .run)) 𝓜 𝓡 code.env #run-held h-def.routine code.calls-desk·running·run-held (h-thm.met 𝓤 H 𝓜 𝓖 𝓡),
-      cited 𝓤 H (Has 𝓤 H (𝓖 .A) (𝓜 .mem) (𝓡 .run)) 𝓜 𝓡 code.env #has-run p-def.routine code.calls-desk·running·has-run (p-thm.met 𝓤 H 𝓜 𝓖 𝓡),
+      cited 𝓤 H (Held 𝓤 H (𝓖 .A) (𝓜 .mem) (𝓡 .run)) 𝓜 𝓡 code.env #run-held h-def.routine code.calls-runner·running·run-held (h-thm.met 𝓤 H 𝓜 𝓖 𝓡),
+      cited 𝓤 H (Has 𝓤 H (𝓖 .A) (𝓜 .mem) (𝓡 .run)) 𝓜 𝓡 code.env #has-run p-def.routine code.calls-runner·running·has-run (p-thm.met 𝓤 H 𝓜 𝓖 𝓡),
     ))

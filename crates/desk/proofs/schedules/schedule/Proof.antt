@@ -43,7 +43,7 @@ use Rattle.records.specs.declared.transaction.Transaction.{Transaction}
 use Rattle.lists.specs.Check.{checkList}
 use Rattle.lists.specs.Packed.{held}
 use Rattle.builder.specs.declared.build.BuildAnswer.{BuildAnswer}
-use Rattle.desk.specs.declared.admit.WayIn.{WayIn}
+use Rattle.admission.specs.declared.admit.WayIn.{WayIn}
 use Rattle.desk.specs.Admit.{admitted, LetIn}
 use Rattle.desk.specs.Schedules.{Schedules}
 use Rattle.desk.proofs.Gathering.{Way, Gather, val, Let, Packs, to-admit, goes-admit, said-admit, to-gather, goes-gather, said-gather}
@@ -51,20 +51,20 @@ use Rattle.desk.proofs.Lent.{way-room, let-in, schedules-lent}
 use Rattle.records.proofs.transaction.Transaction as T
 use Rattle.builder.proofs.build.BuildAnswer as R
 use Rattle.builder.proofs.build.BuildAnswer.Laws as R′
-use Rattle.desk.proofs.admit.WayIn as Y
-use Rattle.desk.proofs.admit.WayIn.Laws as Y′
-use Rattle.desk.proofs.admit.admit_lent as e
-use Rattle.desk.proofs.admit.admit_lent.Symbol as e-def
-use Rattle.desk.proofs.admit.admit_lent.Symbol.{name as #admit-lent}
-use Rattle.desk.proofs.admit.admit_lent.Met as e-thm
+use Rattle.admission.proofs.admit.WayIn as Y
+use Rattle.admission.proofs.admit.WayIn.Laws as Y′
+use Rattle.admission.proofs.admit.admit_lent as e
+use Rattle.admission.proofs.admit.admit_lent.Symbol as e-def
+use Rattle.admission.proofs.admit.admit_lent.Symbol.{name as #admit-lent}
+use Rattle.admission.proofs.admit.admit_lent.Met as e-thm
 use Rattle.lists.proofs.packed.gather as g
 use Rattle.lists.proofs.packed.gather.Symbol as g-def
 use Rattle.lists.proofs.packed.gather.Symbol.{name as #gather}
 use Rattle.lists.proofs.packed.gather.Met as g-thm
-use Rattle.desk.proofs.schedules.schedule_held as h
-use Rattle.desk.proofs.schedules.schedule_held.Symbol as h-def
-use Rattle.desk.proofs.schedules.schedule_held.Symbol.{name as #schedule-held}
-use Rattle.desk.proofs.schedules.schedule_held.Met as h-thm
+use Rattle.scheduler.proofs.schedules.schedule_held as h
+use Rattle.scheduler.proofs.schedules.schedule_held.Symbol as h-def
+use Rattle.scheduler.proofs.schedules.schedule_held.Symbol.{name as #schedule-held}
+use Rattle.scheduler.proofs.schedules.schedule_held.Met as h-thm
 use Rattle.desk.proofs.schedules.schedule.Key.{name as #schedule}
 use Rattle.desk.proofs.schedules.schedule as f
 use Rattle.desk.proofs.schedules.schedule.Statement as stated
@@ -210,7 +210,7 @@ schedule-spec 𝓤 H 𝓜 𝓖 𝓡 =
     entered 𝓤 H (tripleOf 𝓤 H (𝓖 .A) f.signature (f.spec 𝓤 H (𝓖 .A) (𝓜 .mem) (𝓡 .run)))
     (tables 𝓤 H 𝓜 𝓡 code.env .C) (tables 𝓤 H 𝓜 𝓡 code.env .Λ) #schedule code.function (code.unfolded 𝓤 H 𝓜 𝓡)
     (meets 𝓤 H (𝓖 .A) (givenOf 𝓤 H 𝓜 𝓖) (𝓜 .mem) (𝓡 .run) (tablesOf 𝓤 H 𝓜 (tables 𝓤 H 𝓜 𝓡 code.env)) (
-      cited 𝓤 H (Way 𝓤 H (𝓖 .A) (𝓜 .mem) (𝓡 .run)) 𝓜 𝓡 code.env #admit-lent e-def.routine code.calls-desk·admit·admit-lent (e-thm.met 𝓤 H 𝓜 𝓖 𝓡),
+      cited 𝓤 H (Way 𝓤 H (𝓖 .A) (𝓜 .mem) (𝓡 .run)) 𝓜 𝓡 code.env #admit-lent e-def.routine code.calls-admission·admit·admit-lent (e-thm.met 𝓤 H 𝓜 𝓖 𝓡),
       cited 𝓤 H (Gather 𝓤 H (𝓖 .A) (𝓜 .mem) (𝓡 .run)) 𝓜 𝓡 code.env #gather g-def.routine code.calls-lists·packed·gather (g-thm.met 𝓤 H 𝓜 𝓖 𝓡),
-      cited 𝓤 H (Held 𝓤 H (𝓖 .A) (𝓜 .mem) (𝓡 .run)) 𝓜 𝓡 code.env #schedule-held h-def.routine code.calls-desk·schedules·schedule-held (h-thm.met 𝓤 H 𝓜 𝓖 𝓡),
+      cited 𝓤 H (Held 𝓤 H (𝓖 .A) (𝓜 .mem) (𝓡 .run)) 𝓜 𝓡 code.env #schedule-held h-def.routine code.calls-scheduler·schedules·schedule-held (h-thm.met 𝓤 H 𝓜 𝓖 𝓡),
     ))

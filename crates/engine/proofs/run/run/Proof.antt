@@ -18,7 +18,7 @@ use Rattle.rules.specs.Run.{stops}
 use Rattle.rules.proofs.Ranges.{held, ranges}
 use Rattle.heads.proofs.Laws.{first}
 use Rattle.timing.specs.Kept.{toldGroup, told}
-use Rattle.engine.specs.Choose.{commandOf}
+use Rattle.choices.specs.Choose.{commandOf}
 use Rattle.engine.proofs.Going.{Turns, starts, same-size, stops-here, counted-out, Moving, room-for, few, act-asked, act-left, data-asked, data-left}
 use Rattle.engine.proofs.InPlace.{data?, act?, data-only, act-queues, ref-queues, atCycle, kept-stops, kept-moves, kept-opens, kept-data, kept-act, kept-act-kind, kept-ref, kept-waits, kept-early, kept-idles, kept-asked, ref-moves, act-stored, data-stored}
 use Rattle.engine.proofs.run.run.Statement.{statement}

@@ -43,22 +43,22 @@ use Rattle.controller.specs.declared.controller.Controller.{Controller}
 use Rattle.controller.specs.declared.run.RunAnswer.{RunAnswer}
 use Rattle.desk.specs.Admit.{admitted}
 use Rattle.desk.specs.Running.{running, Runs}
-use Rattle.host.specs.declared.answer.Answer.{Answer}
-use Rattle.host.specs.Answers.{ofRun}
+use Rattle.answers.specs.declared.answer.Answer.{Answer}
+use Rattle.answers.specs.Answers.{ofRun}
 use Rattle.records.proofs.transaction.Transaction as T
 use Rattle.controller.proofs.controller.Controller as S
 use Rattle.controller.proofs.run.RunAnswer as R
 use Rattle.controller.proofs.run.RunAnswer.Laws as R′
-use Rattle.host.proofs.answer.Answer as N
-use Rattle.host.proofs.answer.Answer.Laws as N′
+use Rattle.answers.proofs.answer.Answer as N
+use Rattle.answers.proofs.answer.Answer.Laws as N′
 use Rattle.desk.proofs.running.run as g
 use Rattle.desk.proofs.running.run.Symbol as g-def
 use Rattle.desk.proofs.running.run.Symbol.{name as #run}
 use Rattle.desk.proofs.running.run.Met as g-thm
-use Rattle.host.proofs.answer.of_run as h
-use Rattle.host.proofs.answer.of_run.Symbol as h-def
-use Rattle.host.proofs.answer.of_run.Symbol.{name as #of-run}
-use Rattle.host.proofs.answer.of_run.Met as h-thm
+use Rattle.answers.proofs.answer.of_run as h
+use Rattle.answers.proofs.answer.of_run.Symbol as h-def
+use Rattle.answers.proofs.answer.of_run.Symbol.{name as #of-run}
+use Rattle.answers.proofs.answer.of_run.Met as h-thm
 use Rattle.host.proofs.running.skv_run.Key.{name as #skv-run}
 use Rattle.host.proofs.running.skv_run as f
 use Rattle.host.proofs.running.skv_run.Statement as stated
@@ -198,4 +198,4 @@ skv-run-spec 𝓤 H 𝓜 𝓖 𝓡 =
     (tables 𝓤 H 𝓜 𝓡 code.env .C) (tables 𝓤 H 𝓜 𝓡 code.env .Λ) #skv-run code.function (code.unfolded 𝓤 H 𝓜 𝓡)
     (meets 𝓤 H (𝓖 .A) (givenOf 𝓤 H 𝓜 𝓖) (𝓜 .mem) (𝓡 .run) (tablesOf 𝓤 H 𝓜 (tables 𝓤 H 𝓜 𝓡 code.env))
     (cited 𝓤 H (Work 𝓤 H (𝓖 .A) (𝓜 .mem) (𝓡 .run)) 𝓜 𝓡 code.env #run g-def.routine code.calls-desk·running·run (g-thm.met 𝓤 H 𝓜 𝓖 𝓡))
-    (cited 𝓤 H (Numbers 𝓤 H (𝓖 .A) (𝓜 .mem) (𝓡 .run)) 𝓜 𝓡 code.env #of-run h-def.routine code.calls-host·answer·of-run (h-thm.met 𝓤 H 𝓜 𝓖 𝓡)))
+    (cited 𝓤 H (Numbers 𝓤 H (𝓖 .A) (𝓜 .mem) (𝓡 .run)) 𝓜 𝓡 code.env #of-run h-def.routine code.calls-answers·answer·of-run (h-thm.met 𝓤 H 𝓜 𝓖 𝓡)))

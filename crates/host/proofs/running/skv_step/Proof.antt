@@ -40,14 +40,14 @@ use denote.Exit.{yes}
 use Rattle.records.specs.declared.transaction.Transaction.{Transaction}
 use Rattle.lists.specs.Check.{checkList}
 use Rattle.controller.specs.declared.controller.Controller.{Controller}
-use Rattle.host.specs.declared.answer.Answer.{Answer}
+use Rattle.answers.specs.declared.answer.Answer.{Answer}
 use Rattle.desk.specs.Admit.{admitted}
 use Rattle.desk.specs.Running.{running}
 use Rattle.host.specs.Promises.{RunsIn}
 use Rattle.records.proofs.transaction.Transaction as T
 use Rattle.controller.proofs.controller.Controller as S
-use Rattle.host.proofs.answer.Answer as N
-use Rattle.host.proofs.answer.Answer.Laws as N′
+use Rattle.answers.proofs.answer.Answer as N
+use Rattle.answers.proofs.answer.Answer.Laws as N′
 use Rattle.host.proofs.running.skv_run as g
 use Rattle.host.proofs.running.skv_run.Symbol as g-def
 use Rattle.host.proofs.running.skv_run.Symbol.{name as #run}

@@ -42,22 +42,22 @@ use Rattle.lists.specs.Check.{checkList}
 use Rattle.builder.specs.declared.build.BuildAnswer.{BuildAnswer}
 use Rattle.desk.specs.Admit.{admitted}
 use Rattle.desk.specs.Schedules.{Schedules}
-use Rattle.host.specs.declared.answer.Answer.{Answer}
-use Rattle.host.specs.Answers.{countOf, ofBuild}
+use Rattle.answers.specs.declared.answer.Answer.{Answer}
+use Rattle.answers.specs.Answers.{countOf, ofBuild}
 use Rattle.host.proofs.Laws.{few-of-list}
 use Rattle.records.proofs.transaction.Transaction as T
 use Rattle.builder.proofs.build.BuildAnswer as R
 use Rattle.builder.proofs.build.BuildAnswer.Laws as R′
-use Rattle.host.proofs.answer.Answer as N
-use Rattle.host.proofs.answer.Answer.Laws as N′
+use Rattle.answers.proofs.answer.Answer as N
+use Rattle.answers.proofs.answer.Answer.Laws as N′
 use Rattle.desk.proofs.schedules.schedule as g
 use Rattle.desk.proofs.schedules.schedule.Symbol as g-def
 use Rattle.desk.proofs.schedules.schedule.Symbol.{name as #schedule}
 use Rattle.desk.proofs.schedules.schedule.Met as g-thm
-use Rattle.host.proofs.answer.of_build as h
-use Rattle.host.proofs.answer.of_build.Symbol as h-def
-use Rattle.host.proofs.answer.of_build.Symbol.{name as #of-build}
-use Rattle.host.proofs.answer.of_build.Met as h-thm
+use Rattle.answers.proofs.answer.of_build as h
+use Rattle.answers.proofs.answer.of_build.Symbol as h-def
+use Rattle.answers.proofs.answer.of_build.Symbol.{name as #of-build}
+use Rattle.answers.proofs.answer.of_build.Met as h-thm
 use Rattle.host.proofs.schedules.skv_schedule.Key.{name as #skv-schedule}
 use Rattle.host.proofs.schedules.skv_schedule as f
 use Rattle.host.proofs.schedules.skv_schedule.Statement as stated
@@ -195,4 +195,4 @@ skv-schedule-spec 𝓤 H 𝓜 𝓖 𝓡 =
     (tables 𝓤 H 𝓜 𝓡 code.env .C) (tables 𝓤 H 𝓜 𝓡 code.env .Λ) #skv-schedule code.function (code.unfolded 𝓤 H 𝓜 𝓡)
     (meets 𝓤 H (𝓖 .A) (givenOf 𝓤 H 𝓜 𝓖) (𝓜 .mem) (𝓡 .run) (tablesOf 𝓤 H 𝓜 (tables 𝓤 H 𝓜 𝓡 code.env))
     (cited 𝓤 H (Work 𝓤 H (𝓖 .A) (𝓜 .mem) (𝓡 .run)) 𝓜 𝓡 code.env #schedule g-def.routine code.calls-desk·schedules·schedule (g-thm.met 𝓤 H 𝓜 𝓖 𝓡))
-    (cited 𝓤 H (Numbers 𝓤 H (𝓖 .A) (𝓜 .mem) (𝓡 .run)) 𝓜 𝓡 code.env #of-build h-def.routine code.calls-host·answer·of-build (h-thm.met 𝓤 H 𝓜 𝓖 𝓡)))
+    (cited 𝓤 H (Numbers 𝓤 H (𝓖 .A) (𝓜 .mem) (𝓡 .run)) 𝓜 𝓡 code.env #of-build h-def.routine code.calls-answers·answer·of-build (h-thm.met 𝓤 H 𝓜 𝓖 𝓡)))

@@ -43,21 +43,21 @@ use Rattle.lists.specs.declared.decode.Decoded.{Decoded}
 use Rattle.lists.specs.Decode.{Decodes}
 use Rattle.desk.specs.Admit.{admitted}
 use Rattle.desk.specs.Transactions.{reading}
-use Rattle.host.specs.declared.answer.Answer.{Answer}
-use Rattle.host.specs.Answers.{ofRead}
+use Rattle.answers.specs.declared.answer.Answer.{Answer}
+use Rattle.answers.specs.Answers.{ofRead}
 use Rattle.records.proofs.transaction.Transaction as T
 use Rattle.lists.proofs.decode.Decoded as R
 use Rattle.lists.proofs.decode.Decoded.Laws as R′
-use Rattle.host.proofs.answer.Answer as N
-use Rattle.host.proofs.answer.Answer.Laws as N′
+use Rattle.answers.proofs.answer.Answer as N
+use Rattle.answers.proofs.answer.Answer.Laws as N′
 use Rattle.desk.proofs.transactions.read_transactions as g
 use Rattle.desk.proofs.transactions.read_transactions.Symbol as g-def
 use Rattle.desk.proofs.transactions.read_transactions.Symbol.{name as #read-transactions}
 use Rattle.desk.proofs.transactions.read_transactions.Met as g-thm
-use Rattle.host.proofs.answer.of_read as h
-use Rattle.host.proofs.answer.of_read.Symbol as h-def
-use Rattle.host.proofs.answer.of_read.Symbol.{name as #of-read}
-use Rattle.host.proofs.answer.of_read.Met as h-thm
+use Rattle.answers.proofs.answer.of_read as h
+use Rattle.answers.proofs.answer.of_read.Symbol as h-def
+use Rattle.answers.proofs.answer.of_read.Symbol.{name as #of-read}
+use Rattle.answers.proofs.answer.of_read.Met as h-thm
 use Rattle.host.proofs.transactions.skv_read_transactions.Key.{name as #skv-read-transactions}
 use Rattle.host.proofs.transactions.skv_read_transactions as f
 use Rattle.host.proofs.transactions.skv_read_transactions.Statement as stated
@@ -191,4 +191,4 @@ skv-read-transactions-spec 𝓤 H 𝓜 𝓖 𝓡 =
     (tables 𝓤 H 𝓜 𝓡 code.env .C) (tables 𝓤 H 𝓜 𝓡 code.env .Λ) #skv-read-transactions code.function (code.unfolded 𝓤 H 𝓜 𝓡)
     (meets 𝓤 H (𝓖 .A) (givenOf 𝓤 H 𝓜 𝓖) (𝓜 .mem) (𝓡 .run) (tablesOf 𝓤 H 𝓜 (tables 𝓤 H 𝓜 𝓡 code.env))
     (cited 𝓤 H (Work 𝓤 H (𝓖 .A) (𝓜 .mem) (𝓡 .run)) 𝓜 𝓡 code.env #read-transactions g-def.routine code.calls-desk·transactions·read-transactions (g-thm.met 𝓤 H 𝓜 𝓖 𝓡))
-    (cited 𝓤 H (Numbers 𝓤 H (𝓖 .A) (𝓜 .mem) (𝓡 .run)) 𝓜 𝓡 code.env #of-read h-def.routine code.calls-host·answer·of-read (h-thm.met 𝓤 H 𝓜 𝓖 𝓡)))
+    (cited 𝓤 H (Numbers 𝓤 H (𝓖 .A) (𝓜 .mem) (𝓡 .run)) 𝓜 𝓡 code.env #of-read h-def.routine code.calls-answers·answer·of-read (h-thm.met 𝓤 H 𝓜 𝓖 𝓡)))

@@ -8,7 +8,7 @@ use Rattle.records.specs.Command.{commandsIn}
 use Rattle.rules.specs.Verdict.{judgeFrom}
 use Rattle.rules.proofs.JudgeState.{judging-fresh}
 use Rattle.timing.proofs.Telling.{told-fresh}
-use Rattle.judge.proofs.Seen.{moved-none}
+use Rattle.copies.proofs.Seen.{moved-none}
 use Rattle.judge.proofs.schedule.verdict_on.Statement.{statement}
 use Rattle.judge.proofs.schedule.verdict_on.Tie as tie
 

@@ -22,6 +22,7 @@ pub const MOST_SLOTS: usize = 400;
 pub struct Archive {
     table: Region,
     bytes: Region,
+    schedule: Region,
     room: Region,
     slots: Region,
     state: Region,
@@ -109,12 +110,19 @@ fn captured(a: CaptureAnswer) -> Vec<u32> {
     vec![a.refused, a.position, a.edition, a.count, a.rule, a.record]
 }
 
+fn served(a: ServesAnswer) -> Vec<u32> {
+    let head = [a.refused, a.position, a.edition];
+    let told = [a.serves, a.rule, a.record, a.transaction];
+    [&head[..], &told].concat()
+}
+
 impl Archive {
     pub fn new() -> Archive {
         assert_eq!(size_of::<Controller>(), 4 * NUMBERS);
         Archive {
             table: Region::new(LONGEST_TABLE),
             bytes: Region::new(LONGEST_BYTES),
+            schedule: Region::new(LONGEST_BYTES),
             room: Region::new(MOST_ROOM),
             slots: Region::new(8 * MOST_SLOTS),
             state: Region::new(size_of::<Controller>()),
@@ -128,12 +136,13 @@ impl Archive {
         let (f, lies, noise) = (case.filling, case.lies, &self.noise);
         let whole = self.handed_over(case);
         let list = self.bytes.hold(&whole, lies, noise, f);
+        let schedule = self.schedule.hold(&case.schedule, lies, noise, f);
         let t = self.table.hold(&case.table, lies, noise, f);
         let room = self.room.fill(case.room, lies, noise, f);
         let slots = self.slots.fill(case.bytes_of_slots(), lies, noise, f);
         let numbers_now: Vec<u8> = case.state.iter().flat_map(|n| n.to_le_bytes()).collect();
         let c = self.state.hold(&numbers_now, lies, noise, f) as *mut Controller;
-        for region in [&mut self.bytes, &mut self.table] {
+        for region in [&mut self.bytes, &mut self.schedule, &mut self.table] {
             region.only_reads();
         }
         if read_only {
@@ -144,6 +153,7 @@ impl Archive {
         let e = case.expected;
         let (tn, bn, rn, sn) = (case.table.len(), whole.len(), case.room, case.slots);
         let (xs, xn) = (list as *const Transaction, bn / 8);
+        let (s, cn) = (schedule as *const u8, case.schedule.len());
         let (finishes, places) = (slots as *mut u32, slots as *mut Transaction);
         let [v0, v1, v2, v3, v4] = case.values;
         let four = [v0, v1, v2, v3].map(|n| n as u8);
@@ -216,6 +226,9 @@ impl Archive {
                 Call::Judge => verdict(skv_judge(e, t, tn, list, bn)),
                 Call::JudgePattern => verdict(skv_judge_pattern(e, t, tn, list, bn, v0)),
                 Call::JudgeCapture => captured(skv_judge_capture(e, t, tn, list, bn, room, rn)),
+                Call::Serves => served(skv_serves(e, t, tn, xs, xn, s, cn)),
+                Call::ServesBytes => served(skv_serves_bytes(e, t, tn, list, bn, s, cn)),
+                Call::ServesLaterBytes => served(skv_serves_later_bytes(e, t, tn, list, bn, s, cn)),
                 Call::Bound => numbers(skv_bound(e, t, tn, v0 as u8, v1 as u8)),
                 Call::Start => keep(skv_start(e, t, tn)),
                 Call::Run => numbers(skv_run(c, e, t, tn, xs, xn, v0, room, rn)),
@@ -252,6 +265,7 @@ impl Archive {
         for (name, region) in [
             ("the table", &self.table),
             ("the bytes", &self.bytes),
+            ("the schedule", &self.schedule),
             ("the room", &self.room),
             ("the slots", &self.slots),
             ("the controller", &self.state),
@@ -260,7 +274,8 @@ impl Archive {
                 return Err(format!("bytes beside {name} were changed"));
             }
         }
-        if self.table.now() != &case.table[..] || self.bytes.now() != whole {
+        let kept = self.table.now() == &case.table[..] && self.schedule.now() == &case.schedule[..];
+        if !kept || self.bytes.now() != whole {
             return Err("bytes that were lent for reading were changed".to_string());
         }
         Ok(())

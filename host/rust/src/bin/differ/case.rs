@@ -32,6 +32,18 @@ pub fn arrival(x: &[u8; 8]) -> u32 {
     u32::from_le_bytes([x[4], x[5], x[6], x[7]])
 }
 
+/// A command as cycle, kind, bank and number; of another size its bytes.
+fn command(x: &[u8]) -> Vec<u32> {
+    match *x {
+        [a, b, c, d, kind, bank, e, f] => {
+            let cycle = u32::from_le_bytes([a, b, c, d]);
+            let number = u16::from_le_bytes([e, f]);
+            vec![cycle, kind.into(), bank.into(), number.into()]
+        }
+        _ => x.iter().map(|&b| b.into()).collect(),
+    }
+}
+
 /// Of a capture record.
 pub fn is_tick(x: &[u8; 4]) -> bool {
     x[2..] == [TICK.0, TICK.1]
@@ -51,6 +63,8 @@ pub struct Case {
     pub table: Vec<u8>,
     /// The list, the schedule, the pattern, the capture, or the one record to be read.
     pub bytes: Vec<u8>,
+    /// The schedule that is to serve the list.
+    pub schedule: Vec<u8>,
     /// What is passed as plain numbers, in the order of the parameters.
     pub values: [u32; 5],
     /// The size of the lent bytes.
@@ -71,6 +85,7 @@ impl Case {
             expected: 7,
             table: Vec::new(),
             bytes: Vec::new(),
+            schedule: Vec::new(),
             values: [0; 5],
             room: 0,
             slots: 0,
@@ -141,7 +156,7 @@ impl Case {
         (ticks, records.windows(2).filter(goes_round).count())
     }
 
-    /// The records of the bytes, for a reader: commands as cycle, kind, bank and number; capture records as stamp, kind and bank; transactions
+    /// The records of the bytes and of the schedule, for a reader: commands as cycle, kind, bank and number; capture records as stamp, kind and bank; transactions
     /// of 8 bytes with their arrival.
     pub fn shown(&self) -> Vec<Vec<u32>> {
         let record = |x: &[u8]| match *x {
@@ -153,14 +168,12 @@ impl Case {
                 let four = [kind, start, bi, bc].map(u32::from);
                 [&four[..], &[u32::from_le_bytes([a, b, c, d])]].concat()
             }
-            [a, b, c, d, kind, bank, e, f] => {
-                let cycle = u32::from_le_bytes([a, b, c, d]);
-                let number = u16::from_le_bytes([e, f]);
-                vec![cycle, kind.into(), bank.into(), number.into()]
-            }
-            _ => x.iter().map(|&b| b.into()).collect(),
+            _ => command(x),
         };
-        self.bytes.chunks(self.call.record()).map(record).collect()
+        let records = self.bytes.chunks(self.call.record()).map(record);
+        records
+            .chain(self.schedule.chunks(8).map(command))
+            .collect()
     }
 
     /// The numbers of the table, 0 for each that its bytes don't reach.

@@ -1,6 +1,7 @@
 //! What the model says of a case: every number of the answer, and what each buffer must then hold.
 
-use model::desk::{self, Bank, Controller, Group, PatternVerdict, Refusal, Transaction, Verdict};
+use model::desk::Verdict;
+use model::desk::{self, Bank, Controller, Group, PatternVerdict, Refusal, Served, Transaction};
 use model::house::{room_for, B, RFC, RL};
 
 use crate::case::*;
@@ -89,6 +90,7 @@ pub fn expected(case: &Case, noise: &Noise) -> Outcome {
     let mut fresh = None;
     let list = case.list();
     let written = Transaction::of(&case.written());
+    let schedule_of = &case.schedule[..];
     let whole = |edition| (edition, [0, 0]);
     let decoded = |d: desk::Decoded| (d.edition, [d.transactions, 0]);
     let built = |s: desk::Scheduled| (s.edition, [s.commands, 0]);
@@ -158,6 +160,14 @@ pub fn expected(case: &Case, noise: &Noise) -> Outcome {
                 (c.edition, [c.commands, rule.into(), record as u32])
             }))
         }
+        Call::Serves => {
+            let list = transactions(&list);
+            answer(desk::serves(e, table, &list, schedule_of).map(served))
+        }
+        Call::ServesBytes => answer(desk::serves_bytes(e, table, bytes, schedule_of).map(served)),
+        Call::ServesLaterBytes => {
+            answer(desk::serves_later_bytes(e, table, bytes, schedule_of).map(served))
+        }
         Call::Bound => {
             let told = desk::bound(e, table, a as u8, b as u8);
             answer(told.map(|(edition, bound)| (edition, [bound as u32, 0])))
@@ -189,6 +199,16 @@ pub fn expected(case: &Case, noise: &Noise) -> Outcome {
             None => None,
         },
     }
+}
+
+/// Whether it serves, the rule and the record, the transaction.
+fn served((edition, served): (u16, Served)) -> (u16, [u32; 4]) {
+    let numbers = match served {
+        Served::Serves => [1, 0, 0, 0],
+        Served::Broken { rule, record } => [0, rule.into(), record as u32, 0],
+        Served::AtFault { transaction } => [0, 0, 0, transaction as u32],
+    };
+    (edition, numbers)
 }
 
 /// The numbers of a transaction that is read, and edition 0.

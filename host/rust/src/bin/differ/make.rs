@@ -7,6 +7,7 @@ mod lists;
 mod refreshes;
 mod refusals;
 mod schedules;
+mod serving;
 mod states;
 mod tables;
 mod walk;
@@ -19,7 +20,7 @@ pub use states::too_long;
 
 /// How often each call is made, in the order of the header.
 const SHARES: [usize; COUNT] = [
-    4, 3, 3, 2, 2, 2, 2, 1, 2, 1, 2, 4, 4, 12, 6, 6, 14, 10, 12, 3, 1, 14, 6, 6, 8,
+    4, 3, 3, 2, 2, 2, 2, 1, 2, 1, 2, 4, 4, 12, 6, 6, 14, 10, 12, 8, 4, 4, 3, 1, 14, 6, 6, 8,
 ];
 
 /// Case `index` of a seed.
@@ -95,6 +96,11 @@ pub fn case(seed: u64, index: u64) -> Case {
             case.bytes = captures::some(r, &table);
             case.room = room(r, 8 * case.call.room_in_commands(&case.bytes));
         }
+        Call::Serves | Call::ServesBytes | Call::ServesLaterBytes => {
+            let table = tables::some(r, &mut case);
+            lists::some(r, &table, &mut case);
+            serving::schedule(r, &table, &mut case);
+        }
         Call::Bound => {
             tables::some(r, &mut case);
             let number = |r: &mut Random| match r.below(8) {
@@ -157,8 +163,8 @@ fn slots(r: &mut Random, due: usize) -> usize {
 }
 
 /// Cases that random ones seldom meet or may miss: the greatest sizes, a run that idles from the first cycle to the last, lists from every
-/// start, many refreshes, captures up to the last cycle, every count of groups, the last arrivals and pieces cut at every place, and every
-/// refusal of every call.
+/// start, many refreshes, captures up to the last cycle, every count of groups, the last arrivals and pieces cut at every place, long
+/// lists that are served, and every refusal of every call.
 pub fn last() -> Vec<Case> {
     let table = |t: &model::desk::Table| bytes_of(t);
     let mut cases = Vec::new();
@@ -218,6 +224,7 @@ pub fn last() -> Vec<Case> {
     cases.extend(captures::last());
     cases.extend(groups::all());
     cases.extend(arrivals::all());
+    cases.extend(serving::last());
     cases.extend(refusals::all());
     cases
 }

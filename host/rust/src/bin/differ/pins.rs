@@ -15,6 +15,7 @@ pub fn looked_at(case: &Case, told: &Outcome) -> (bool, Option<Clash>) {
         Call::Judge if answer[3] == 0 => (&case.bytes[..], 0, 1),
         Call::JudgePattern if answer[3] == 0 => (&case.bytes[..], case.values[0], 3),
         Call::JudgeCapture if answer[4] == 0 => (&told.room[..8 * answer[3] as usize], 0, 1),
+        call if call.serves() && answer[4] == 0 => (&case.schedule[..], 0, 1),
         call if call.builds() => (&told.room[..8 * answer[3] as usize], 0, 1),
         _ => return (false, None),
     };

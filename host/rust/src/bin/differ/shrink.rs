@@ -166,6 +166,17 @@ fn changes(case: &Case) -> Vec<Change> {
             all.push(Box::new(move |c| *of(c) = less));
         }
     }
+    // Fewer records of the schedule that is to serve a list.
+    let records = case.schedule.len() / 8;
+    for size in [records, records / 2, records / 4, 1] {
+        for at in (0..records).step_by(size.max(1)).take(100) {
+            all.push(Box::new(move |c| {
+                if 8 * (at + size) <= c.schedule.len() {
+                    c.schedule.drain(8 * at..8 * (at + size));
+                }
+            }));
+        }
+    }
     // Records of a list: simplest numbers, with the room that goes with them, and without.
     if case.call.is_given_a_list() {
         arrivals(&mut all);

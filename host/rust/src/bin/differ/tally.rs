@@ -33,6 +33,8 @@ pub struct Tally {
     copies: [u64; 6],
     /// Captures not refused: with a tick, whose stamp goes round, and with a true cycle past 4,000,000,000.
     captures: [u64; 3],
+    /// Whether a schedule serves a list: it does, the judge's verdict, a transaction at fault, the list's length.
+    served: [[u64; 4]; COUNT],
     /// Schedules, patterns and captures whose bursts were looked at on the pins.
     pub pins: u64,
 }
@@ -100,6 +102,16 @@ impl Tally {
                     *count += u64::from(met);
                 }
             }
+            call if call.serves() => {
+                let told = &told.answer[3..];
+                let length = told[3] as usize == case.list().len();
+                let kind = match (told[0], told[1]) {
+                    (1, _) => 0,
+                    (_, 0) => 2 + usize::from(length),
+                    _ => 1,
+                };
+                self.served[call as usize][kind] += 1;
+            }
             _ => (),
         }
     }
@@ -116,6 +128,9 @@ impl Tally {
             }
         }
         for (at, (call, name)) in CALLS.iter().enumerate() {
+            if call.serves() && self.served[at].contains(&0) {
+                all.push(format!("{name} with each answer: {:?}", self.served[at]));
+            }
             if call.runs() && call.of_record() == 8 && self.pieces[at] == 0 {
                 all.push(format!("{name} with a new piece, in time"));
             }
@@ -200,6 +215,12 @@ impl Tally {
         );
         for (rule, [within, across, both, hidden]) in [6, 9].iter().zip(&self.by_groups) {
             println!("schedules of several groups that break rule {rule}: within a group {within}, across {across}, both {both}; by a hidden command {hidden}");
+        }
+        for (at, (call, name)) in CALLS.iter().enumerate() {
+            if call.serves() {
+                let [serves, against, fault, length] = self.served[at];
+                println!("{name:28}serves: {serves}, the judge's verdict: {against}, a transaction at fault: {fault}, the list's length: {length}");
+            }
         }
         let [ticks, wraps, late] = self.captures;
         println!("captures not refused, with ticks: {ticks}, with stamps that go round: {wraps}, past cycle 4,000,000,000: {late}");

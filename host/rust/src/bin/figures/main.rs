@@ -10,6 +10,7 @@ mod builds;
 mod captures;
 mod judgements;
 mod ordinary;
+mod serving;
 mod steps;
 mod waits;
 
@@ -130,5 +131,6 @@ fn main() {
     steps::measure(emulated);
     judgements::measure(emulated);
     captures::measure(emulated);
+    serving::measure(emulated);
     waits::measure(emulated);
 }

@@ -1,14 +1,16 @@
-//! What an ordinary Rust program would do for a schedule, a step, a verdict and a capture: state per bank and per group, no proof.
+//! What an ordinary Rust program would do for a schedule, a step, a verdict, a capture and whether a schedule serves a list: state per bank and per group, no proof.
 
 mod capture;
 mod judge;
 mod schedule;
+mod serves;
 mod step;
 mod times;
 
 pub use capture::judge_capture;
 pub use judge::judge;
 pub use schedule::{schedule, schedule_bytes};
+pub use serves::serves;
 pub use step::step;
 pub use times::Times;
 

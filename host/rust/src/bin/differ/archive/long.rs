@@ -1,4 +1,4 @@
-//! Lists of 100,000,000 entries in memory that may not be touched. A refusal that no entry decides comes at once, and reads none.
+//! Lists and schedules of 100,000,000 entries in memory that may not be touched. A refusal that no entry decides comes at once, and reads none.
 
 use std::time::{Duration, Instant};
 
@@ -15,8 +15,9 @@ pub const ENTRIES: usize = 100_000_000;
 /// A loop over the list, even one that reads nothing, would take longer.
 const AT_ONCE: Duration = Duration::from_millis(10);
 
-/// Each call that is lent a list, with the number that its length is refused by.
-const LENT_A_LIST: [(Call, usize); 12] = [
+/// Each call that is lent a list, with the number that its length is refused by. Those that are lent a schedule beside it come again, with that
+/// for the long one and no list.
+const LENT_A_LIST: [(Call, usize); 18] = [
     (Call::ReadTransactions, 3),
     (Call::ReadLaterTransactions, 3),
     (Call::Schedule, 3),
@@ -25,6 +26,12 @@ const LENT_A_LIST: [(Call, usize); 12] = [
     (Call::Judge, 7),
     (Call::JudgePattern, 7),
     (Call::JudgeCapture, 7),
+    (Call::Serves, 3),
+    (Call::ServesBytes, 3),
+    (Call::ServesLaterBytes, 3),
+    (Call::Serves, 7),
+    (Call::ServesBytes, 7),
+    (Call::ServesLaterBytes, 7),
     (Call::Run, 3),
     (Call::Step, 3),
     (Call::RunBytes, 3),
@@ -53,7 +60,7 @@ impl Archive {
                 case.expected = expected;
                 let mut least = Duration::MAX;
                 for _ in 0..3 {
-                    let (answer, took) = self.refused_unread(&case, list);
+                    let (answer, took) = self.refused_unread(&case, list, by_length);
                     if answer[0] as usize != number {
                         let name = call.name();
                         return Err(format!(
@@ -75,7 +82,12 @@ impl Archive {
     }
 
     /// With everything else that is lent in read-only pages.
-    fn refused_unread(&mut self, case: &Case, list: *const u8) -> (Vec<u32>, Duration) {
+    fn refused_unread(
+        &mut self,
+        case: &Case,
+        list: *const u8,
+        by_length: usize,
+    ) -> (Vec<u32>, Duration) {
         let noise = &self.noise;
         let (e, tn) = (case.expected, case.table.len());
         let t = self.table.hold(&case.table, 0, noise, 0);
@@ -97,6 +109,12 @@ impl Archive {
         let places = slots as *mut Transaction;
         let (n, by_value) = (ENTRIES, controller(&fresh(7)));
         let bytes = case.call.record() * ENTRIES;
+        // For a call that serves: the long list with a schedule of 64 bytes, or no list with the long schedule.
+        let (served, k, s, sn) = match by_length {
+            3 => (list, n, room as *const u8, 64),
+            _ => (t as *const u8, 0, list, 8 * n),
+        };
+        let (served_list, served_bytes) = (served as *const Transaction, case.call.record() * k);
         let began = Instant::now();
         let answer = unsafe {
             match case.call {
@@ -116,6 +134,19 @@ impl Archive {
                 Call::Judge => verdict(skv_judge(e, t, tn, list, bytes)),
                 Call::JudgePattern => verdict(skv_judge_pattern(e, t, tn, list, bytes, 9)),
                 Call::JudgeCapture => captured(skv_judge_capture(e, t, tn, list, bytes, room, 64)),
+                Call::Serves => super::served(skv_serves(e, t, tn, served_list, k, s, sn)),
+                Call::ServesBytes => {
+                    super::served(skv_serves_bytes(e, t, tn, served, served_bytes, s, sn))
+                }
+                Call::ServesLaterBytes => super::served(skv_serves_later_bytes(
+                    e,
+                    t,
+                    tn,
+                    served,
+                    served_bytes,
+                    s,
+                    sn,
+                )),
                 Call::Run => numbers(skv_run(c, e, t, tn, xs, n, 9, room, 64)),
                 Call::Step => numbers(skv_step(c, e, t, tn, xs, n, room, 64)),
                 Call::RunLaterBytes => {

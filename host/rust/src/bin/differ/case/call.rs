@@ -25,6 +25,9 @@ pub enum Call {
     Judge,
     JudgePattern,
     JudgeCapture,
+    Serves,
+    ServesBytes,
+    ServesLaterBytes,
     Bound,
     Start,
     Run,
@@ -35,7 +38,7 @@ pub enum Call {
 
 use Call::*;
 
-pub const COUNT: usize = 25;
+pub const COUNT: usize = 28;
 
 /// In the order of the header.
 pub const CALLS: [(Call, &str); COUNT] = [
@@ -58,6 +61,9 @@ pub const CALLS: [(Call, &str); COUNT] = [
     (Judge, "skv_judge"),
     (JudgePattern, "skv_judge_pattern"),
     (JudgeCapture, "skv_judge_capture"),
+    (Serves, "skv_serves"),
+    (ServesBytes, "skv_serves_bytes"),
+    (ServesLaterBytes, "skv_serves_later_bytes"),
     (Bound, "skv_bound"),
     (Start, "skv_start"),
     (Run, "skv_run"),
@@ -79,9 +85,14 @@ impl Call {
         matches!(self, Schedule | ScheduleBytes | ScheduleLaterBytes)
     }
 
+    /// Whether it is given a schedule beside a list.
+    pub fn serves(self) -> bool {
+        matches!(self, Serves | ServesBytes | ServesLaterBytes)
+    }
+
     /// Whether transactions are lent that are decoded.
     pub fn decoded(self) -> bool {
-        matches!(self, Schedule | Run | Step)
+        matches!(self, Schedule | Serves | Run | Step)
     }
 
     /// Whether transactions are decoded into places that are lent.
@@ -91,14 +102,14 @@ impl Call {
 
     /// Whether it is given a list of transactions.
     pub fn is_given_a_list(self) -> bool {
-        self.runs() || self.builds() || self.decodes()
+        self.runs() || self.builds() || self.decodes() || self.serves()
     }
 
     /// The bytes of one transaction that it is given: decoded ones lie in as many as those of 8.
     pub fn of_record(self) -> usize {
         match self {
             ReadLater | WriteLater | ReadLaterTransactions => 8,
-            ScheduleLaterBytes | RunLaterBytes => 8,
+            ScheduleLaterBytes | ServesLaterBytes | RunLaterBytes => 8,
             call if call.decoded() => 8,
             _ => 4,
         }
@@ -121,6 +132,7 @@ impl Call {
             Judge => &[1, 2, 10, 7],
             JudgePattern => &[1, 2, 10, 7, 8],
             JudgeCapture => &[1, 2, 10, 7, 11, 5],
+            Serves | ServesBytes | ServesLaterBytes => &[1, 2, 10, 3, 4, 7],
             Bound => &[1, 2, 10, 4],
             Start => &[1, 2, 10],
             Run | Step | RunBytes | RunLaterBytes => &[1, 2, 10, 3, 4, 5, 9, 12],

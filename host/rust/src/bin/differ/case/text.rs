@@ -29,6 +29,7 @@ impl fmt::Display for Case {
         write!(f, "{}", self.call.name())?;
         write!(f, " expected={}", self.expected)?;
         write!(f, " table={} bytes={}", hex(&self.table), hex(&self.bytes))?;
+        write!(f, " schedule={}", hex(&self.schedule))?;
         write!(f, " values={a},{b},{c},{d},{e}")?;
         write!(f, " room={} slots={}", self.room, self.slots)?;
         let base = fresh(7);
@@ -55,6 +56,7 @@ impl FromStr for Case {
                 "expected" => case.expected = value.parse().map_err(|e| format!("{word}: {e}"))?,
                 "table" => case.table = unhex(value)?,
                 "bytes" => case.bytes = unhex(value)?,
+                "schedule" => case.schedule = unhex(value)?,
                 "values" => {
                     for (place, v) in case.values.iter_mut().zip(value.split(',')) {
                         *place = v.parse().map_err(|e| format!("{word}: {e}"))?;

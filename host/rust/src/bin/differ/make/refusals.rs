@@ -95,6 +95,7 @@ fn refuse(case: &mut Case, number: usize, way: u8) {
             let more = 1 + usize::from(way) % (call.of_record() - 1);
             case.bytes.extend(&[0; 7][..more]);
         }
+        (7, call) if call.serves() => case.schedule.resize(1 + usize::from(way) % 7, 0),
         (7, _) => case.bytes.push(0),
         (4, Call::Bound) => case.values[0] = if way > 1 { 0 } else { 9 },
         (4, Call::WriteLater) if way > 3 => case.values[4] = LATE[usize::from(way) - 4],

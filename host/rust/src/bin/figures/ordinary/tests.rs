@@ -1,5 +1,7 @@
 //! The ordinary programs say what the model says.
 
+mod serving;
+
 use super::times::LATEST;
 use super::*;
 use model::desk;

@@ -1,0 +1,2 @@
+-- Laws of the way in.
+pub mod Laws

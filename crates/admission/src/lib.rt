@@ -1,0 +1,2 @@
+// The way in for a table, and for a lent run of records.
+pub mod admit;

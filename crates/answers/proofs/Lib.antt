@@ -1,0 +1,2 @@
+-- Each case of each answer, with its figures.
+pub mod Cases

@@ -1,0 +1,4 @@
+// The desk's answers as structs of plain numbers, which is what crosses to the host.
+pub mod answer;
+pub mod reader;
+pub mod verdict;

@@ -1,0 +1,2 @@
+// What the loops over one copy of a schedule share.
+pub mod copy;

@@ -1,0 +1,2 @@
+// The finishing cycles of a schedule.
+pub mod finish;

@@ -1,9 +1,0 @@
-use borrow.Author.Needs.{needs}
-use Rattle.host.proofs.answer.refused.Statement.{statement}
-use Rattle.host.proofs.answer.refused.Tie as tie
-
-returns : tie.Need-returns
-returns c = rw (c .before .from-8 .ensures, c .from-16 .ensures)
-
-pub refused-spec : {M : Type 1} → statement M
-refused-spec = tie.close (tie.spec (λ c κs. search needs) (λ c κs. search needs) returns)

@@ -1,0 +1,2 @@
+// The runs of a controller behind the desk's calls.
+pub mod running;

@@ -1,0 +1,2 @@
+-- Laws of the schedules.
+pub mod Told

@@ -1,0 +1,30 @@
+use borrow.Author.Needs.{needs}
+use native.Mathlib.Omega.{arith}
+use lib.ListN.{length-take}
+use denote.Ref.{now}
+use Rattle.admission.proofs.Laws.{fine-listed, few-plain, wide-room, wide-list, wide-listed}
+use Rattle.scheduler.proofs.schedules.schedule_fine.Statement.{statement}
+use Rattle.scheduler.proofs.schedules.schedule_fine.Tie as tie
+
+returns : tie.Need-returns
+returns c = rw (c .before .before .before .before .before .before .before .if1 .taken) (c .before .before .before .before .schedule-packed .ensures)
+
+array-share-prefix-bytes : tie.Need-array-share-prefix-bytes
+array-share-prefix-bytes c = let a = c .before .before .before .before .before in omega (arith, few-plain (a .args .t) (a .args .later) (now (a .args .list)) (a .pre) (c .before .if1 .left))
+
+slice-aggregate-schedule-packed : tie.Need-slice-aggregate-schedule-packed
+slice-aggregate-schedule-packed c =
+    let a = c .before .before .before .before .before .before in
+    rw length-take (omega (arith, wide-room (a .args .t) (a .args .later) (now (a .args .list)) (a .pre) (c .before .before .if1 .left) (c .before .widen .result) (c .before .widen .ensures)))
+
+returns-2 : tie.Need-returns-2
+returns-2 c =
+    let a = c .before .before .before .before .before .before .before .before .before .before .before .before .before in
+    let w = c .before .before .before .before .before .before .before .before in
+    rw (← wide-list (a .args .t) (a .args .later) (now (a .args .list)) (a .pre) (c .before .before .before .before .before .before .before .before .before .if1 .left) (w .widen .result) (w .widen .ensures)) (c .before .before .before .before .schedule-packed2 .ensures)
+
+pub schedule-fine-spec : {M : Type 1} → statement M
+schedule-fine-spec =
+    tie.close (tie.spec (λ c κs. fine-listed _ _ _ (c .before .before .before .before .before .before .pre) (c .before .before .if1 .taken)) (λ c. search needs) (λ c. search needs) returns
+    (λ c κs. (omega arith, few-plain _ _ _ (c .before .before .before .before .pre) (c .if1 .left))) (λ c. search needs) array-share-prefix-bytes slice-aggregate-schedule-packed
+    (λ c κs. wide-listed _ _ _ (c .before .before .before .before .before .before .before .before .pre) (c .before .before .before .before .if1 .left) _ (c .before .before .before .widen .ensures)) (λ c. search needs) (λ c. search needs) returns-2)

@@ -1,0 +1,2 @@
+// The schedules behind the desk's calls.
+pub mod schedules;

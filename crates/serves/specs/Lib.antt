@@ -1,0 +1,4 @@
+pub mod Serves
+pub mod Answer
+pub mod Check
+pub mod Worked
