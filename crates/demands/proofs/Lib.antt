@@ -17,8 +17,10 @@ pub mod CallLaws
 pub mod GroupCalls
 pub mod ArrivalCalls
 pub mod ServesCalls
+pub mod PatternCalls
 pub mod Calls
 pub mod Traces
+pub mod Patterns
 pub mod OneGroup
 pub mod Pins
 pub mod ServesList

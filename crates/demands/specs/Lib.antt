@@ -3,10 +3,12 @@ pub mod Demands
 pub mod Runs
 pub mod Pieces
 pub mod Traces
+pub mod Patterns
 pub mod Handed
 pub mod GroupCalls
 pub mod ArrivalCalls
 pub mod ServesCalls
+pub mod PatternCalls
 pub mod Calls
 pub mod OneGroup
 pub mod Pins
