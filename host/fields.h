@@ -17,13 +17,13 @@ static const uint8_t group_table[40] = {0x34, 0x12, 16,  0, 4,  0, 5,  0, 11, 0,
 
 static int wrong;
 
-static void must(int holds, int line, const char *what) {
+static void must(int holds, const char *file, int line, const char *what) {
     if (holds) return;
-    fprintf(stderr, "fields.c, line %d: not so: %s\n", line, what);
+    fprintf(stderr, "%s, line %d: not so: %s\n", file, line, what);
     wrong = 1;
 }
 
-#define MUST(holds) must(holds, __LINE__, #holds)
+#define MUST(holds) must(holds, __FILE__, __LINE__, #holds)
 
 static int same(const void *a, const void *b, size_t n) { return memcmp(a, b, n) == 0; }
 
@@ -43,6 +43,10 @@ static int tells(skv_serves_answer a, uint32_t refused, uint32_t position, uint3
                  uint32_t transaction) {
     return a.refused == refused && a.position == position && a.edition == edition && a.serves == serves && a.rule == rule && a.record == record &&
            a.transaction == transaction;
+}
+
+static int gives(skv_pattern_answer a, uint32_t refused, uint32_t position, uint32_t edition, uint32_t length, uint32_t count) {
+    return a.refused == refused && a.position == position && a.edition == edition && a.length == length && a.count == count;
 }
 
 static void put(uint8_t *out, uint32_t cycle, uint8_t kind, uint8_t bank, uint16_t number) {

@@ -44,6 +44,10 @@ int main(void) {
     FIELD(skv_serves_answer, record);
     FIELD(skv_serves_answer, transaction);
     WHOLE(skv_serves_answer);
+    HEAD(skv_pattern_answer);
+    FIELD(skv_pattern_answer, length);
+    FIELD(skv_pattern_answer, count);
+    WHOLE(skv_pattern_answer);
     HEAD(skv_table_answer);
     FIELD(skv_table_answer, numbers);
     WHOLE(skv_table_answer);

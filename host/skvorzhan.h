@@ -14,7 +14,7 @@
  *   2  a table number out of range, CCD below 2 or below B, a long number below its short one
  *   3  transaction bytes not a multiple of 4, or for those of 8 bytes of 8, or over 256 transactions, or too few places to decode into
  *   4  a transaction out of range, a refresh where RFC is 0 among them, or an arrival above 20,000,000 or less than the one before it; the
- *      position is the lowest such transaction's number, from 0
+ *      position is the lowest such transaction's number, from 0. Where there is no list, what is asked for is out of range; the position is 0
  *   5  too little room for commands
  *   6  fewer places for finishing cycles than transactions
  *   7  schedule bytes not a multiple of 8, or capture bytes not a multiple of 4, or over 69,632 records
@@ -26,6 +26,7 @@
  *  11  a capture record whose stamp is equal to that of the record before it, or whose true cycle is above 4,294,967,295; the position is the
  *      lowest such record's number, from 0, ticks counted
  *  12  a late piece: the first transaction that was not lent before arrives below the controller's cycle
+ *  13  there is no pattern up to the greatest length
  *
  * Each call that is lent a table is told before it which edition the caller expects. Those that read or write one record are told none.
  *
@@ -76,31 +77,22 @@ extern "C" {
  * count: commands written (skv_schedule, skv_run and skv_step, and those from bytes), transactions read (skv_read_transactions and
  * skv_read_later_transactions), or the bound (skv_bound); else 0, for skv_write_command and skv_write_capture_record too. cycles: cycles run
  * (skv_run and skv_step, and those from bytes); else 0. */
-typedef struct skv_answer {
-    uint32_t refused, position, edition;
-    uint32_t count, cycles;
-} skv_answer;
+typedef struct skv_answer { uint32_t refused, position, edition, count, cycles; } skv_answer;
 
 /* rule: 0 where the schedule or pattern is accepted, else the first broken rule, 1 to 12. copy: the lowest that breaks it, from 1, for a
  * pattern; 0 for a schedule. record: from 0; for rule 10 the number of records. Where refused or accepted, rule, copy and record are 0. */
-typedef struct skv_verdict_answer {
-    uint32_t refused, position, edition;
-    uint32_t rule, copy, record;
-} skv_verdict_answer;
+typedef struct skv_verdict_answer { uint32_t refused, position, edition, rule, copy, record; } skv_verdict_answer;
 
 /* count: commands written. rule: 0 where they are accepted, else the first broken rule, 1 to 12. record: from 0 of the written commands; for
  * rule 10 their count. Where refused, count, rule and record are 0; where accepted, rule and record are. */
-typedef struct skv_capture_answer {
-    uint32_t refused, position, edition;
-    uint32_t count, rule, record;
-} skv_capture_answer;
+typedef struct skv_capture_answer { uint32_t refused, position, edition, count, rule, record; } skv_capture_answer;
 
 /* serves: 1 where the schedule serves the list, else 0. rule and record: as in a verdict, both 0 where the judge accepts. transaction: where it
  * accepts and serves is 0, the lowest transaction at fault, from 0, or the list's length where none is; else 0. Where refused, all four are 0. */
-typedef struct skv_serves_answer {
-    uint32_t refused, position, edition;
-    uint32_t serves, rule, record, transaction;
-} skv_serves_answer;
+typedef struct skv_serves_answer { uint32_t refused, position, edition, serves, rule, record, transaction; } skv_serves_answer;
+
+/* length: the least length of a pattern. count: the commands of the pattern, written. Where refused, both are 0. */
+typedef struct skv_pattern_answer { uint32_t refused, position, edition, length, count; } skv_pattern_answer;
 
 /* The twenty numbers, of a table of 32 bytes with 1 group and the short CCD, RRD and WTR again. Where refused, all twenty are 0. */
 typedef struct skv_table_answer {
@@ -145,10 +137,7 @@ typedef struct skv_transaction {
 /* A bank: open unless opened is 0; the cycles of its last ACT and of the last RD and WR since. In the bank that it goes to, each ACT, RD and WR
  * writes 1 to opened and each RDA and WRA 0, whatever number stood there: after an RD, 1 stands where 3 was handed in. A bank that no command
  * goes to keeps its number. */
-typedef struct skv_bank {
-    uint32_t opened;
-    uint32_t act, rd, wr;
-} skv_bank;
+typedef struct skv_bank { uint32_t opened, act, rd, wr; } skv_bank;
 
 /* A group of banks: the cycles of its latest ACT, RD and WR. */
 typedef struct skv_group { uint32_t act, rd, wr; } skv_group;
@@ -259,6 +248,15 @@ skv_serves_answer skv_serves_bytes(uint16_t expected, const uint8_t *table, size
                                    const uint8_t *schedule, size_t schedule_len);
 skv_serves_answer skv_serves_later_bytes(uint16_t expected, const uint8_t *table, size_t table_len, const uint8_t *list, size_t list_len,
                                          const uint8_t *schedule, size_t schedule_len);
+
+/* Checks 1, 2, 10, 4 (kind neither 0, a read, nor 1, a write; bi or bc 0; bi x (1 + bc) above 6; most 0 or above 128; bi above banks), 5
+ * (pattern_len under 8 x bi x (1 + bc)), 13. Answers the least length, up to most, of a pattern that skv_judge_pattern accepts: it starts with the
+ * ACT of bank 0 at cycle 0; each bank below bi, in any order, is opened once and given bc data commands, the last of which closes it; no command
+ * comes past cycle length - 1. Writes the pattern's commands, 8 bytes each, with transaction number 0: of all such patterns of that length the
+ * one whose records, compared in order by cycle, then kind, then bank, come first. Bytes beyond stay as they stood. Refuses as 13 exactly where
+ * there is no such pattern up to most. count is the number of commands, bi x (1 + bc). */
+skv_pattern_answer skv_shortest_pattern(uint16_t expected, const uint8_t *table, size_t table_len, uint8_t kind, uint8_t bi, uint8_t bc,
+                                        uint32_t most, uint8_t *pattern, size_t pattern_len);
 
 /* Checks 1, 2, 10, 4 (bi or bc outside 1 to 16, or bi above banks; position 0). count is the bound: the last data command of a transaction of
  * (bi, bc) comes at most so many cycles after the later of its arrival and the last data command of the one before it, where that is a refresh

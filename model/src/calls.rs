@@ -7,7 +7,7 @@ use std::fmt::{Display, Write};
 
 use crate::desk::*;
 use crate::house::{with, RFC, TABLE_A};
-use cases::{cases, Case, BUILT, BUILT_FOR, CAPTURES};
+use cases::{cases, Case, ASKED, BUILT, BUILT_FOR, CAPTURES};
 use told::*;
 
 pub fn lines() -> String {
@@ -24,6 +24,9 @@ pub fn lines() -> String {
     }
     for bytes in CAPTURES {
         out.capture(bytes);
+    }
+    for asked in ASKED {
+        out.asked(asked);
     }
     out.0
 }
@@ -81,13 +84,32 @@ impl Lines {
         let written = host(written.map(|e| (e, 0, 0)));
         self.line("skv_write_capture_record", &[written, hex(&room)]);
         self.judged(case.expected, &case.table(), case.bytes);
+        let asked = (x.kind, x.bi, x.bc, case.count);
+        self.found(case.expected, &case.table(), asked);
     }
 
-    fn capture(&mut self, bytes: &[u8]) {
+    fn table_a(&mut self) -> [u8; 32] {
         let mut table = [0; 32];
         let written = host(write_table(TABLE_A, &mut table).map(|e| (e, 0, 0)));
         self.line("skv_write_table", &[written, hex(&table)]);
+        table
+    }
+
+    fn capture(&mut self, bytes: &[u8]) {
+        let table = self.table_a();
         self.judged(7, &table, bytes);
+    }
+
+    fn asked(&mut self, asked: (u8, u8, u8, u32)) {
+        let table = self.table_a();
+        self.found(7, &table, asked);
+    }
+
+    fn found(&mut self, expected: u16, table: &[u8], (kind, bi, bc, most): (u8, u8, u8, u32)) {
+        let mut room = [9; 49];
+        let answer = shortest_pattern(expected, table, kind, bi, bc, most, &mut room);
+        let answer = flat(answer, |s| (s.edition, vec![s.length, s.commands]), 2);
+        self.line("skv_shortest_pattern", &[answer, hex(&room)]);
     }
 
     fn judged(&mut self, expected: u16, table: &[u8], bytes: &[u8]) {

@@ -20,6 +20,7 @@ mod pins;
 mod refreshes;
 #[cfg(test)]
 mod refusals;
+mod running;
 #[cfg(test)]
 mod table_t;
 #[cfg(test)]
@@ -35,8 +36,10 @@ pub use crate::records::{Command, GroupTable, Refusal, Table, Transaction};
 pub use crate::rules::{PatternVerdict, Verdict};
 pub use crate::scheduler::{Bank, Group, State as Controller, NEVER};
 pub use crate::serves::Served;
+pub use running::{run, run_bytes, run_later_bytes, start, step, step_bytes, Ran};
 
 use crate::records::{EDITION, LATER, PLAIN};
+use crate::shortest::Asked;
 use crate::{capture, rules, scheduler, serves};
 
 /// Numbers 1, 2 and 10, for every call that takes a table: "If they differ it's refused as number 10, position the table's edition,
@@ -231,94 +234,38 @@ pub fn serves_later_bytes(
     serves(expected, table, &list, bytes)
 }
 
+/// What `shortest_pattern` answers: the least length, and how many records were written.
+#[derive(Debug, Clone, Copy, PartialEq, Eq)]
+pub struct Shortest {
+    pub edition: u16,
+    pub length: u32,
+    pub commands: u32,
+}
+
+/// Numbers 1, 2, 10, 4, 5 and 13: "give the least L for which some pattern .. is accepted by the pattern judge", up to the greatest length.
+pub fn shortest_pattern(
+    expected: u16,
+    table: &[u8],
+    kind: u8,
+    bi: u8,
+    bc: u8,
+    most: u32,
+    room: &mut [u8],
+) -> Result<Shortest, Refusal> {
+    let table = admit(expected, table)?;
+    let asked = Asked { kind, bi, bc, most };
+    let (length, commands) = crate::shortest::shortest(&table, &asked, room.len())?;
+    write_commands(&commands, room);
+    Ok(Shortest {
+        edition: table[EDITION],
+        length,
+        commands: commands.len() as u32,
+    })
+}
+
 /// Numbers 1, 2, 10 and 4: "the bound gives 4, position 0, for BI or BC outside 1 to 16 or BI above banks". Answers the edition and
 /// the bound.
 pub fn bound(expected: u16, table: &[u8], bi: u8, bc: u8) -> Result<(u16, u64), Refusal> {
     let table = admit(expected, table)?;
     Ok((table[EDITION], scheduler::bound(&table, bi, bc)?))
-}
-
-/// Numbers 1, 2 and 10. Answers the edition, and hands over a fresh controller: of edition 0 when it refuses.
-pub fn start(expected: u16, table: &[u8]) -> (Result<u16, Refusal>, Controller) {
-    match admit(expected, table) {
-        Ok(table) => (Ok(table[EDITION]), Controller::fresh(&table)),
-        Err(refusal) => (Err(refusal), Controller::fresh(&[0])),
-    }
-}
-
-/// What `run` answers: how many commands were written, and "the number of steps the cycle rule took".
-#[derive(Debug, Clone, Copy, PartialEq, Eq)]
-pub struct Ran {
-    pub edition: u16,
-    pub commands: u32,
-    pub cycles: u32,
-}
-
-/// Numbers 1, 2, 10, 3, 4, 5, 9 and 12. "The host lends its running controller and has it stepped where it lies"; "each run is lent the
-/// whole list so far".
-pub fn run(
-    controller: &mut Controller,
-    expected: u16,
-    table: &[u8],
-    list: &[Transaction],
-    count: u32,
-    room: &mut [u8],
-) -> Result<Ran, Refusal> {
-    let table = admit(expected, table)?;
-    let run = scheduler::run(controller, &table, list, count, room.len())?;
-    write_commands(&run.commands, room);
-    *controller = run.state;
-    Ok(Ran {
-        edition: table[EDITION],
-        commands: run.commands.len() as u32,
-        cycles: run.cycles,
-    })
-}
-
-/// The same from the transactions' bytes.
-pub fn run_bytes(
-    controller: &mut Controller,
-    expected: u16,
-    table: &[u8],
-    bytes: &[u8],
-    count: u32,
-    room: &mut [u8],
-) -> Result<Ran, Refusal> {
-    let list = scheduler::decode(&admit(expected, table)?, bytes, PLAIN)?;
-    run(controller, expected, table, &list, count, room)
-}
-
-/// The same from records of 8 bytes.
-pub fn run_later_bytes(
-    controller: &mut Controller,
-    expected: u16,
-    table: &[u8],
-    bytes: &[u8],
-    count: u32,
-    room: &mut [u8],
-) -> Result<Ran, Refusal> {
-    let list = scheduler::decode(&admit(expected, table)?, bytes, LATER)?;
-    run(controller, expected, table, &list, count, room)
-}
-
-/// One cycle.
-pub fn step(
-    controller: &mut Controller,
-    expected: u16,
-    table: &[u8],
-    list: &[Transaction],
-    room: &mut [u8],
-) -> Result<Ran, Refusal> {
-    run(controller, expected, table, list, 1, room)
-}
-
-/// The same from the transactions' bytes.
-pub fn step_bytes(
-    controller: &mut Controller,
-    expected: u16,
-    table: &[u8],
-    bytes: &[u8],
-    room: &mut [u8],
-) -> Result<Ran, Refusal> {
-    run_bytes(controller, expected, table, bytes, 1, room)
 }

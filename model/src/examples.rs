@@ -1,8 +1,9 @@
-//! The example files: an expected edition, a table and transactions as the listing reads them, or a capture as the trace does, or transactions
-//! that arrive later; with a text beside each that says what it holds.
+//! The example files: an expected edition, a table and transactions as the listing reads them, a capture as the trace does, transactions that arrive
+//! later, or what is asked for as `pattern` does; with a text beside each that says what it holds.
 
 pub mod arrivals;
 mod captures;
+mod patterns;
 mod text;
 
 use std::fs;
@@ -170,7 +171,10 @@ fn files() -> Vec<(&'static str, Vec<u8>, String)> {
         .into_iter()
         .map(|e| (e.name, e.bytes(), e.text()));
     let later = [(arrivals::NAME, arrivals::bytes(), arrivals::text())];
-    listed.chain(traced).chain(later).collect()
+    let patterned = patterns::all()
+        .into_iter()
+        .map(|e| (e.name, e.bytes(), e.text()));
+    listed.chain(traced).chain(later).chain(patterned).collect()
 }
 
 #[cfg(test)]

@@ -1,8 +1,8 @@
 //! The house tables, tables in which one number outgrows the others, and what else the cases are made from.
 
 use crate::desk::{schedule_bytes, schedule_later_bytes, Transaction};
-pub use crate::records::{whole, B, GROUPS, LONGS, RFC};
-use crate::records::{GroupTable, Table, BANKS, EDITION, REFRESH};
+pub use crate::records::{whole, B, BANKS, CCD, GROUPS, LONGS, RFC};
+use crate::records::{GroupTable, Table, EDITION, REFRESH};
 use crate::rules::{ACT, RDA, WRA};
 
 pub const RC: usize = 7;

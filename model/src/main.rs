@@ -1,17 +1,21 @@
-//! `model vectors ROOT` writes what the programs `hostile`, `verdicts`, `served`, `runs`, `listings` and `traces` are run on and what they and `calls` must
-//! write.
-//! `model listing` is the listing program: standard input, standard output; `model trace` is the program `trace`.
+//! `model vectors ROOT` writes what the programs `hostile`, `verdicts`, `served`, `runs`, `listings`, `traces` and `patterns` are run on and what
+//! they and `calls` must write.
+//! `model listing` is the listing program: standard input, standard output; `model trace` is the program `trace`, `model pattern` the program
+//! `pattern`.
 //! `model examples ROOT` writes the example files with their texts.
 //! `model hostile-listing FOLDER` writes inputs of the listing program and what it must print for each, `model hostile-trace FOLDER` those of
-//! `trace`.
+//! `trace`, `model hostile-pattern FOLDER` those of `pattern`.
 
 use std::io::{self, Read, Write};
 use std::path::Path;
 use std::process::ExitCode;
 
-use model::{examples, hostile_listing, hostile_trace, listing, trace, vectors};
+use model::{
+    examples, hostile_listing, hostile_pattern, hostile_trace, listing, pattern, trace, vectors,
+};
 
-const USAGE: &str = "usage: model vectors ROOT | listing | trace | examples ROOT | hostile-listing FOLDER | hostile-trace FOLDER";
+const USAGE: &str = "usage: model vectors ROOT | listing | trace | pattern | examples ROOT
+       | hostile-listing FOLDER | hostile-trace FOLDER | hostile-pattern FOLDER";
 
 fn main() -> ExitCode {
     let args: Vec<String> = std::env::args().skip(1).collect();
@@ -19,9 +23,11 @@ fn main() -> ExitCode {
         ["vectors", root] => vectors::write(Path::new(root)),
         ["listing"] => filter(listing::listing),
         ["trace"] => filter(trace::trace),
+        ["pattern"] => filter(pattern::pattern),
         ["examples", root] => examples::write(Path::new(root)),
         ["hostile-listing", folder] => hostile_listing::write(Path::new(folder)),
         ["hostile-trace", folder] => hostile_trace::write(Path::new(folder)),
+        ["hostile-pattern", folder] => hostile_pattern::write(Path::new(folder)),
         _ => {
             eprintln!("{USAGE}");
             return ExitCode::from(2);

@@ -1,11 +1,11 @@
-//! What the programs `hostile`, `verdicts`, `served`, `runs`, `listings` and `traces` are run on, and what they and `calls`, which is run on nothing, must
-//! write.
+//! What the programs `hostile`, `verdicts`, `served`, `runs`, `listings`, `traces` and `patterns` are run on, and what they and `calls`, which is
+//! run on nothing, must write.
 
 use std::fs;
 use std::io;
 use std::path::Path;
 
-use crate::{calls, hostile, listings, runs, served, traces, verdicts};
+use crate::{calls, hostile, listings, patterns, runs, served, traces, verdicts};
 
 /// A program's name, its input and its output.
 type Stored = (&'static str, Vec<u8>, String);
@@ -13,13 +13,14 @@ type Stored = (&'static str, Vec<u8>, String);
 pub fn all() -> Vec<Stored> {
     type Cases = fn() -> Vec<u8>;
     type Lines = fn(&[u8]) -> String;
-    let programs: [(&str, Cases, Lines); 7] = [
+    let programs: [(&str, Cases, Lines); 8] = [
         ("hostile", hostile::cases, hostile::lines),
         ("verdicts", verdicts::cases, verdicts::lines),
         ("served", served::cases, served::lines),
         ("runs", runs::cases, runs::lines),
         ("listings", listings::cases, listings::lines),
         ("traces", traces::cases, traces::lines),
+        ("patterns", patterns::cases, patterns::lines),
         ("calls", Vec::new, |_| calls::lines()),
     ];
     programs

@@ -53,4 +53,6 @@ each-case =
     ⨾ refl
     ⨾ refl
     ⨾ refl
+    ⨾ refl
+    ⨾ refl
     ⨾ tt

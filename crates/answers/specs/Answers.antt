@@ -13,6 +13,8 @@ use Rattle.records.specs.declared.command.CommandRead.{CommandRead}
 use Rattle.records.specs.declared.command.CommandRead.the-variants.{Read as CommandIs}
 use Rattle.records.specs.Table.{groupNumbersOf}
 use Rattle.capture.specs.declared.one_record.CaptureRecordRead.{CaptureRecordRead}
+use Rattle.shortest.specs.declared.answer.ShortestAnswer.{ShortestAnswer}
+use Rattle.shortest.specs.declared.answer.ShortestAnswer.the-variants.{Pattern}
 use Rattle.builder.specs.declared.bound.BoundAnswer.{BoundAnswer}
 use Rattle.builder.specs.declared.build.BuildAnswer.{BuildAnswer}
 use Rattle.lists.specs.declared.decode.Decoded.{Decoded}
@@ -20,12 +22,13 @@ use Rattle.controller.specs.declared.run.RunTold.{RunTold}
 use Rattle.controller.specs.declared.run.RunAnswer.{RunAnswer as RunSaid}
 use Rattle.desk.specs.declared.running.StartTold.{StartTold}
 use Rattle.desk.specs.declared.running.StartAnswer.{StartAnswer as StartSaid}
-use Rattle.desk.specs.Numbers.{Numbers, refusing as refusalNumbers, writtenNumbers, tableNumbers, transactionNumbers, commandNumbers, captureRecordNumbers, readNumbers, buildNumbers, boundNumbers, startNumbers, runNumbers}
+use Rattle.desk.specs.Numbers.{Numbers, refusing as refusalNumbers, writtenNumbers, tableNumbers, transactionNumbers, commandNumbers, captureRecordNumbers, readNumbers, buildNumbers, boundNumbers, shortestNumbers, startNumbers, runNumbers}
 use Rattle.answers.specs.declared.answer.Answer.{Answer}
 use Rattle.answers.specs.declared.reader.TableAnswer.{TableAnswer}
 use Rattle.answers.specs.declared.reader.TransactionAnswer.{TransactionAnswer}
 use Rattle.answers.specs.declared.reader.CommandAnswer.{CommandAnswer}
 use Rattle.answers.specs.declared.reader.CaptureRecordAnswer.{CaptureRecordAnswer}
+use Rattle.answers.specs.declared.patterns.PatternAnswer.{PatternAnswer}
 use Rattle.answers.specs.declared.answer.StartAnswer.{StartAnswer}
 use Rattle.answers.specs.declared.answer.RunAnswer.{RunAnswer}
 
@@ -103,6 +106,22 @@ ofBuild r = answering (buildNumbers r)
 
 abbrev pub ofBound : BoundAnswer → Answer
 ofBound r = answering (boundNumbers r)
+
+-- ---- the shortest pattern
+
+-- the least length, and how many records were written
+abbrev pub patternAnswer : Numbers → PatternAnswer
+patternAnswer a = record { refused = a .refused; position = a .position; edition = a .edition; length = value a 0; count = value a 1 }
+
+abbrev pub shortestOf : ShortestAnswer → PatternAnswer
+shortestOf r = patternAnswer (shortestNumbers r)
+
+abbrev pub shortestFound : ℕ → ℕ → ℕ → PatternAnswer
+shortestFound e L n = shortestOf (Pattern e L n)
+
+-- how many records were written
+abbrev pub recordsFound : ShortestAnswer → ℕ
+recordsFound r = value (shortestNumbers r) 1
 
 -- ---- the running controller
 

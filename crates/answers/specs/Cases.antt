@@ -23,6 +23,7 @@ use Rattle.capture.specs.declared.answer.CaptureJudged.the-variants.{Verdict as
 use Rattle.capture.specs.Record.{captureRecord}
 use Rattle.serves.specs.declared.answer.Served.the-variants.{Serves, Refused as Against, AtFault}
 use Rattle.serves.specs.declared.answer.ServesAnswer.the-variants.{Told, Refused as NotTold}
+use Rattle.shortest.specs.declared.answer.ShortestAnswer.the-variants.{Pattern, Refused as NoPattern}
 use Rattle.builder.specs.declared.bound.BoundAnswer.the-variants.{Bound, Refused as NoBound}
 use Rattle.builder.specs.declared.build.BuildAnswer.the-variants.{Built, Refused as NotBuilt}
 use Rattle.lists.specs.declared.decode.Decoded.the-variants.{Done as Stored, Refused as NotStored}
@@ -34,7 +35,8 @@ use Rattle.answers.specs.declared.reader.TransactionAnswer.{TransactionA
 use Rattle.answers.specs.declared.verdict.VerdictAnswer.{VerdictAnswer}
 use Rattle.answers.specs.declared.verdict.CaptureAnswer.{CaptureAnswer}
 use Rattle.answers.specs.declared.verdict.ServesAnswer.{ServesAnswer}
-use Rattle.answers.specs.Answers.{ofWritten, ofTable, ofTransaction, ofCommand, ofCaptureRecord, ofRead, ofBuild, ofBound, ofStart, ofRun, runOf}
+use Rattle.answers.specs.declared.patterns.PatternAnswer.{PatternAnswer}
+use Rattle.answers.specs.Answers.{ofWritten, ofTable, ofTransaction, ofCommand, ofCaptureRecord, ofRead, ofBuild, ofBound, shortestOf, ofStart, ofRun, runOf}
 use Rattle.answers.specs.Verdicts.{verdictOf, patternOf, captureOf, servesOf}
 
 -- number, position, edition, count, cycles
@@ -52,6 +54,10 @@ traced n p e c rule i = record { refused = n; position = p; edition = e; count =
 -- number, position, edition, whether it serves, rule, record, transaction
 abbrev pub served : ℕ → ℕ → ℕ → ℕ → ℕ → ℕ → ℕ → ServesAnswer
 served n p e serves rule i x = record { refused = n; position = p; edition = e; serves = serves; rule = rule; «record» = i; transaction = x }
+
+-- number, position, edition, length, count
+abbrev pub found : ℕ → ℕ → ℕ → ℕ → ℕ → PatternAnswer
+found n p e L c = record { refused = n; position = p; edition = e; length = L; count = c }
 
 -- number, position, edition, type, start, BI, BC, arrival
 abbrev pub transactionTold : ℕ → ℕ → ℕ → ℕ → ℕ → ℕ → ℕ → ℕ → TransactionAnswer
@@ -118,4 +124,7 @@ cases =
     ∷ (servesOf (Told 7 (AtFault 3)) ≡ served 0 0 7 0 0 0 3)
     ∷ (servesOf (Told 7 (AtFault 0)) ≡ served 0 0 7 0 0 0 0)
     ∷ (servesOf (NotTold no3) ≡ served 3 5 7 0 0 0 0)
+    -- the length before the number of records
+    ∷ (shortestOf (Pattern 7 48 6) ≡ found 0 0 7 48 6)
+    ∷ (shortestOf (NoPattern no3) ≡ found 3 5 7 0 0)
     ∷ []

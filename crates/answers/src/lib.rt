@@ -1,4 +1,5 @@
 // The desk's answers as structs of plain numbers, which is what crosses to the host.
 pub mod answer;
+pub mod patterns;
 pub mod reader;
 pub mod verdict;

@@ -2,6 +2,7 @@
 use crate::captured::capture_record_read;
 use crate::captured::capture_record_written;
 use crate::captured::captures;
+use crate::found::found;
 use crate::lent::lent_read;
 use crate::lent::lent_read_later;
 use crate::lent_host::host_read;
@@ -74,6 +75,7 @@ fn all_calls(
     capture_record_read(bytes);
     capture_record_written(expected, x);
     captures(expected, table, bytes);
+    found(expected, table, x.kind, x.bi, x.bc, count);
     text(b"read_transactions");
     lent_read(expected, table, bytes, list);
     text(b"skv_read_transactions");
@@ -114,4 +116,12 @@ pub(crate) fn capture(bytes: &[u8]) {
     let table = &mut t[..];
     table_written(table_a(), table);
     captures(7, table, bytes);
+}
+
+// A question for the shortest pattern of table A.
+pub(crate) fn pattern_asked(kind: u8, bi: u8, bc: u8, most: u32) {
+    let mut t = [0u8; 32];
+    let table = &mut t[..];
+    table_written(table_a(), table);
+    found(7, table, kind, bi, bc, most);
 }

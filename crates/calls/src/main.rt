@@ -2,6 +2,7 @@
 // from `model/`, which has the same cases.
 mod captured;
 mod each;
+mod found;
 mod lent;
 mod lent_host;
 mod one_record;
@@ -14,6 +15,7 @@ use each::case;
 use each::group_case;
 use each::of;
 use each::of_built;
+use each::pattern_asked;
 use records::house::table_a;
 use records::house::table_d;
 use records::house::table_t;
@@ -255,4 +257,9 @@ fn main() {
             0,
         ],
     );
+    // The shortest patterns of two writes to each of two banks and of one read to each of three; none up to 37; too many records
+    pattern_asked(1, 2, 2, 128);
+    pattern_asked(0, 3, 1, 128);
+    pattern_asked(0, 1, 1, 37);
+    pattern_asked(0, 1, 6, 128);
 }

@@ -4,14 +4,14 @@ use Prim.Native.Nat.{ℕ, zero, suc, _+_, _<_}
 use native.Mathlib.Omega.{arith}
 use mathlib.Core.Path.{_≡_, refl, sym, ap, _∙_, subst}
 use mathlib.Core.Logic.{_⊎_, inl, inr, ⊎-elim}
-use mathlib.Core.Bool.{Bool, true, false, _||_}
+use mathlib.Core.Bool.{Bool, true, false}
 use mathlib.Core.Option.{Option·some-injective}
 use mathlib.Core.List.{List, [], _∷_}
 use lib.Dec.{eqb}
 use lib.ListN.{length}
 use borrow.Author.Tests.{ltb-true, ltb-false, eqb-true, eqb-false}
 use Rattle.records.specs.Tests.{pick}
-use Rattle.rules.proofs.TestLaws.{true-false}
+use Rattle.rules.proofs.TestLaws.{either, neither}
 use Rattle.capture.specs.Capture.{Timed, tooLate, badAfter, lowestAfter, lowest}
 use Rattle.capture.specs.Eleven.{Such, Lowest}
 
@@ -25,14 +25,6 @@ later-by i p (x ∷ l) = on (badAfter p x) (later-by (suc i) (x .seen .stamp) l)
         → pick b i (lowestAfter (suc i) (x .seen .stamp) l) ≡ i + pick b 0 (lowestAfter 1 (x .seen .stamp) l)
     on true e f = omega arith
     on false e f = omega arith
-
-either : (a b : Bool) → (a || b) ≡ true → (a ≡ true) ⊎ (b ≡ true)
-either true b e = inl refl
-either false b e = inr e
-
-neither : (a b : Bool) → (a || b) ≡ false → (a ≡ false) × (b ≡ false)
-neither true b e = true-false true refl e
-neither false b e = (refl, e)
 
 is-such : (y x : Timed) → badAfter (y .seen .stamp) x ≡ true → (x .seen .stamp ≡ y .seen .stamp) ⊎ (4294967295 < x .cycle)
 is-such y x e =

@@ -3,7 +3,6 @@ pub mod Laws
 pub mod Round
 pub mod Turn
 pub mod Refusals
-pub mod Unnumbered
 pub mod Sent
 pub mod RoundTrip
 pub mod NothingLost

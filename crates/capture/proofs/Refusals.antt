@@ -3,7 +3,7 @@
 use Prim.Native.Nat.{ℕ, zero, suc, _+_, _*_, _/_, _%_, _≤_}
 use native.Mathlib.Omega.{arith}
 use mathlib.Core.Path.{_≡_, refl, sym, ap, _∙_}
-use mathlib.Core.Bool.{Bool, true, false, not, _||_}
+use mathlib.Core.Bool.{Bool, true, false, not}
 use mathlib.Core.List.{List, [], _∷_}
 use lib.Dec.{ltb, eqb}
 use lib.ListN.{length, take, drop}
@@ -17,7 +17,7 @@ use Rattle.records.proofs.Laws.{refuses, answers, passes}
 use Rattle.records.proofs.Inverse.{kind-number}
 use Rattle.rules.specs.declared.verdict.Verdict as Verdicts
 use Rattle.rules.specs.Verdict.{judge}
-use Rattle.rules.proofs.TestLaws.{true-false}
+use Rattle.rules.proofs.TestLaws.{neither}
 use Rattle.capture.specs.declared.one_record.CaptureRecord.{CaptureRecord}
 use Rattle.capture.specs.declared.scan.Scanned.{Scanned}
 use Rattle.capture.specs.declared.answer.CaptureJudged.the-variants.{Verdict, Refused}
@@ -76,12 +76,8 @@ fewer (x ∷ l) = on (isTick (x .seen)) (fewer l)
 abbrev numberBy : Bool → Bool → Bool → ℕ
 numberBy a b c = firstFailed ((7, a) ∷ (11, b) ∷ (5, c) ∷ [])
 
-or-right : (a b : Bool) → (a || b) ≡ false → b ≡ false
-or-right true b e = true-false true refl e
-or-right false b e = e
-
 pub few-records : (size : ℕ) → notACapture size ≡ false → size / 4 ≤ 69632
-few-records size e = ltb-false 69632 (size / 4) (or-right (not (eqb (size % 4) 0)) (ltb 69632 (size / 4)) e)
+few-records size e = ltb-false 69632 (size / 4) (neither (not (eqb (size % 4) 0)) (ltb 69632 (size / 4)) e .1)
 
 module _ (s : List ℕ) (room : ℕ) where
   abbrev late : Bool
@@ -173,7 +169,7 @@ readable-after i p (x ∷ l) h = on (badAfter p x) refl h (readable-after (suc i
         → (suc i + length l ≤ lowestAfter (suc i) (x .seen .stamp) l → Each Readable (commandsOf l)) → Each Readable (commandsOf (x ∷ l))
     on true e h ih = absurd (omega arith)
     on false e h ih =
-        readable-more x l (ltb-false 4294967295 (x .cycle) (or-right (eqb (x .seen .stamp) p) (tooLate (x .cycle)) e)) (ih (omega arith))
+        readable-more x l (ltb-false 4294967295 (x .cycle) (neither (eqb (x .seen .stamp) p) (tooLate (x .cycle)) e .1)) (ih (omega arith))
 
 readable : (l : List Timed) → length l ≤ lowest l → Each Readable (commandsOf l)
 unfolding lowest commandsOf

@@ -23,19 +23,19 @@ use Rattle.rules.specs.declared.verdict.Found.the-variants.{Fine, Broken}
 use Rattle.rules.specs.declared.verdict.Verdict.the-variants.{Accepted, Refused as Against}
 use Rattle.rules.specs.Kinds.{isKnown}
 use Rattle.rules.specs.History.{later, broken}
-use Rattle.rules.specs.Verdict.{judgeFrom, judge, Legal}
+use Rattle.rules.specs.Verdict.{judgeFrom, judge, Legal, unnumbered}
 use Rattle.rules.proofs.TestLaws.{true-false, and-fst}
 use Rattle.rules.proofs.DataKinds.{kind-back}
 use Rattle.rules.proofs.Numbers.{same?}
 use Rattle.rules.proofs.Judged.{holds}
+use Rattle.rules.proofs.Unnumbered.{judge-same, length-unnumbered}
 use Rattle.capture.specs.declared.answer.CaptureJudged.the-variants.{Verdict, Refused}
 use Rattle.capture.specs.Capture.{Timed, timed, timedAfter, timedOf, timedIn, gap, badAfter, lowestAfter, lowest, commandsOf}
 use Rattle.capture.specs.Answer.{notACapture, captureCount, commandsSeen, captureRefusal, Captured, captured}
-use Rattle.capture.specs.Written.{Sent, sends, ticks, cycleOf, recordOf, captureBytes, commandsSent, WrittenAs, unnumbered, ReadAgain}
+use Rattle.capture.specs.Written.{Sent, sends, ticks, cycleOf, recordOf, captureBytes, commandsSent, WrittenAs, ReadAgain}
 use Rattle.capture.proofs.Laws.{gap-cycles, stamps-differ}
 use Rattle.records.proofs.Written.{Each}
 use Rattle.capture.proofs.Refusals.{refused-none}
-use Rattle.capture.proofs.Unnumbered.{judge-same, length-unnumbered}
 use Rattle.capture.proofs.Sent.{recordsOf, length-sent, count-sent, records-in}
 
 -- ---- true cycles

@@ -14,7 +14,7 @@ use Rattle.records.specs.Tests.{pick}
 use Rattle.records.specs.declared.command.Command.{Command}
 use Rattle.records.specs.Command.{kindOf, command, bytesOf, bytesOfAll}
 use Rattle.records.specs.Told.{over, putAt}
-use Rattle.rules.proofs.TestLaws.{true-false}
+use Rattle.rules.proofs.TestLaws.{neither}
 use Rattle.capture.specs.declared.one_record.CaptureRecord.{CaptureRecord}
 use Rattle.capture.specs.Record.{recordAt}
 use Rattle.capture.specs.Capture.{recordsFrom, recordsIn, gap, timed, timedAfter, timedOf, timedIn, tooLate, lowestAfter, lowest, isTick, commandsOf}
@@ -102,10 +102,6 @@ turn-start s b =
       rest = ap (λ (l : List CaptureRecord). commandsOf (timedAfter 0 0 l)) z ∙ ap commandsOf (timed-first (recordsIn s) h);
     }
 
-or-right : (a b : Bool) → (a || b) ≡ false → b ≡ false
-or-right true b e = true-false true refl e
-or-right false b e = e
-
 -- x is record i, and d its true cycle
 module _ {s : List ℕ} {i p c k : ℕ} (t : Turn s i p c k) (l : i < captureCount s) (x : CaptureRecord) (here : x ≡ recordAt s (i * 4))
     (d : ℕ) (e : d ≡ c + gap p (x .stamp)) where
@@ -147,7 +143,7 @@ module _ {s : List ℕ} {i p c k : ℕ} (t : Turn s i p c k) (l : i < captureCou
 
   module _ (b : bad ≡ false) where
     pub turn-small : d ≤ 4294967295
-    turn-small = ltb-false 4294967295 d (or-right (ltb 0 i && eqb (x .stamp) p) (tooLate d) b)
+    turn-small = ltb-false 4294967295 d (neither (ltb 0 i && eqb (x .stamp) p) (tooLate d) b .1)
 
     number-on : lowestFrom (suc i) (x .stamp) d (left s (suc i)) ≡ lowest (timedIn s)
     number-on = sym (number-goes ∙ ap (λ (y : Bool). pick y i (lowestFrom (suc i) (x .stamp) d (left s (suc i)))) b)

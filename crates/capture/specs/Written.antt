@@ -11,8 +11,9 @@ use Rattle.records.specs.Tests.{pick}
 use Rattle.records.specs.Told.{over}
 use Rattle.records.specs.declared.table.Table.{Table}
 use Rattle.records.specs.declared.command.Command.{Command}
-use Rattle.records.specs.Command.{kindNumber, command, bytesOfAll}
+use Rattle.records.specs.Command.{kindNumber, bytesOfAll}
 use Rattle.rules.specs.declared.verdict.Verdict.the-variants.{Accepted}
+use Rattle.rules.specs.Verdict.{unnumbered}
 use Rattle.capture.specs.declared.answer.CaptureJudged.the-variants.{Verdict}
 use Rattle.capture.specs.declared.one_record.CaptureRecord.{CaptureRecord}
 use Rattle.capture.specs.Record.{captureRecord, bytesOfRecord}
@@ -69,11 +70,6 @@ pub record WrittenAs (rs : List Command) (es : List Sent) : Type 0 where
   pub first : (a : Sent) → getElem? es 0 ≡ some a → cycleOf a < 65536
   -- "and no gap of 65,536 or more"
   pub near : (i : ℕ) (a b : Sent) → getElem? es i ≡ some a → getElem? es (suc i) ≡ some b → cycleOf b < cycleOf a + 65536
-
--- the same cycles, kinds and banks, with transaction number 0
-abbrev pub unnumbered : List Command → List Command
-unnumbered [] = []
-unnumbered (r ∷ rs) = command (r .cycle) (r .kind) (r .bank) 0 ∷ unnumbered rs
 
 -- "reading it gives the schedule's cycles, kinds and banks again"
 pub record ReadAgain (τ : Table) (rs : List Command) (s : List ℕ) : Type 0 where

@@ -100,11 +100,11 @@ refused-by e s x h = on (readTable s) refl h
     on (Refused y) q h = ⊎-elim (λ k. inl k) (λ k. inr (inl k)) (read-refused s x (q ∙ h))
 
 -- what a refusal by the table, or an answer, names: the table's own edition
-abbrev told : TableRead → ℕ
+abbrev pub told : TableRead → ℕ
 told (Read τ) = τ .edition
 told (Refused x) = x .edition
 
-own : (e : ℕ) (s : List ℕ) → told (admitted e s) ≡ editionOf (readTable s)
+pub own : (e : ℕ) (s : List ℕ) → told (admitted e s) ≡ editionOf (readTable s)
 unfolding admitted
 own e s = on (readTable s) refl
   where

@@ -19,6 +19,7 @@ pub mod ArrivalCalls
 pub mod ServesCalls
 pub mod Calls
 pub mod Traces
+pub mod Patterns
 pub mod OneGroup
 pub mod Pins
 pub mod ServesList

@@ -19,12 +19,12 @@ use Rattle.records.specs.Command.{bytesOfAll}
 use Rattle.rules.specs.declared.verdict.Rule.{Rule}
 use Rattle.rules.specs.declared.verdict.Verdict.{Verdict}
 use Rattle.rules.specs.declared.verdict.Verdict.the-variants.{Refused as Broken}
-use Rattle.rules.specs.Verdict.{judge}
+use Rattle.rules.specs.Verdict.{judge, unnumbered}
 use Rattle.capture.specs.declared.answer.CaptureJudged.the-variants.{Verdict as Says, Refused as NotCaptured}
 use Rattle.capture.specs.Capture.{recordsIn, timedIn, lowest}
 use Rattle.capture.specs.Answer.{notACapture, captureCount, commandsSeen, captureRefusal, captured}
 use Rattle.capture.specs.Eleven.{Such}
-use Rattle.capture.specs.Written.{captureBytes, unnumbered, allStamped, withoutTicks}
+use Rattle.capture.specs.Written.{captureBytes, allStamped, withoutTicks}
 use Rattle.capture.proofs.Refusals.{length-in}
 use Rattle.capture.proofs.Eleven.{names-lowest}
 use Rattle.capture.proofs.RoundTrip.{round-trip}

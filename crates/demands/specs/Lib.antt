@@ -3,6 +3,7 @@ pub mod Demands
 pub mod Runs
 pub mod Pieces
 pub mod Traces
+pub mod Patterns
 pub mod Handed
 pub mod GroupCalls
 pub mod ArrivalCalls

@@ -12,12 +12,12 @@ use Rattle.records.specs.Command.{bytesOfAll}
 use Rattle.rules.specs.declared.verdict.Verdict.{Verdict}
 use Rattle.rules.specs.declared.verdict.Rule.{Rule}
 use Rattle.rules.specs.declared.verdict.Verdict.the-variants.{Accepted, Refused as Broken}
-use Rattle.rules.specs.Verdict.{judge, Legal}
+use Rattle.rules.specs.Verdict.{judge, Legal, unnumbered}
 use Rattle.capture.specs.declared.answer.CaptureJudged.the-variants.{Verdict as Says, Refused as NotCaptured}
 use Rattle.capture.specs.Capture.{recordsIn, timedIn}
 use Rattle.capture.specs.Answer.{commandsSeen}
 use Rattle.capture.specs.Eleven.{Such}
-use Rattle.capture.specs.Written.{Sent, captureBytes, WrittenAs, unnumbered, allStamped, withoutTicks}
+use Rattle.capture.specs.Written.{Sent, captureBytes, WrittenAs, allStamped, withoutTicks}
 use Rattle.desk.specs.Admit.{admitted}
 use Rattle.desk.specs.Tracing.{capturing}
 

@@ -22,6 +22,8 @@ use Rattle.records.proofs.Listed.{length-list}
 use Rattle.engine.specs.Build.{finishesFrom}
 use Rattle.records.proofs.Written.{length-bytes}
 use Rattle.engine.proofs.Schedule.{finishes-length}
+use Rattle.shortest.specs.declared.answer.ShortestAnswer.the-variants.{Pattern}
+use Rattle.shortest.proofs.Calls.{pattern-few}
 use Rattle.lists.specs.declared.check.Checked.{Checked}
 use Rattle.lists.specs.declared.check.Checked.the-variants.{Fine, Refused as NotFine}
 use Rattle.lists.specs.Check.{checkBytes}
@@ -37,6 +39,7 @@ use Rattle.controller.specs.Controller.{tells}
 use Rattle.controller.specs.Run.{RunLeft, written, ranLeft, refusedLeft, runController, LeavesRun}
 use Rattle.controller.proofs.Written.{written-length}
 use Rattle.desk.specs.Admit.{admitted}
+use Rattle.desk.specs.Patterns.{ShortestTold}
 use Rattle.desk.specs.Schedules.{NothingBuilt, BuildsChecked, Schedules}
 use Rattle.desk.specs.Running.{nothingRun, runsChecked, running}
 
@@ -115,3 +118,10 @@ pub ran-room : (w : ℕ) (t : List ℕ) (check : Table → Checked) (c : Control
     → LeavesRun (running check (admitted w t) c l count b₀) r b → r .answer ≡ Ran x → 8 * x .commands ≤ length b
 ran-room w t check c l count b₀ r b x h e =
     rw (h .1) (holds c l count b₀ x check (admitted w t) (sym (ap (λ (v : RunTold). v .answer) (h .0)) ∙ e))
+
+-- ---- a pattern
+
+pub shortest-few : (a : TableRead) (type bi bc most : ℕ) (b₀ b : List ℕ) (e L n : ℕ) → ShortestTold a type bi bc most b₀ b (Pattern e L n) → n ≤ 6
+unfolding ShortestTold
+shortest-few (Read τ) type bi bc most b₀ b e L n p = pattern-few τ type bi bc most b₀ b e L n p
+shortest-few (Refused x) type bi bc most b₀ b e L n p = let k = p .0 in let z : _≡_ {A = ℕ} 0 1 = cc in absurd (omega arith)

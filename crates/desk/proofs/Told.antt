@@ -18,6 +18,9 @@ use Rattle.judge.specs.Answer.{judged, PatternAnswers}
 use Rattle.capture.specs.declared.answer.CaptureJudged.{CaptureJudged}
 use Rattle.capture.specs.declared.answer.CaptureJudged.the-variants.{Refused as NotCaptured}
 use Rattle.capture.specs.Answer.{captured, LeavesCapture}
+use Rattle.shortest.specs.declared.answer.ShortestAnswer.{ShortestAnswer}
+use Rattle.shortest.specs.declared.answer.ShortestAnswer.the-variants.{Refused as NoPattern}
+use Rattle.shortest.specs.Answer.{LeavesShortest}
 use Rattle.builder.specs.declared.bound.BoundAnswer.{BoundAnswer}
 use Rattle.builder.specs.declared.bound.BoundAnswer.the-variants.{Refused as NoBound}
 use Rattle.builder.specs.Bound.{boundTold}
@@ -30,6 +33,7 @@ use Rattle.desk.specs.declared.running.StartAnswer.the-variants.{Started
 use Rattle.desk.specs.Admit.{admitted}
 use Rattle.desk.specs.Judging.{judging, PatternTold}
 use Rattle.desk.specs.Tracing.{capturing}
+use Rattle.desk.specs.Patterns.{ShortestTold}
 use Rattle.desk.specs.Bounds.{bounding}
 use Rattle.desk.specs.Transactions.{readingPlan}
 use Rattle.desk.specs.Running.{starting}
@@ -48,6 +52,11 @@ module _ (w : ℕ) (s : List ℕ) (a : TableRead) (e : a ≡ admitted w s) where
     pub capture-read : (c b₀ b : List ℕ) (r : CaptureJudged) → LeavesCapture (captured τ c b₀) r b → LeavesCapture (capturing (admitted w s) c b₀) r b
     unfolding capturing
     capture-read c b₀ b r h = by-admitted (λ (z : TableRead). LeavesCapture (capturing z c b₀) r b) w s a (Read τ) e t h
+
+    pub shortest-read : (type bi bc most : ℕ) (b₀ b : List ℕ) (r : ShortestAnswer) → LeavesShortest τ type bi bc most b₀ b r
+        → ShortestTold (admitted w s) type bi bc most b₀ b r
+    unfolding ShortestTold
+    shortest-read type bi bc most b₀ b r h = by-admitted (λ (z : TableRead). ShortestTold z type bi bc most b₀ b r) w s a (Read τ) e t h
 
     pub bound-read : (bi bc : ℕ) (r : BoundAnswer) → r ≡ boundTold τ bi bc → r ≡ bounding (admitted w s) bi bc
     unfolding bounding
@@ -73,6 +82,10 @@ module _ (w : ℕ) (s : List ℕ) (a : TableRead) (e : a ≡ admitted w s) where
     pub capture-refused : (c b : List ℕ) → LeavesCapture (capturing (admitted w s) c b) (NotCaptured x) b
     unfolding capturing
     capture-refused c b = by-admitted (λ (z : TableRead). LeavesCapture (capturing z c b) (NotCaptured x) b) w s a (Refused x) e t (refl, refl)
+
+    pub shortest-refused : (type bi bc most : ℕ) (b : List ℕ) → ShortestTold (admitted w s) type bi bc most b b (NoPattern x)
+    unfolding ShortestTold
+    shortest-refused type bi bc most b = by-admitted (λ (z : TableRead). ShortestTold z type bi bc most b b (NoPattern x)) w s a (Refused x) e t (refl, refl)
 
     pub bound-refused : (bi bc : ℕ) → NoBound x ≡ bounding (admitted w s) bi bc
     unfolding bounding

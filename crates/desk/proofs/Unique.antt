@@ -16,6 +16,9 @@ use Rattle.judge.specs.declared.answer.PatternJudged.{PatternJudged}
 use Rattle.judge.specs.declared.answer.PatternJudged.the-variants.{Refused as PatternNotJudged}
 use Rattle.judge.proofs.Unique.{judge-pattern-only}
 use Rattle.capture.proofs.Unique.{one-captured}
+use Rattle.shortest.specs.declared.answer.ShortestAnswer.{ShortestAnswer}
+use Rattle.shortest.specs.declared.answer.ShortestAnswer.the-variants.{Refused as NoPattern}
+use Rattle.shortest.proofs.Unique.{shortest-only}
 use Rattle.builder.specs.declared.build.BuildAnswer.{BuildAnswer}
 use Rattle.builder.specs.declared.build.BuildAnswer.the-variants.{Refused as NotBuilt}
 use Rattle.builder.proofs.Unique.{build-only}
@@ -29,6 +32,7 @@ use Rattle.lists.proofs.Checks.{into-256, into-list, fine-fits}
 use Rattle.desk.specs.Admit.{admitted}
 use Rattle.desk.specs.Judging.{judging, PatternTold}
 use Rattle.desk.specs.Tracing.{capturing}
+use Rattle.desk.specs.Patterns.{ShortestTold}
 use Rattle.desk.specs.Bounds.{bounding}
 use Rattle.desk.specs.Transactions.{reading}
 use Rattle.desk.specs.Schedules.{NothingBuilt, BuildsChecked, Schedules}
@@ -43,6 +47,12 @@ pattern-only : (a : TableRead) (s : List ℕ) (L : ℕ) (x y : PatternJudged) �
 unfolding PatternTold
 pattern-only (Read τ) s L x y p q = judge-pattern-only τ s L x y p q
 pattern-only (Refused r) s L x y p q = one-answer (PatternNotJudged r) x y p q
+
+least-only : (a : TableRead) (type bi bc most : ℕ) (b₀ : List ℕ) (x y : ShortestAnswer) (b d : List ℕ) → ShortestTold a type bi bc most b₀ b x
+    → ShortestTold a type bi bc most b₀ d y → (x ≡ y) × (b ≡ d)
+unfolding ShortestTold
+least-only (Read τ) type bi bc most b₀ x y b d p q = shortest-only τ type bi bc most b₀ b d x y p q
+least-only (Refused r) type bi bc most b₀ x y b d p q = (one-answer (NoPattern r) x y (p .0) (q .0), one-answer b₀ b d (p .1) (q .1))
 
 module _ (l : List Transaction) (b₀ f₀ : List ℕ) (x y : BuildAnswer) (b d f g : List ℕ) where
   -- a refusal by the table or by the check of the list
@@ -82,6 +92,7 @@ only expected table =
       judge = λ s. one-answer (judging (admitted expected table) s);
       judgePattern = pattern-only (admitted expected table);
       judgeCapture = λ s b₀. one-captured (capturing (admitted expected table) s b₀);
+      shortestPattern = least-only (admitted expected table);
       bound = λ bi bc. one-answer (bounding (admitted expected table) bi bc);
       readTransactions = λ later s l x y b d p q.
           let w = reading later (admitted expected table) s l in

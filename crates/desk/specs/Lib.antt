@@ -1,6 +1,7 @@
 pub mod Admit
 pub mod Judging
 pub mod Tracing
+pub mod Patterns
 pub mod Bounds
 pub mod Transactions
 pub mod Schedules

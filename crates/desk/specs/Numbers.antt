@@ -30,6 +30,8 @@ use Rattle.serves.specs.declared.answer.Served.{Served}
 use Rattle.serves.specs.declared.answer.Served.the-variants.{Serves, Refused as Against, AtFault}
 use Rattle.serves.specs.declared.answer.ServesAnswer.{ServesAnswer}
 use Rattle.serves.specs.declared.answer.ServesAnswer.the-variants.{Told, Refused as NotTold}
+use Rattle.shortest.specs.declared.answer.ShortestAnswer.{ShortestAnswer}
+use Rattle.shortest.specs.declared.answer.ShortestAnswer.the-variants.{Pattern, Refused as NoPattern}
 use Rattle.builder.specs.declared.bound.BoundAnswer.{BoundAnswer}
 use Rattle.builder.specs.declared.bound.BoundAnswer.the-variants.{Bound, Refused as NoBound}
 use Rattle.builder.specs.declared.build.BuildAnswer.{BuildAnswer}
@@ -133,6 +135,11 @@ servedValues (AtFault x) = x ∷ []
 abbrev pub servesNumbers : ServesAnswer → Numbers
 servesNumbers (Told e a) = telling e (servedValues a)
 servesNumbers (NotTold x) = refusing x
+
+-- the least length, and how many records were written
+abbrev pub shortestNumbers : ShortestAnswer → Numbers
+shortestNumbers (Pattern e L n) = telling e (L ∷ n ∷ [])
+shortestNumbers (NoPattern x) = refusing x
 
 -- ---- lists, schedules, the bound
 

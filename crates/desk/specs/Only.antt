@@ -9,6 +9,7 @@ use Rattle.judge.specs.declared.answer.Judged.{Judged}
 use Rattle.judge.specs.declared.answer.PatternJudged.{PatternJudged}
 use Rattle.capture.specs.declared.answer.CaptureJudged.{CaptureJudged}
 use Rattle.capture.specs.Answer.{LeavesCapture}
+use Rattle.shortest.specs.declared.answer.ShortestAnswer.{ShortestAnswer}
 use Rattle.builder.specs.declared.bound.BoundAnswer.{BoundAnswer}
 use Rattle.builder.specs.declared.build.BuildAnswer.{BuildAnswer}
 use Rattle.serves.specs.declared.answer.ServesAnswer.{ServesAnswer}
@@ -23,6 +24,7 @@ use Rattle.desk.specs.declared.running.StartTold.{StartTold}
 use Rattle.desk.specs.Admit.{admitted}
 use Rattle.desk.specs.Judging.{judging, PatternTold}
 use Rattle.desk.specs.Tracing.{capturing}
+use Rattle.desk.specs.Patterns.{ShortestTold}
 use Rattle.desk.specs.Bounds.{bounding}
 use Rattle.desk.specs.Transactions.{reading}
 use Rattle.desk.specs.Schedules.{Schedules}
@@ -35,6 +37,8 @@ pub record Only (expected : ℕ) (table : List ℕ) : Type 0 where
   pub judgePattern : (s : List ℕ) (L : ℕ) (x y : PatternJudged) → PatternTold (admitted expected table) s L x → PatternTold (admitted expected table) s L y → x ≡ y
   pub judgeCapture : (s b₀ : List ℕ) (x y : CaptureJudged) (b d : List ℕ) → LeavesCapture (capturing (admitted expected table) s b₀) x b
       → LeavesCapture (capturing (admitted expected table) s b₀) y d → (x ≡ y) × (b ≡ d)
+  pub shortestPattern : (type bi bc most : ℕ) (b₀ : List ℕ) (x y : ShortestAnswer) (b d : List ℕ)
+      → ShortestTold (admitted expected table) type bi bc most b₀ b x → ShortestTold (admitted expected table) type bi bc most b₀ d y → (x ≡ y) × (b ≡ d)
   pub bound : (bi bc : ℕ) (x y : BoundAnswer) → x ≡ bounding (admitted expected table) bi bc → y ≡ bounding (admitted expected table) bi bc → x ≡ y
   pub readTransactions : (later : Bool) (s : List ℕ) (l : List Transaction) (x y : Decoded) (b d : List Transaction)
       → Decodes (reading later (admitted expected table) s l) x b → Decodes (reading later (admitted expected table) s l) y d → (x ≡ y) × (b ≡ d)

@@ -3,6 +3,7 @@
 pub mod bounding;
 pub mod judging;
 pub mod numbers;
+pub mod patterns;
 pub mod running;
 pub mod schedules;
 pub mod serving;
@@ -16,6 +17,7 @@ pub use commands::command::read_command;
 pub use commands::command::write_command;
 pub use judging::judge;
 pub use judging::judge_pattern;
+pub use patterns::shortest_pattern;
 pub use records::group_table::write_group_table;
 pub use records::later::read_later;
 pub use records::later::write_later;

@@ -24,6 +24,7 @@ use Rattle.rules.specs.Pattern.{onto}
 use Rattle.rules.specs.Queues.{actQueue, dataQueue}
 use Rattle.rules.specs.CycleRule.{goes, push}
 use Rattle.rules.specs.Run.{served, stops, Ran, oneMore, run}
+use Rattle.rules.proofs.TestLaws.{neither}
 use Rattle.rules.proofs.Queue.{act-length, data-length}
 use Rattle.rules.proofs.Caps.{Capped, caps-step}
 use Rattle.rules.proofs.RunTo.{stopped, going}
@@ -117,10 +118,6 @@ starts {τ} {bs} {n} {s} {count} b r h =
       queues = h;
     }
 
-or-right : (x y : Bool) → (x || y) ≡ false → y ≡ false
-or-right true y e = let z : _≡_ {A = ℕ} 0 1 = cc in absurd (omega arith)
-or-right false y e = e
-
 -- the code's test is the definition's
 pub stops-is : (τ : Table) (bs : List ℕ) (n : ℕ) (s : State) (a d : ℕ) (x y : Bool) → a ≡ length (actQueue τ (first bs n)) → d ≡ length (dataQueue τ (first bs n))
     → x ≡ ((leb d (s .datas) && leb a (s .acts)) || leb 100000000 (s .cycle)) → x ≡ y → stops τ (first bs n) s ≡ y
@@ -132,7 +129,7 @@ module _ {τ : Table} {bs : List ℕ} {n : ℕ} {s₀ : State} {count : ℕ} {b�
 
   -- a run that does not stop is before cycle 100,000,000
   pub early : still → s .cycle < 100000000
-  early e = leb-false 100000000 (s .cycle) (or-right (served τ (first bs n) s) (leb 100000000 (s .cycle)) e)
+  early e = leb-false 100000000 (s .cycle) (neither (served τ (first bs n) s) (leb 100000000 (s .cycle)) e .1)
 
   room : (m : ℕ) (u : State) (h : List Command) → Ready τ bs n s₀ count (length b₀) → run count τ (first bs n) s₀ [] ≡ later m (run (count - m) τ (first bs n) u h)
       → (length h ≤ count) × (8 * length h ≤ length b₀)

@@ -1,4 +1,4 @@
--- The commands of a built schedule, and of a capture, are counted in 32 bits.
+-- The commands of a built schedule, of a capture and of a pattern are counted in 32 bits.
 -- Assumes nothing.
 use Prim.Native.Nat.{ℕ, _+_, _≤_, _<_}
 use mathlib.Core.Bool.{Bool, true, false}
@@ -27,6 +27,8 @@ use Rattle.heads.proofs.Laws.{acts-most, datas-most}
 use Rattle.capture.specs.declared.answer.CaptureJudged.the-variants.{Verdict, Refused as NotCaptured}
 use Rattle.capture.specs.Answer.{commandsSeen, captureRefusal, positionOf, Captured, captured}
 use Rattle.capture.proofs.Refusals.{taken}
+use Rattle.shortest.specs.declared.answer.ShortestAnswer.{ShortestAnswer}
+use Rattle.shortest.specs.declared.answer.ShortestAnswer.the-variants.{Pattern, Refused as NoPattern}
 use Rattle.lists.specs.declared.check.Checked.{Checked}
 use Rattle.lists.specs.declared.check.Checked.the-variants.{Fine, Refused as NotFine}
 use Rattle.lists.specs.Check.{checkList, checkBytes}
@@ -37,8 +39,10 @@ use Rattle.builder.specs.Build.{LeavesBuild}
 use Rattle.desk.specs.Admit.{admitted}
 use Rattle.desk.specs.Schedules.{NothingBuilt, BuildsChecked, Schedules}
 use Rattle.desk.specs.Tracing.{capturing}
+use Rattle.desk.specs.Patterns.{ShortestTold}
+use Rattle.desk.proofs.Room.{shortest-few}
 use Rattle.desk.proofs.Laws.{read-accepted}
-use Rattle.answers.specs.Answers.{countOf}
+use Rattle.answers.specs.Answers.{countOf, recordsFound}
 use Rattle.answers.specs.Verdicts.{commandsWritten}
 
 module _ (l : List Transaction) (b₀ b f₀ f : List ℕ) where
@@ -99,3 +103,8 @@ module _ (s b : List ℕ) where
   unfolding capturing
   few-seen (Read τ) = captured-few τ
   few-seen (Refused x) = omega arith
+
+-- a pattern has at most 6 records
+pub few-found : (a : TableRead) (type bi bc most : ℕ) (b₀ b : List ℕ) (v : ShortestAnswer) → ShortestTold a type bi bc most b₀ b v → recordsFound v < 4294967296
+few-found a type bi bc most b₀ b (Pattern e L n) h = omega (arith, shortest-few a type bi bc most b₀ b e L n h)
+few-found a type bi bc most b₀ b (NoPattern x) h = omega arith

@@ -18,7 +18,7 @@ use Rattle.desk.specs.Transactions.{reading}
 use Rattle.desk.specs.Running.{starting, running}
 use Rattle.desk.proofs.Unique.{only as desk-only}
 use Rattle.answers.specs.declared.answer.Answer.{Answer}
-use Rattle.answers.specs.Answers.{ofWritten, ofTable, ofTransaction, ofCommand, ofCaptureRecord, ofRead, ofBuild, ofBound, startOf, ofRun, runOf}
+use Rattle.answers.specs.Answers.{ofWritten, ofTable, ofTransaction, ofCommand, ofCaptureRecord, ofRead, ofBuild, ofBound, shortestOf, startOf, ofRun, runOf}
 use Rattle.answers.specs.Verdicts.{verdictOf, patternOf, captureOf, servesOf}
 use Rattle.host.specs.Promises.{Writes}
 use Rattle.host.specs.Only.{OnlyRecord, Only}
@@ -54,6 +54,9 @@ only expected table =
       judgeCapture = λ s b₀ x y b d p q.
           let w = capturing (admitted expected table) s b₀ in
           (one-answer (captureOf (w .answer)) x y (p .0) (q .0), one-answer (w .buffer) b d (p .1) (q .1));
+      shortestPattern = λ type bi bc most b₀ x y b d p q.
+          let z = desk-only expected table .shortestPattern type bi bc most b₀ (p .0) (q .0) b d (p .1) (q .1) in
+          (made shortestOf (p .0) (q .0) x y (z .0) (p .2) (q .2), z .1);
       bound = λ bi bc. one-answer (ofBound (bounding (admitted expected table) bi bc));
       readTransactions = λ later s l x y b d p q.
           let w = reading later (admitted expected table) s l in

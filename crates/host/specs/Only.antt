@@ -27,9 +27,10 @@ use Rattle.answers.specs.declared.answer.RunAnswer.{RunAnswer}
 use Rattle.answers.specs.declared.verdict.VerdictAnswer.{VerdictAnswer}
 use Rattle.answers.specs.declared.verdict.CaptureAnswer.{CaptureAnswer}
 use Rattle.answers.specs.declared.verdict.ServesAnswer.{ServesAnswer}
+use Rattle.answers.specs.declared.patterns.PatternAnswer.{PatternAnswer}
 use Rattle.answers.specs.Answers.{ofTable, ofTransaction, ofCommand, ofCaptureRecord, ofBound, startOf}
 use Rattle.answers.specs.Verdicts.{verdictOf}
-use Rattle.host.specs.Promises.{Writes, PatternSaid, Traces, ReadsInto, Scheduled, ServesSaid, RunsIn, RunsBack}
+use Rattle.host.specs.Promises.{Writes, PatternSaid, Traces, PatternFound, ReadsInto, Scheduled, ServesSaid, RunsIn, RunsBack}
 
 -- x and y are two results that keep the promise; b and d, f and g, c and e are a buffer or a controller as either leaves it. First the calls
 -- on one record: s is the bytes read, or what the buffer held
@@ -60,6 +61,8 @@ pub record Only (expected : ℕ) (table : List ℕ) : Type 0 where
   pub judgePattern : (s : List ℕ) (L : ℕ) (x y : VerdictAnswer) → PatternSaid (admitted expected table) s L x → PatternSaid (admitted expected table) s L y → x ≡ y
   pub judgeCapture : (s b₀ : List ℕ) (x y : CaptureAnswer) (b d : List ℕ) → Traces (capturing (admitted expected table) s b₀) x b
       → Traces (capturing (admitted expected table) s b₀) y d → (x ≡ y) × (b ≡ d)
+  pub shortestPattern : (type bi bc most : ℕ) (b₀ : List ℕ) (x y : PatternAnswer) (b d : List ℕ)
+      → PatternFound (admitted expected table) type bi bc most b₀ b x → PatternFound (admitted expected table) type bi bc most b₀ d y → (x ≡ y) × (b ≡ d)
   pub bound : (bi bc : ℕ) (x y : Answer) → x ≡ ofBound (bounding (admitted expected table) bi bc) → y ≡ ofBound (bounding (admitted expected table) bi bc) → x ≡ y
   pub readTransactions : (later : Bool) (s : List ℕ) (l : List Transaction) (x y : Answer) (b d : List Transaction)
       → ReadsInto (reading later (admitted expected table) s l) x b → ReadsInto (reading later (admitted expected table) s l) y d → (x ≡ y) × (b ≡ d)

@@ -9,12 +9,14 @@ use Rattle.records.specs.Told.{Wrote}
 use Rattle.judge.specs.declared.answer.PatternJudged.{PatternJudged}
 use Rattle.capture.specs.Answer.{Captured}
 use Rattle.serves.specs.declared.answer.ServesAnswer.{ServesAnswer as ServesTold}
+use Rattle.shortest.specs.declared.answer.ShortestAnswer.{ShortestAnswer}
 use Rattle.lists.specs.declared.check.Checked.{Checked}
 use Rattle.lists.specs.Decode.{Decoding}
 use Rattle.builder.specs.declared.build.BuildAnswer.{BuildAnswer}
 use Rattle.controller.specs.declared.controller.Controller.{Controller}
 use Rattle.controller.specs.Run.{RunLeft}
 use Rattle.desk.specs.Judging.{PatternTold}
+use Rattle.desk.specs.Patterns.{ShortestTold}
 use Rattle.desk.specs.Schedules.{Schedules}
 use Rattle.desk.specs.Serving.{Serving}
 use Rattle.answers.specs.declared.answer.Answer.{Answer}
@@ -22,7 +24,8 @@ use Rattle.answers.specs.declared.answer.RunAnswer.{RunAnswer}
 use Rattle.answers.specs.declared.verdict.VerdictAnswer.{VerdictAnswer}
 use Rattle.answers.specs.declared.verdict.CaptureAnswer.{CaptureAnswer}
 use Rattle.answers.specs.declared.verdict.ServesAnswer.{ServesAnswer}
-use Rattle.answers.specs.Answers.{ofWritten, ofRead, ofBuild, ofRun, runOf}
+use Rattle.answers.specs.declared.patterns.PatternAnswer.{PatternAnswer}
+use Rattle.answers.specs.Answers.{ofWritten, ofRead, ofBuild, shortestOf, ofRun, runOf}
 use Rattle.answers.specs.Verdicts.{patternOf, captureOf, servesOf}
 
 -- one record written: r is the answer, b what the buffer holds as the call returns
@@ -36,6 +39,10 @@ PatternSaid a s L r = (v : PatternJudged) × PatternTold a s L v × (r ≡ patte
 -- a capture judged: b is what the buffer of the commands holds as the call returns
 abbrev pub Traces : Captured → CaptureAnswer → List ℕ → Type 0
 Traces w r b = (r ≡ captureOf (w .answer)) × (b ≡ w .buffer)
+
+-- the shortest pattern: r is the numbers of the one answer that the desk's call may give; b₀ is what the buffer held, b what it holds
+abbrev pub PatternFound : TableRead → ℕ → ℕ → ℕ → ℕ → List ℕ → List ℕ → PatternAnswer → Type 0
+PatternFound a type bi bc most b₀ b r = (v : ShortestAnswer) × ShortestTold a type bi bc most b₀ b v × (r ≡ shortestOf v)
 
 -- transactions read: l is what the run of records holds
 abbrev pub ReadsInto : Decoding → Answer → List Transaction → Type 0

@@ -2,6 +2,7 @@
 pub mod bounding;
 pub mod judging;
 pub mod one_record;
+pub mod patterns;
 pub mod running;
 pub mod schedules;
 pub mod serving;

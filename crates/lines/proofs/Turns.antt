@@ -76,7 +76,7 @@ finish-end s i n at r b t e h x = (subst (λ (k : ℕ). Puts (finishLines 0 (tak
 
 -- ---- all of them, behind the first line
 
-commands-count : (s : List ℕ) (n at : ℕ) → length (commandsFrom s n at) ≡ n
+pub commands-count : (s : List ℕ) (n at : ℕ) → length (commandsFrom s n at) ≡ n
 unfolding commandsFrom
 commands-count s zero at = refl
 commands-count s (suc n) at = ap suc (commands-count s n (at + 8))

@@ -3,10 +3,9 @@
 use Prim.Native.Nat.{ℕ, _+_, _-_, _*_, _/_, _≤_, _<_}
 use mathlib.Core.Bool.{Bool, false}
 use mathlib.Core.Path.{_≡_, sym, ap, _∙_, subst}
-use mathlib.Core.List.{List, _++_}
+use mathlib.Core.List.{List}
 use native.Mathlib.Omega.{arith}
-use native.Mathlib.Nat.{zero-add}
-use lib.ListN.{length, take, drop, replicate, length-append, length-drop, drop-of-length-le}
+use lib.ListN.{length, take, drop, replicate, length-drop, drop-of-length-le}
 use lib.Seq.{take-all, drop-length}
 use borrow.Author.Tests.{lt-ltb, le-ltb}
 use Rattle.records.specs.Tests.{pick}
@@ -21,12 +20,9 @@ use Rattle.lists.specs.Check.{checkBytes}
 use Rattle.desk.specs.Admit.{admitted}
 use Rattle.desk.specs.Schedules.{Schedules}
 use Rattle.desk.proofs.Room.{built-room}
-use Rattle.text.specs.Puts.{Puts}
+use Rattle.text.specs.Puts.{Writes}
 use Rattle.lines.specs.Lines.{scheduleText, refusedLine}
-use Rattle.listed.specs.Listing.{answerText, ListsCall, ListsBehind, Lists, Writes}
-
-pub writes : (is : List ℕ → Type 0) (text : List ℕ) (r : ℕ) (s l : List ℕ) → is text → Puts text 0 r s l → Writes is r s l
-writes is text r s l h p = (text, h, p .place ∙ zero-add (length text), p .left ∙ ap (λ (n : ℕ). text ++ drop n s) (zero-add (length text)))
+use Rattle.listed.specs.Listing.{answerText, ListsCall, ListsBehind, Lists}
 
 -- ---- the call
 
@@ -90,9 +86,3 @@ pub long-enough : (s : List ℕ) (e r : ℕ) (b l : List ℕ) → 2 ≤ length s
 long-enough s e r b l h p w =
     subst (λ (c : Bool). Writes (λ text. pick c (text ≡ refusedLine (refusal 1 0 0)) (ListsBehind (num s 0) (drop 2 s) text)) r b l) (sym (le-ltb (length s) 2 h))
     (subst (λ (k : ℕ). Writes (ListsBehind k (drop 2 s)) r b l) p (subst (λ (k : List ℕ). Writes (ListsBehind e k) r b l) (from-is 2 s) w))
-
--- ---- for who prints it
-
--- what is written lies within the buffer
-pub within : (is : List ℕ → Type 0) (n : ℕ) (s l : List ℕ) → Writes is n s l → n ≤ length l
-within is n s l w = omega (arith, w .2, ap length (w .3), length-append (w .0) (drop (length (w .0)) s))

@@ -8,7 +8,7 @@ use mathlib.Core.List.{List}
 use lib.Dec.{ltb}
 use lib.ListN.{length, take, drop, replicate}
 use Rattle.records.specs.Tests.{pick}
-use Rattle.records.specs.Told.{refusal, over}
+use Rattle.records.specs.Told.{refusal}
 use Rattle.records.specs.Little.{num}
 use Rattle.records.specs.Transaction.{transactionsIn}
 use Rattle.records.specs.Command.{commandsFrom}
@@ -41,8 +41,3 @@ ListsBehind expected s text = ListsCall expected (take 32 s) (drop 32 s) text
 -- the text for the whole input
 abbrev pub Lists : List ℕ → List ℕ → Type 0
 Lists input text = pick (ltb (length input) 2) (text ≡ refusedLine (refusal 1 0 0)) (ListsBehind (num input 0) (drop 2 input) text)
-
--- what a function that writes such a text leaves: the text from the buffer's start, all beyond as it stood, and n, its length; s and l are the
--- buffer before and after
-abbrev pub Writes : (List ℕ → Type 0) → ℕ → List ℕ → List ℕ → Type 0
-Writes is n s l = (text : List ℕ) × is text × (n ≡ length text) × (l ≡ over text s)

@@ -2,7 +2,8 @@
 use Prim.Native.Nat.{ℕ}
 use mathlib.Core.Path.{_≡_}
 use mathlib.Core.List.{List}
-use Rattle.listed.specs.Listing.{Lists, Writes}
+use Rattle.text.specs.Puts.{Writes}
+use Rattle.listed.specs.Listing.{Lists}
 
 -- x and y are two texts, m with k and n with l two lengths and buffers, that keep the promise
 pub record Only (input : List ℕ) : Type 0 where

@@ -8,7 +8,8 @@ use records::little::num_at;
 use records::refusal::refuse;
 ghost use Prim.Native.Nat.{_≤_};
 ghost use lib.ListN.{length};
-ghost use Rattle.listed.specs.Listing.{ListsCall, ListsBehind, Lists, Writes};
+ghost use Rattle.text.specs.Puts.{Writes};
+ghost use Rattle.listed.specs.Listing.{ListsCall, ListsBehind, Lists};
 
 // The desk's call, in 64 KiB of command room.
 fn list_call(expected: u16, table: &[u8], list: &[u8], out: &mut [u8]) -> usize

@@ -40,7 +40,7 @@ moved-onto : (d : ℕ) (rs h : List Command) → moved d (onto rs h) ≡ onto (m
 moved-onto d [] h = refl
 moved-onto d (r ∷ rs) h = moved-onto d rs (r ∷ h)
 
-moved-append : (d : ℕ) (a b : List Command) → moved d (a ++ b) ≡ moved d a ++ moved d b
+pub moved-append : (d : ℕ) (a b : List Command) → moved d (a ++ b) ≡ moved d a ++ moved d b
 moved-append d [] b = refl
 moved-append d (r ∷ a) b = rw (moved-append d a b)
 

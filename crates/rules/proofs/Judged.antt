@@ -72,7 +72,7 @@ pub legal-rising : (τ : Table) (h : List Command) → LegalHistory τ h → Ris
 legal-rising τ [] k = tt
 legal-rising τ (r ∷ h) k = (to-T (later (r .cycle) h) (holds τ r h (k .0) 1), legal-rising τ h (k .1))
 
-legal-older : (τ : Table) (rs h : List Command) → LegalHistory τ (onto rs h) → LegalHistory τ h
+pub legal-older : (τ : Table) (rs h : List Command) → LegalHistory τ (onto rs h) → LegalHistory τ h
 legal-older τ [] h k = k
 legal-older τ (r ∷ rs) h k = legal-older τ rs (r ∷ h) k .1
 

@@ -13,6 +13,7 @@ pub mod JudgeState
 pub mod Alike
 pub mod Copies
 pub mod Pattern
+pub mod Unnumbered
 pub mod Queue
 pub mod Fit
 pub mod DataKinds

@@ -22,7 +22,7 @@ use Rattle.rules.proofs.Judged.{LegalHistory, legal-rising, legal-accep
 use Rattle.rules.proofs.Alike.{judge-alike}
 use Rattle.rules.proofs.Copies.{afterCopies, moved-copy, alike-next}
 
-onto-append : (a b h : List Command) → onto (a ++ b) h ≡ onto b (onto a h)
+pub onto-append : (a b h : List Command) → onto (a ++ b) h ≡ onto b (onto a h)
 onto-append [] b h = refl
 onto-append (r ∷ a) b h = onto-append a b (r ∷ h)
 
@@ -90,7 +90,7 @@ module _ (τ : Table) (L : ℕ) (p : List Command) where
   first-accepted (suc n) k m s u = rw (u k (omega arith), copiesFrom) (first-accepted n (suc k) m (omega arith) u)
 
   -- copies legal are copies that, set end to end, are a legal schedule
-  end-history : (n k m : ℕ) → m ≡ k + n → onto (endToEnd L p n k) (H k) ≡ H m
+  pub end-history : (n k m : ℕ) → m ≡ k + n → onto (endToEnd L p n k) (H k) ≡ H m
   end-history zero k m s = let z : k ≡ m = omega arith in ap H z
   end-history (suc n) k m s = onto-append (copy L p k) (endToEnd L p n (suc k)) (H k) ∙ end-history n (suc k) m (omega arith)
 

@@ -1,9 +1,10 @@
--- Laws of tests: a true conjunction and its parts, equal tests, and what holds of whatever an option holds.
+-- Laws of tests: a true conjunction and its parts, a choice of two, equal tests, and what holds of whatever an option holds.
 -- Assumes nothing.
 use Prim.Native.Nat.{ℕ, zero, suc}
 use native.Mathlib.Omega.{arith}
 use mathlib.Core.Path.{_≡_, refl, sym, subst}
-use mathlib.Core.Bool.{Bool, true, false, _&&_}
+use mathlib.Core.Bool.{Bool, true, false, _&&_, _||_}
+use mathlib.Core.Logic.{_⊎_, inl, inr}
 use mathlib.Core.Option.{Option, none, some}
 use mathlib.Core.List.{List, [], _∷_}
 use lib.Dec.{T}
@@ -30,6 +31,14 @@ and-fst false y e = e
 pub and-snd : (x y : Bool) → (x && y) ≡ true → y ≡ true
 and-snd true y e = e
 and-snd false y e = true-false false e refl
+
+pub either : (x y : Bool) → (x || y) ≡ true → (x ≡ true) ⊎ (y ≡ true)
+either true y e = inl refl
+either false y e = inr e
+
+pub neither : (x y : Bool) → (x || y) ≡ false → (x ≡ false) × (y ≡ false)
+neither true y e = true-false true refl e
+neither false y e = (refl, e)
 
 -- what the first test implies need not be tested
 pub and-left : (x y : Bool) → (x ≡ true → y ≡ true) → (x && y) ≡ x

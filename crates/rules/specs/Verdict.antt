@@ -6,6 +6,7 @@ use mathlib.Core.List.{List, [], _∷_}
 use Rattle.records.specs.Tests.{pick}
 use Rattle.records.specs.declared.table.Table.{Table}
 use Rattle.records.specs.declared.command.Command.{Command}
+use Rattle.records.specs.Command.{command}
 use Rattle.rules.specs.declared.verdict.Rule.the-variants.{End}
 use Rattle.rules.specs.declared.verdict.Found.the-variants.{Fine, Broken}
 use Rattle.rules.specs.declared.verdict.Verdict.{Verdict}
@@ -27,3 +28,8 @@ judge τ rs = judgeFrom τ rs 0 []
 
 abbrev pub Legal : Table → List Command → Type 0
 Legal τ rs = judge τ rs ≡ Accepted
+
+-- the same cycles, kinds and banks, with transaction number 0. ("The judge doesn't look at the transaction number.")
+abbrev pub unnumbered : List Command → List Command
+unnumbered [] = []
+unnumbered (r ∷ rs) = command (r .cycle) (r .kind) (r .bank) 0 ∷ unnumbered rs

@@ -4,13 +4,13 @@ use Prim.Native.Nat.{ℕ, _+_, _/_, _%_, _≤_, _<_}
 use mathlib.Core.Path.{_≡_, refl, sym, ap, _∙_, subst}
 use mathlib.Core.List.{List, [], _∷_, _++_, append-assoc, append-nil}
 use native.Mathlib.Omega.{arith}
-use native.Mathlib.Nat.{add-zero}
+use native.Mathlib.Nat.{add-zero, zero-add}
 use native.Mathlib.Numerals.{add-one}
 use lib.ListN.{length, getD, set, take, drop, length-append, length-set, length-take, length-drop, take-append-drop}
 use lib.Seq.{set-split, take-at, drop-append-add, drop-drop, take-length, paste, paste-suc}
 use Rattle.records.specs.Told.{putAt}
 use Rattle.text.specs.Decimal.{decimal}
-use Rattle.text.specs.Puts.{Puts}
+use Rattle.text.specs.Puts.{Puts, Writes}
 use Rattle.text.proofs.Digits.{one-digit, last-digit}
 
 pub length-putAt : (s text : List ℕ) (at : ℕ) → at + length text ≤ length s → length (putAt s at text) ≡ length s
@@ -94,3 +94,12 @@ copied word s l at i h n e =
   where
     same : l ≡ putAt s at word
     same = e ∙ ap (λ (k : ℕ). paste s at word k) n ∙ ap (λ (w : List ℕ). take at s ++ w ++ drop (at + length word) s) (take-length word)
+
+-- ---- a whole text
+
+pub writes : (is : List ℕ → Type 0) (text : List ℕ) (r : ℕ) (s l : List ℕ) → is text → Puts text 0 r s l → Writes is r s l
+writes is text r s l h p = (text, h, p .place ∙ zero-add (length text), p .left ∙ ap (λ (n : ℕ). text ++ drop n s) (zero-add (length text)))
+
+-- what is written lies within the buffer
+pub within : (is : List ℕ → Type 0) (n : ℕ) (s l : List ℕ) → Writes is n s l → n ≤ length l
+within is n s l w = omega (arith, w .2, ap length (w .3), length-append (w .0) (drop (length (w .0)) s))

@@ -5,6 +5,7 @@
 //! `skvorzhan.h` says what each call checks and writes.
 
 mod captures;
+mod patterns;
 pub mod raw;
 mod records;
 mod running;
@@ -12,6 +13,7 @@ mod schedules;
 mod serving;
 
 pub use captures::*;
+pub use patterns::*;
 pub use raw::{Controller, HostBank, HostGroup, Transaction};
 pub use records::*;
 pub use running::*;

@@ -49,6 +49,16 @@ pub struct ServesAnswer {
 
 #[repr(C)]
 #[derive(Debug, Clone, Copy, PartialEq, Eq)]
+pub struct PatternAnswer {
+    pub refused: u32,
+    pub position: u32,
+    pub edition: u32,
+    pub length: u32,
+    pub count: u32,
+}
+
+#[repr(C)]
+#[derive(Debug, Clone, Copy, PartialEq, Eq)]
 pub struct TableAnswer {
     pub refused: u32,
     pub position: u32,
@@ -200,6 +210,8 @@ extern "C" {
         schedule: *const u8, schedule_len: usize) -> ServesAnswer;
     pub fn skv_serves_later_bytes(expected: u16, table: *const u8, table_len: usize, list: *const u8, list_len: usize,
         schedule: *const u8, schedule_len: usize) -> ServesAnswer;
+    pub fn skv_shortest_pattern(expected: u16, table: *const u8, table_len: usize, kind: u8, bi: u8, bc: u8, most: u32,
+        pattern: *mut u8, pattern_len: usize) -> PatternAnswer;
     pub fn skv_bound(expected: u16, table: *const u8, table_len: usize, bi: u8, bc: u8) -> Answer;
     pub fn skv_start(expected: u16, table: *const u8, table_len: usize) -> ControllerAnswer;
     pub fn skv_run(c: *mut Controller, expected: u16, table: *const u8, table_len: usize, list: *const Transaction, list_len: usize,

@@ -144,6 +144,14 @@ pub const CAPTURES: [&[u8]; 3] = [
     ],
 ];
 
+/// Type, BI, BC and greatest length, of the shortest pattern by table A.
+pub const ASKED: [(u8, u8, u8, u32); 4] = [
+    (1, 2, 2, 128),
+    (0, 3, 1, 128),
+    (0, 1, 1, 37),
+    (0, 1, 6, 128),
+];
+
 impl Case {
     /// The writer's name and answer, and the table as it leaves it: all zeros where it refuses.
     pub fn written(&self) -> (&'static str, Result<u16, Refusal>, Vec<u8>) {

@@ -1,5 +1,6 @@
 use borrow.Author.Needs.{needs}
-use Rattle.listed.proofs.Telling.{writes, call-built, call-refused, call-room}
+use Rattle.text.proofs.Putting.{writes}
+use Rattle.listed.proofs.Telling.{call-built, call-refused, call-room}
 use Rattle.listed.proofs.list_call.Statement.{statement}
 use Rattle.listed.proofs.list_call.Tie as tie
 

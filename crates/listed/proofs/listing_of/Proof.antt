@@ -1,7 +1,8 @@
 use borrow.Author.Needs.{needs}
 use denote.Ref.{now}
+use Rattle.text.proofs.Putting.{writes}
 use Rattle.listed.specs.Listing.{Lists}
-use Rattle.listed.proofs.Telling.{writes, too-short, long-enough}
+use Rattle.listed.proofs.Telling.{too-short, long-enough}
 use Rattle.listed.proofs.listing_of.Statement.{statement}
 use Rattle.listed.proofs.listing_of.Tie as tie
 

@@ -1,7 +1,7 @@
 use borrow.Author.Needs.{needs}
 use mathlib.Core.Path.{sym}
 use lib.Seq.{length-take-le}
-use Rattle.listed.proofs.Telling.{within}
+use Rattle.text.proofs.Putting.{within}
 use Rattle.listings.proofs.list.Statement.{statement}
 use Rattle.listings.proofs.list.Tie as tie
 

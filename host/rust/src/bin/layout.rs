@@ -28,6 +28,7 @@ fn main() {
     layout!("skv_verdict_answer", VerdictAnswer, refused, position, edition, rule, copy, record);
     layout!("skv_capture_answer", CaptureAnswer, refused, position, edition, count, rule, record);
     layout!("skv_serves_answer", ServesAnswer, refused, position, edition, serves, rule, record, transaction);
+    layout!("skv_pattern_answer", PatternAnswer, refused, position, edition, length, count);
     layout!("skv_table_answer", TableAnswer, refused, position, edition, numbers);
     layout!("skv_transaction_answer", TransactionAnswer, refused, position, edition, kind, start, bi, bc, arrival);
     layout!("skv_command_answer", CommandAnswer, refused, position, edition, cycle, kind, bank, number);

@@ -181,7 +181,7 @@ fn alike(where_else: &str, other: &Said, raw: &Said) {
 #[test]
 fn three_texts() {
     let raw = said_in(&read(&root().join("host/rust/src/raw.rs")));
-    assert_eq!(raw.len(), 28 + 15);
+    assert_eq!(raw.len(), 29 + 16);
     let header = said_in_header(&read(&root().join("host/skvorzhan.h")));
     alike("skvorzhan.h", &header, &raw);
     let mut code = String::new();

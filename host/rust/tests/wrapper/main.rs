@@ -5,6 +5,7 @@ mod banks;
 mod captures;
 mod editions;
 mod groups;
+mod patterns;
 mod refreshes;
 mod serving;
 

@@ -106,6 +106,10 @@ fn transaction(a: TransactionAnswer) -> Vec<u32> {
     [&head[..], &x, &[a.arrival]].concat()
 }
 
+fn shortest(a: PatternAnswer) -> Vec<u32> {
+    vec![a.refused, a.position, a.edition, a.length, a.count]
+}
+
 fn captured(a: CaptureAnswer) -> Vec<u32> {
     vec![a.refused, a.position, a.edition, a.count, a.rule, a.record]
 }
@@ -229,6 +233,10 @@ impl Archive {
                 Call::Serves => served(skv_serves(e, t, tn, xs, xn, s, cn)),
                 Call::ServesBytes => served(skv_serves_bytes(e, t, tn, list, bn, s, cn)),
                 Call::ServesLaterBytes => served(skv_serves_later_bytes(e, t, tn, list, bn, s, cn)),
+                Call::ShortestPattern => {
+                    let [kind, bi, bc, _] = four;
+                    shortest(skv_shortest_pattern(e, t, tn, kind, bi, bc, v3, room, rn))
+                }
                 Call::Bound => numbers(skv_bound(e, t, tn, v0 as u8, v1 as u8)),
                 Call::Start => keep(skv_start(e, t, tn)),
                 Call::Run => numbers(skv_run(c, e, t, tn, xs, xn, v0, room, rn)),

@@ -168,6 +168,11 @@ pub fn expected(case: &Case, noise: &Noise) -> Outcome {
         Call::ServesLaterBytes => {
             answer(desk::serves_later_bytes(e, table, bytes, schedule_of).map(served))
         }
+        Call::ShortestPattern => {
+            let (kind, bi, bc) = (a as u8, b as u8, c as u8);
+            let told = desk::shortest_pattern(e, table, kind, bi, bc, d, &mut room);
+            answer(told.map(|s| (s.edition, [s.length, s.commands])))
+        }
         Call::Bound => {
             let told = desk::bound(e, table, a as u8, b as u8);
             answer(told.map(|(edition, bound)| (edition, [bound as u32, 0])))

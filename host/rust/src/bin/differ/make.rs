@@ -4,6 +4,7 @@ mod arrivals;
 mod captures;
 mod groups;
 mod lists;
+mod patterns;
 mod refreshes;
 mod refusals;
 mod schedules;
@@ -20,7 +21,7 @@ pub use states::too_long;
 
 /// How often each call is made, in the order of the header.
 const SHARES: [usize; COUNT] = [
-    4, 3, 3, 2, 2, 2, 2, 1, 2, 1, 2, 4, 4, 12, 6, 6, 14, 10, 12, 8, 4, 4, 3, 1, 14, 6, 6, 8,
+    4, 3, 3, 2, 2, 2, 2, 1, 2, 1, 2, 4, 4, 12, 6, 6, 14, 10, 12, 8, 4, 4, 3, 3, 1, 14, 6, 6, 8,
 ];
 
 /// Case `index` of a seed.
@@ -101,6 +102,7 @@ pub fn case(seed: u64, index: u64) -> Case {
             lists::some(r, &table, &mut case);
             serving::schedule(r, &table, &mut case);
         }
+        Call::ShortestPattern => patterns::some(r, &mut case),
         Call::Bound => {
             tables::some(r, &mut case);
             let number = |r: &mut Random| match r.below(8) {
@@ -164,7 +166,7 @@ fn slots(r: &mut Random, due: usize) -> usize {
 
 /// Cases that random ones seldom meet or may miss: the greatest sizes, a run that idles from the first cycle to the last, lists from every
 /// start, many refreshes, captures up to the last cycle, every count of groups, the last arrivals and pieces cut at every place, long
-/// lists that are served, and every refusal of every call.
+/// lists that are served, the shortest patterns of the house tables, and every refusal of every call.
 pub fn last() -> Vec<Case> {
     let table = |t: &model::desk::Table| bytes_of(t);
     let mut cases = Vec::new();
@@ -225,6 +227,7 @@ pub fn last() -> Vec<Case> {
     cases.extend(groups::all());
     cases.extend(arrivals::all());
     cases.extend(serving::last());
+    cases.extend(patterns::all());
     cases.extend(refusals::all());
     cases
 }

@@ -1,4 +1,4 @@
-//! What an accepted schedule, pattern or capture, or a built schedule, does on the data pins (request 8).
+//! What an accepted schedule, pattern or capture, or a built schedule, or the shortest pattern, does on the data pins (request 8).
 
 use model::pins::{clash, Clash};
 
@@ -16,6 +16,7 @@ pub fn looked_at(case: &Case, told: &Outcome) -> (bool, Option<Clash>) {
         Call::JudgePattern if answer[3] == 0 => (&case.bytes[..], case.values[0], 3),
         Call::JudgeCapture if answer[4] == 0 => (&told.room[..8 * answer[3] as usize], 0, 1),
         call if call.serves() && answer[4] == 0 => (&case.schedule[..], 0, 1),
+        Call::ShortestPattern => (&told.room[..8 * answer[4] as usize], answer[3], 3),
         call if call.builds() => (&told.room[..8 * answer[3] as usize], 0, 1),
         _ => return (false, None),
     };

@@ -10,10 +10,10 @@ use crate::groups::broken_by;
 pub struct Tally {
     calls: [u64; COUNT],
     /// By the refusal's number; 0 is accepted.
-    refused: [[u64; 13]; COUNT],
+    refused: [[u64; 14]; COUNT],
     /// With another edition expected than the table's: those refused by what goes before it, 1 and 2, and in place of 10 what would be told
     /// with the table's own; 0 is nothing.
-    others: [[u64; 13]; COUNT],
+    others: [[u64; 14]; COUNT],
     /// Not refused, with a transaction that goes over the last bank; of these, with one that takes all banks.
     over: [[u64; 2]; COUNT],
     /// Not refused, with a refresh.
@@ -35,11 +35,13 @@ pub struct Tally {
     captures: [u64; 3],
     /// Whether a schedule serves a list: it does, the judge's verdict, a transaction at fault, the list's length.
     served: [[u64; 4]; COUNT],
+    /// Shortest patterns, by how many commands they have.
+    shortest: [u64; 7],
     /// Schedules, patterns and captures whose bursts were looked at on the pins.
     pub pins: u64,
 }
 
-fn by_number(counts: &[u64; 13], numbers: RangeInclusive<usize>) -> String {
+fn by_number(counts: &[u64; 14], numbers: RangeInclusive<usize>) -> String {
     let by: Vec<String> = numbers
         .filter(|&number| counts[number] > 0)
         .map(|number| format!("{number}: {}", counts[number]))
@@ -112,6 +114,7 @@ impl Tally {
                 };
                 self.served[call as usize][kind] += 1;
             }
+            Call::ShortestPattern => self.shortest[told.answer[4] as usize] += 1,
             _ => (),
         }
     }
@@ -121,6 +124,12 @@ impl Tally {
         let mut all = Vec::new();
         if self.pins == 0 {
             all.push("a schedule on the data pins".to_owned());
+        }
+        if self.shortest[2..].contains(&0) {
+            all.push(format!(
+                "shortest patterns of 2 to 6 commands: {:?}",
+                &self.shortest[2..]
+            ));
         }
         for (rule, counts) in [6, 9].iter().zip(&self.by_groups) {
             if counts.contains(&0) {
@@ -153,7 +162,7 @@ impl Tally {
             "", "calls", "not ref."
         );
         for (at, (_, name)) in CALLS.iter().enumerate() {
-            let by = by_number(&self.refused[at], 1..=12);
+            let by = by_number(&self.refused[at], 1..=13);
             let (calls, accepted) = (self.calls[at], self.refused[at][0]);
             println!("{name:28}{calls:>9}{accepted:>9}  {by}");
         }
@@ -161,7 +170,7 @@ impl Tally {
         for (at, (call, name)) in CALLS.iter().enumerate() {
             if call.expects() {
                 let [nothing, first, second, ..] = self.others[at];
-                let rest = by_number(&self.others[at], 3..=12);
+                let rest = by_number(&self.others[at], 3..=13);
                 println!("{name:28}  1: {first}, 2: {second}; 10 with nothing: {nothing}  {rest}");
             }
         }
@@ -224,8 +233,12 @@ impl Tally {
         }
         let [ticks, wraps, late] = self.captures;
         println!("captures not refused, with ticks: {ticks}, with stamps that go round: {wraps}, past cycle 4,000,000,000: {late}");
+        let [_, _, two, three, four, five, six] = self.shortest;
         println!(
-            "accepted or built, and looked at on the data pins, patterns in three copies: {}",
+            "shortest patterns, by commands: 2: {two}, 3: {three}, 4: {four}, 5: {five}, 6: {six}"
+        );
+        println!(
+            "accepted, built or found, and looked at on the data pins, patterns in three copies: {}",
             self.pins
         );
     }

@@ -2,14 +2,18 @@
 //! SKVORZHAN_BEFORE named one when this was built.
 //!
 //!     figures [--emulated]
+//!     figures climb SEED SECONDS
 //!
-//! Emulated, the times are said to be no figures, and the longest of all is left out.
+//! Emulated, the times are said to be no figures, and the longest of all is left out. A climb looks for the costliest search for a shortest
+//! pattern.
 
 mod archives;
 mod builds;
 mod captures;
+mod climb;
 mod judgements;
 mod ordinary;
+mod patterns;
 mod serving;
 mod steps;
 mod waits;
@@ -125,12 +129,19 @@ fn machine(emulated: bool) {
 }
 
 fn main() {
-    let emulated = std::env::args().any(|word| word == "--emulated");
+    let args: Vec<String> = std::env::args().skip(1).collect();
+    if let [word, seed, seconds] = &args[..] {
+        assert_eq!(word, "climb", "figures climb SEED SECONDS");
+        let number = |text: &str| text.parse().expect("a number");
+        return climb::climb(number(seed), number(seconds));
+    }
+    let emulated = args.iter().any(|word| word == "--emulated");
     machine(emulated);
     builds::measure();
     steps::measure(emulated);
     judgements::measure(emulated);
     captures::measure(emulated);
     serving::measure(emulated);
+    patterns::measure(emulated);
     waits::measure(emulated);
 }

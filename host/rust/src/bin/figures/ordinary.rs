@@ -1,9 +1,11 @@
-//! What an ordinary Rust program would do for a schedule, a step, a verdict, a capture and whether a schedule serves a list: state per bank and per group, no proof.
+//! What an ordinary Rust program would do for a schedule, a step, a verdict, a capture, whether a schedule serves a list and a shortest
+//! pattern: state per bank and per group, no proof.
 
 mod capture;
 mod judge;
 mod schedule;
 mod serves;
+mod shortest;
 mod step;
 mod times;
 
@@ -11,6 +13,7 @@ pub use capture::judge_capture;
 pub use judge::judge;
 pub use schedule::{schedule, schedule_bytes};
 pub use serves::serves;
+pub use shortest::{counted, shortest, Asked};
 pub use step::step;
 pub use times::Times;
 

@@ -28,6 +28,7 @@ pub enum Call {
     Serves,
     ServesBytes,
     ServesLaterBytes,
+    ShortestPattern,
     Bound,
     Start,
     Run,
@@ -38,7 +39,7 @@ pub enum Call {
 
 use Call::*;
 
-pub const COUNT: usize = 28;
+pub const COUNT: usize = 29;
 
 /// In the order of the header.
 pub const CALLS: [(Call, &str); COUNT] = [
@@ -64,6 +65,7 @@ pub const CALLS: [(Call, &str); COUNT] = [
     (Serves, "skv_serves"),
     (ServesBytes, "skv_serves_bytes"),
     (ServesLaterBytes, "skv_serves_later_bytes"),
+    (ShortestPattern, "skv_shortest_pattern"),
     (Bound, "skv_bound"),
     (Start, "skv_start"),
     (Run, "skv_run"),
@@ -133,6 +135,7 @@ impl Call {
             JudgePattern => &[1, 2, 10, 7, 8],
             JudgeCapture => &[1, 2, 10, 7, 11, 5],
             Serves | ServesBytes | ServesLaterBytes => &[1, 2, 10, 3, 4, 7],
+            ShortestPattern => &[1, 2, 10, 4, 5, 13],
             Bound => &[1, 2, 10, 4],
             Start => &[1, 2, 10],
             Run | Step | RunBytes | RunLaterBytes => &[1, 2, 10, 3, 4, 5, 9, 12],

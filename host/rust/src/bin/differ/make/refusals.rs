@@ -37,6 +37,7 @@ fn accepted(call: Call) -> Case {
     case.values = match call {
         Call::WriteTransaction | Call::WriteLater => [0, 0, 1, 1, 0],
         Call::Bound => [1, 1, 0, 0, 0],
+        Call::ShortestPattern => [0, 1, 1, 128, 0],
         Call::Step => [0; 5],
         _ => [40, 0, 0, 0, 0],
     };
@@ -45,7 +46,7 @@ fn accepted(call: Call) -> Case {
         Call::WriteLater => 8,
         Call::WriteCommand | Call::Step => 8,
         Call::WriteCaptureRecord => 4,
-        Call::JudgeCapture => 16,
+        Call::JudgeCapture | Call::ShortestPattern => 16,
         Call::WriteGroupTable => 40,
         _ => 32,
     };
@@ -58,6 +59,18 @@ const CAPTURE: [[u8; 4]; 3] = [[255, 255, 0, 0], [3, 0, 255, 0], [9, 0, 2, 0]];
 
 /// Arrivals that are too late.
 const LATE: [u32; 4] = [20_000_001, 20_000_256, 1 << 31, u32::MAX];
+
+/// Type, BI, BC and greatest length, for a table of two banks.
+const NOT_ASKED: [[u32; 4]; 8] = [
+    [2, 1, 1, 128],
+    [0, 0, 1, 128],
+    [0, 1, 0, 128],
+    [0, 1, 6, 128],
+    [1, 1, 1, 0],
+    [1, 1, 1, 129],
+    [1, 3, 1, 128],
+    [255, 255, 255, u32::MAX],
+];
 
 /// A refresh that is none.
 const WITH_BC: [u8; 4] = [2, 0, 0, 1];
@@ -98,6 +111,11 @@ fn refuse(case: &mut Case, number: usize, way: u8) {
         (7, call) if call.serves() => case.schedule.resize(1 + usize::from(way) % 7, 0),
         (7, _) => case.bytes.push(0),
         (4, Call::Bound) => case.values[0] = if way > 1 { 0 } else { 9 },
+        // Neither read nor write, no bank, no data command, seven commands, too short and too long; above banks; nothing within its limits.
+        (4, Call::ShortestPattern) => {
+            case.values[..4].copy_from_slice(&NOT_ASKED[usize::from(way)]);
+            case.table[2] = 2;
+        }
         (4, Call::WriteLater) if way > 3 => case.values[4] = LATE[usize::from(way) - 4],
         (4, Call::WriteTransaction | Call::WriteLater) if way > 1 => {
             case.values[..4].copy_from_slice(&WITH_BC.map(u32::from))
@@ -133,6 +151,8 @@ fn refuse(case: &mut Case, number: usize, way: u8) {
             _ => case.bytes.extend([9, 0, 0, 1, 9, 0, 0, 1]),
         },
         (8, _) => case.values[0] = 0,
+        // Example 8 of document 01: 38 is the least.
+        (13, _) => case.values[3] = 37 - u32::from(way),
         (9, _) => match way {
             0 => case.state[CYCLE] = 100_000_000,
             1 => case.state[EDITION] += 1 << 16,

@@ -236,3 +236,41 @@ fn as_the_model_says() {
     assert!(verdicts.iter().all(|&n| n > 0), "{verdicts:?}");
     assert!(over > 100 && refused > 10, "{over}, {refused}");
 }
+
+/// Every question of any table, each way.
+#[test]
+fn shortest_patterns_as_the_model_says() {
+    let mut numbers = Numbers(77);
+    let mut found = [0; 2];
+    let tables = tables();
+    for round in 0..600 {
+        let mut t = tables[round % tables.len()].clone();
+        for _ in 0..numbers.below(4) {
+            let at = 3 + numbers.below(12);
+            t[at] = (t[at] + numbers.of(&[1, 5, 30])).min(1023);
+            for (long, short) in LONGS {
+                if t.len() > 16 {
+                    t[long] = t[long].max(t[short]);
+                }
+            }
+        }
+        let (edition, table) = (t[0], bytes_of(&t));
+        let (kind, bi, bc) = (
+            numbers.byte() % 2,
+            1 + numbers.byte() % 3,
+            1 + numbers.byte() % 5,
+        );
+        let most = numbers.of(&[20, 50, 127, 128, 128, 129]);
+        let mut room = [9; 48];
+        let told = desk::shortest_pattern(edition, &table, kind, bi, bc, most, &mut room);
+        let right = told.ok().map(|told| told.length);
+        for each in [true, false] {
+            let mut own_room = [9; 48];
+            let asked = Asked { kind, bi, bc, most };
+            let own = shortest(edition, &table, &asked, &mut own_room, each);
+            assert_eq!((own, own_room), (right, room), "{t:?} {asked:?}");
+        }
+        found[usize::from(right.is_some())] += 1;
+    }
+    assert!(found.iter().all(|&n| n > 100), "{found:?}");
+}

@@ -1,9 +1,9 @@
 -- "The judge doesn't look at the transaction number."
 -- Assumes nothing.
-use Prim.Native.Nat.{ℕ, zero, suc}
-use mathlib.Core.Path.{_≡_, refl, ap, _∙_}
+use Prim.Native.Nat.{ℕ, zero, suc, _+_}
+use mathlib.Core.Path.{_≡_, refl, sym, ap, _∙_}
 use mathlib.Core.Bool.{Bool}
-use mathlib.Core.List.{List, [], _∷_}
+use mathlib.Core.List.{List, [], _∷_, _++_}
 use lib.ListN.{length}
 use Rattle.records.specs.Tests.{every, everyBelow}
 use Rattle.records.specs.declared.table.Table.{Table}
@@ -11,14 +11,14 @@ use Rattle.records.specs.declared.command.Kind.{Kind}
 use Rattle.records.specs.declared.command.Kind.the-variants.{Act, Rd, Rda, Wr, Wra, Ref, Other}
 use Rattle.records.specs.declared.command.Command.{Command}
 use Rattle.records.specs.Command.{command}
 use Rattle.rules.specs.declared.verdict.Found.{Found}
 use Rattle.rules.specs.declared.verdict.Found.the-variants.{Fine, Broken}
 use Rattle.rules.specs.declared.verdict.Verdict.{Verdict}
 use Rattle.rules.specs.declared.verdict.Verdict.the-variants.{Refused}
 use Rattle.rules.specs.Kinds.{firstBroken, rulesInOrder}
 use Rattle.rules.specs.History.{inTable, later, openIn, actIn, prechargeIn, actBack, farAct, farData, atRestIn, farRefresh, rulesBy, broken}
-use Rattle.rules.specs.Verdict.{allShut, judgeFrom, judge}
-use Rattle.capture.specs.Written.{unnumbered}
+use Rattle.rules.specs.Verdict.{allShut, judgeFrom, judge, unnumbered}
+use Rattle.rules.specs.Pattern.{moved, copy, endToEnd, EveryNumberLegal}
 
 later-same : (t : ℕ) (h : List Command) → later t (unnumbered h) ≡ later t h
 later-same t [] = refl
@@ -97,3 +97,24 @@ module _ (τ : Table) where
 pub length-unnumbered : (rs : List Command) → length (unnumbered rs) ≡ length rs
 length-unnumbered [] = refl
 length-unnumbered (r ∷ rs) = ap suc (length-unnumbered rs)
+
+-- ---- copies of a pattern
+
+unnumbered-append : (a b : List Command) → unnumbered (a ++ b) ≡ unnumbered a ++ unnumbered b
+unnumbered-append [] b = refl
+unnumbered-append (r ∷ a) b = ap (λ (l : List Command). command (r .cycle) (r .kind) (r .bank) 0 ∷ l) (unnumbered-append a b)
+
+unnumbered-moved : (d : ℕ) (p : List Command) → unnumbered (moved d p) ≡ moved d (unnumbered p)
+unnumbered-moved d [] = refl
+unnumbered-moved d (r ∷ p) = ap (λ (l : List Command). command (r .cycle + d) (r .kind) (r .bank) 0 ∷ l) (unnumbered-moved d p)
+
+module _ (L : ℕ) (p : List Command) where
+  unnumbered-copies : (n k : ℕ) → unnumbered (endToEnd L p n k) ≡ endToEnd L (unnumbered p) n k
+  unnumbered-copies zero k = refl
+  unnumbered-copies (suc n) k =
+      unnumbered-append (copy L p k) (endToEnd L p n (suc k))
+      ∙ (ap (λ (l : List Command). l ++ unnumbered (endToEnd L p n (suc k))) (unnumbered-moved _ p)
+      ∙ ap (λ (l : List Command). copy L (unnumbered p) k ++ l) (unnumbered-copies n (suc k)))
+
+  pub legal-unnumbered : (τ : Table) → EveryNumberLegal τ L p → EveryNumberLegal τ L (unnumbered p)
+  legal-unnumbered τ f n = ap (judge τ) (sym (unnumbered-copies n 0)) ∙ (judge-same τ (endToEnd L p n 0) ∙ f n)

@@ -1,0 +1,13 @@
+pub mod Monotone
+pub mod Shape
+pub mod Lifted
+pub mod LiftTurn
+pub mod Turns
+pub mod Orders
+pub mod Steps
+pub mod Leaf
+pub mod Searching
+pub mod Written
+pub mod Lengths
+pub mod Calls
+pub mod Unique

@@ -1,0 +1,4 @@
+pub mod Shortest
+pub mod Answer
+pub mod Search
+pub mod Lifting
