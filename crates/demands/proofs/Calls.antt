@@ -42,6 +42,7 @@ use Rattle.demands.proofs.NeverRuns.{refused-start}
 use Rattle.demands.proofs.GroupCalls.{of-groups}
 use Rattle.demands.proofs.ArrivalCalls.{of-arrivals}
 use Rattle.demands.proofs.ServesCalls.{of-serves}
+use Rattle.demands.proofs.PatternCalls.{of-patterns}
 use Rattle.demands.proofs.CallLaws.{_⨾_, pattern-tells, build-tells, bytes-tell, some, few-records, many-records, few-captured, many-captured, few-transactions, many-transactions, many-built, many-run, refused-37, left-open, refused-38, refused-49}
 
 of-records : All recordCalls
@@ -254,4 +255,4 @@ of-runs =
     ⨾ tt
 
 pub called : All calls
-called = of-records ⨾ of-judges ⨾ of-captures ⨾ of-lists ⨾ of-schedules ⨾ of-runs ⨾ of-groups ⨾ of-arrivals ⨾ of-serves ⨾ tt
+called = of-records ⨾ of-judges ⨾ of-captures ⨾ of-lists ⨾ of-schedules ⨾ of-runs ⨾ of-groups ⨾ of-arrivals ⨾ of-serves ⨾ of-patterns ⨾ tt

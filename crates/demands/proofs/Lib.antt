@@ -17,6 +17,7 @@ pub mod CallLaws
 pub mod GroupCalls
 pub mod ArrivalCalls
 pub mod ServesCalls
+pub mod PatternCalls
 pub mod Calls
 pub mod Traces
 pub mod Patterns

@@ -29,6 +29,7 @@ use Rattle.desk.specs.Numbers.{telling, tableNumbers, transactionNumbers, comma
 use Rattle.demands.specs.GroupCalls.{groupCalls}
 use Rattle.demands.specs.ArrivalCalls.{arrivalCalls}
 use Rattle.demands.specs.ServesCalls.{servesCalls}
+use Rattle.demands.specs.PatternCalls.{patternCalls}
 use Rattle.demands.specs.Handed.{A, B, C, A50, ccd1, cut, withRfc, R, R200, alone, fine, out, trace, tick, seen, refreshed, gone, lentBefore, told, judges, judgesBytes, Patterns, Traces, bounds, reads, Builds, BuildsBytes, runs, runsBytes, Writes}
 
 -- ---- the calls on one record
@@ -283,4 +284,4 @@ runCalls =
 
 abbrev pub calls : List (Type 0)
 calls =
-    All recordCalls ∷ All judgeCalls ∷ All captureCalls ∷ All listCalls ∷ All scheduleCalls ∷ All runCalls ∷ All groupCalls ∷ All arrivalCalls ∷ All servesCalls ∷ []
+    All recordCalls ∷ All judgeCalls ∷ All captureCalls ∷ All listCalls ∷ All scheduleCalls ∷ All runCalls ∷ All groupCalls ∷ All arrivalCalls ∷ All servesCalls ∷ All patternCalls ∷ []

@@ -8,6 +8,7 @@ pub mod Handed
 pub mod GroupCalls
 pub mod ArrivalCalls
 pub mod ServesCalls
+pub mod PatternCalls
 pub mod Calls
 pub mod OneGroup
 pub mod Pins
