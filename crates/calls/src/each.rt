@@ -23,8 +23,8 @@ use crate::whole::later_schedules;
 use crate::whole::runs;
 use crate::whole::schedules;
 use crate::whole::starts;
-use records::house::table_a;
 use records::transaction::Transaction;
+use tables::house::table_a;
 
 pub(crate) fn of(kind: u8, start: u8, bi: u8, bc: u8) -> Transaction {
     Transaction {
