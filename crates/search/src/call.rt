@@ -1,14 +1,14 @@
 // The shortest pattern, or its refusal.
-use crate::answer::ShortestAnswer;
-use crate::answer::shortest_refusal;
 use crate::least::least;
-use crate::place::records_of;
-use crate::write::write_records;
 use records::refusal::refuse;
 use records::table::Table;
 use records::tests::not_of;
+use shortest::answer::ShortestAnswer;
+use shortest::answer::shortest_refusal;
+use shortest::place::records_of;
+use shortest::write::write_records;
 ghost use Rattle.rules.specs.State.{Held};
 ghost use Rattle.shortest.specs.Answer.{LeavesShortest};
 
 // The table is accepted. Numbers 4 and 5, then the search; number 13 where no pattern is as short. A refusal changes nothing.
 pub fn shortest(t: Table, kind: u8, bi: u8, bc: u8, most: u32, out: &mut [u8]) -> ShortestAnswer

@@ -6,9 +6,9 @@ use mathlib.Core.Logic.{inl, inr}
 use mathlib.Core.Path.{refl, sym, ap, _∙_}
 use lib.ListN.{length}
 use Rattle.records.specs.Told.{refusal}
 use Rattle.shortest.proofs.Calls.{granted, stands}
-use Rattle.shortest.proofs.call.shortest.Statement.{statement}
-use Rattle.shortest.proofs.call.shortest.Tie as tie
+use Rattle.search.proofs.call.shortest.Statement.{statement}
+use Rattle.search.proofs.call.shortest.Tie as tie
 
 returns : tie.Need-returns
 returns c =

@@ -1,19 +1,19 @@
 // The search: each cycle in turn, with fewer cycles left at each deeper call.
-use crate::hope::hope;
-use crate::place::class_of;
-use crate::place::count;
-use crate::place::kind_at;
-use crate::place::put;
-use crate::write::judge_records;
 use records::command::Command;
 use records::table::Table;
 use records::tests::both_of;
+use shortest::hope::hope;
+use shortest::place::class_of;
+use shortest::place::count;
+use shortest::place::kind_at;
+use shortest::place::put;
+use shortest::write::judge_records;
 ghost use mathlib.Core.Path.{_≡_};
 ghost use mathlib.Core.Bool.{true, false, _&&_};
 ghost use Prim.Native.Nat.{suc, _-_, _*_, _≤_, _<_};
 ghost use Rattle.rules.specs.Square.{square};
 ghost use Rattle.rules.specs.State.{Held};
 ghost use Rattle.shortest.specs.Search.{Shaped, Searched};
 
 // What was found: the records, if ok.
 pub struct Out {

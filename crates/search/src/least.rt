@@ -1,14 +1,14 @@
 // The least length, and the pattern of that length that comes first.
-use crate::hope::hope;
-use crate::place::records_of;
 use crate::search::search;
 use records::command::Command;
 use records::command::Kind;
 use records::table::Table;
+use shortest::hope::hope;
+use shortest::place::records_of;
 use timing::square::distances;
 ghost use Prim.Native.Nat.{suc, _*_, _≤_, _<_};
 ghost use Rattle.rules.specs.State.{Held};
 ghost use Rattle.shortest.specs.Search.{FoundLeast};
 
 // The length and its pattern, if there is one.
 pub struct Found {

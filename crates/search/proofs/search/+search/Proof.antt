@@ -5,22 +5,22 @@ use native.Mathlib.Omega.{arith}
 use Prim.Native.Nat.{ℕ, _-_, _<_}
 use mathlib.Core.Path.{_≡_, subst}
 use lib.ListN.{length as lengthOf}
 use Rattle.shortest.specs.Search.{Shaped}
 use Rattle.shortest.proofs.Turns.{shaped-placeable}
 use Rattle.shortest.proofs.Written.{shaped-readable}
 use Rattle.shortest.proofs.Searching.{Choosing, turn-start, turn-skip, turn-shaped, turn-hopeless, turn-nothing, turn-found, turn-end, turn-none, search-leaf}
-use Rattle.shortest.proofs.search.search.Reads as search′
-use Rattle.shortest.proofs.search.search.Kinds as search-kinds
-use Rattle.shortest.proofs.search.+search.Lts-search as search-lts
+use Rattle.search.proofs.search.search.Reads as search′
+use Rattle.search.proofs.search.search.Kinds as search-kinds
+use Rattle.search.proofs.search.+search.Lts-search as search-lts
 use Rattle.shortest.proofs.hope.hope.Reads as hope-reads
 use Rattle.shortest.proofs.place.class_of.Reads as class-of-reads
 use Rattle.shortest.proofs.place.count.Reads as count-reads
 use Rattle.shortest.proofs.place.kind_at.Reads as kind-at-reads
 use Rattle.shortest.proofs.place.put.Reads as put-reads
-use Rattle.shortest.proofs.search.is_choice.Reads as is-choice-reads
+use Rattle.search.proofs.search.is_choice.Reads as is-choice-reads
 use Rattle.shortest.proofs.write.judge_records.Reads as judge-records-reads
-use Rattle.shortest.proofs.search.+search.{statement}
-use Rattle.shortest.proofs.search.+search.Tie.{close}
+use Rattle.search.proofs.search.+search.{statement}
+use Rattle.search.proofs.search.+search.Tie.{close}
 
 -- the cycles that are left
 abbrev μ-search : Measures 0 search-kinds.ps ℕ

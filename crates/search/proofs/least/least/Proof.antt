@@ -5,12 +5,12 @@ use mathlib.Core.Bool.{true, false}
 use mathlib.Core.Path.{_≡_, refl}
 use lib.ListN.{replicate}
 use Rattle.rules.specs.Square.{square}
 use Rattle.shortest.specs.Search.{nil}
 use Rattle.shortest.proofs.Turns.{shaped-placeable}
 use Rattle.shortest.proofs.Leaf.{shaped-start}
 use Rattle.shortest.proofs.Lengths.{NoneBelow, none-first, few-banks, some-records, length-found, length-nothing, length-hopeless, none-left}
-use Rattle.shortest.proofs.least.least.Statement.{statement}
-use Rattle.shortest.proofs.least.least.Tie as tie
+use Rattle.search.proofs.least.least.Statement.{statement}
+use Rattle.search.proofs.least.least.Tie as tie
 
 abbrev Inv-loop : tie.InvT-loop
 Inv-loop t write bi bc most near away n items length₀ length = (near ≡ square t true) × (away ≡ square t false) × (n ≡ bi * suc bc) × (1 ≤ length) × NoneBelow t write bi bc length
