@@ -36,7 +36,7 @@ use Rattle.timing.proofs.Telling.{told-at}
 use Rattle.engine.proofs.Laws.{here, there, data-kinds, act-kinds}
 use Rattle.engine.proofs.Schedule.{find-number}
 use Rattle.earliest.specs.Earliest.{limit, since, gate, actsFrom, datasFrom, restFrom, restsFrom, actFrom, dataFrom, freeFrom, headFrom, actDueFrom, dataDueFrom, actHeadFrom, dataHeadFrom}
-use Rattle.jump.specs.Earlier.{readyFrom, opensFrom}
+use Rattle.soonest.specs.Earlier.{readyFrom, opensFrom}
 use Rattle.jump.proofs.Latest.{le-most}
 
 -- a data command's cycle, an ACT's and a REF's are those of its bank and its type

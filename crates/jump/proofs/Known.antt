@@ -25,9 +25,9 @@ use Rattle.timing.specs.Kept.{stampOf, toldBank, toldGroup, shutKept, quietKept
 use Rattle.timing.proofs.Telling.{refKept}
 use Rattle.engine.proofs.InPlace.{stored, opened}
 use Rattle.earliest.specs.Earliest.{limit, since, gate, actsFrom, actFrom}
-use Rattle.jump.specs.Earlier.{readyFrom, opensFrom}
-use Rattle.jump.specs.Next.{SameBank}
-use Rattle.jump.proofs.Numbers.{most-same, actsAt, acts-told}
+use Rattle.soonest.specs.Earlier.{readyFrom, opensFrom}
+use Rattle.soonest.specs.Next.{SameBank}
+use Rattle.soonest.proofs.Numbers.{most-same, actsAt, acts-told}
 
 -- the cycle of an ACT at the head of its queue, and that of the data queue's head by all but rule 9
 abbrev pub actNow : Table → Kept → Head → ℕ

@@ -19,8 +19,8 @@ use Rattle.rules.proofs.Ranges.{Ranges}
 use Rattle.timing.specs.declared.kept.KeptGroup.{KeptGroup}
 use Rattle.timing.specs.Kept.{stampOf, toldGroup, quietKept, groupOpened, groupMoved}
 use Rattle.earliest.specs.Earliest.{limit, since, mostBelow, actsFrom, farFrom, datasFrom}
-use Rattle.jump.specs.Earlier.{latestOf, sixFrom, nineFrom}
-use Rattle.jump.proofs.Numbers.{most-same, most-one, actsAt, acts-told, acts-one, datasAt, datas-told, datas-one}
+use Rattle.soonest.specs.Earlier.{latestOf, sixFrom, nineFrom}
+use Rattle.soonest.proofs.Numbers.{most-same, most-one, actsAt, acts-told, acts-one, datasAt, datas-told, datas-one}
 
 -- ---- the greatest of many
 

@@ -13,10 +13,8 @@ use borrow.Author.Tests.{leb-false, eq-eqb, not-true}
 use Rattle.records.specs.Tests.{pick}
 use Rattle.records.specs.Told.{putAt}
 use Rattle.records.specs.declared.table.Table.{Table}
-use Rattle.records.specs.declared.command.Kind.{Kind}
-use Rattle.records.specs.declared.command.Kind.the-variants.{Act, Rd, Rda, Wr, Wra, Ref, Other}
 use Rattle.records.specs.Command.{bytesOf}
-use Rattle.rules.specs.Kinds.{isAct, isWr, isRef, isData, inActQueue, canEnd, isKnown}
+use Rattle.rules.specs.Kinds.{isAct, isWr, isRef, isData, inActQueue}
 use Rattle.rules.specs.Square.{square, groupOf}
 use Rattle.rules.specs.State.{isOpen}
 use Rattle.rules.proofs.TestLaws.{true-false, and-fst, and-snd}
@@ -38,13 +36,14 @@ use Rattle.engine.proofs.Laws.{act-kind}
 use Rattle.engine.proofs.Going.{Going, Moving, act-left, data-left}
 use Rattle.engine.proofs.InPlace.{atCycle, stored, opened, data-only, ref-moves, act-stored, data-stored}
 use Rattle.earliest.specs.Earliest.{limit, since, restsFrom, actsFrom, datasFrom, actHeadFrom, dataHeadFrom}
-use Rattle.jump.specs.Earlier.{latestOf, sixFrom, nineFrom, readyFrom, opensFrom}
-use Rattle.jump.specs.Next.{Stood, StaysOpen}
+use Rattle.soonest.specs.Earlier.{latestOf, sixFrom, nineFrom, readyFrom, opensFrom}
+use Rattle.soonest.specs.Next.{Stood, StaysOpen}
 use Rattle.jump.proofs.Latest.{six-is, nine-is, acts-past, datas-past, latest-opened, latest-moved}
 use Rattle.jump.proofs.Heads.{Agree, ready-open, queued, moved, act-number, data-number, from-data, from-act, from-ref, ready-waits}
 use Rattle.jump.proofs.Jumping.{Turn, soon, onward, data-there, moving-data, first-act, act-there, moving-act}
 use Rattle.jump.proofs.Known.{actNow, dataNow, kept-six, act-kept, data-kept, opened-kept, refreshed-kept}
 use Rattle.jump.proofs.Marking.{Marking, marks-it, passes-it}
+use Rattle.jump.proofs.Endings.{data-ends, ref-ends, act-ends}
 
 abbrev pub both : Queue → Queue → Queues
 both a d = record { acts = a; datas = d }
@@ -65,33 +64,6 @@ pub record Straight (τ : Table) (bs : List ℕ) (n : ℕ) (s₀ : Kept) (count 
 known-or : (k : Bool) (v w r : ℕ) → r ≡ pick k v w → (k ≡ true → v ≡ w) → r ≡ w
 known-or true v w r e f = e ∙ f refl
 known-or false v w r e f = e
-
-data-ends : (k : Kind) → isData k ≡ true → (canEnd k ≡ true) × (isKnown k ≡ true)
-data-ends Act e = true-false false e refl
-data-ends Rd e = (refl, refl)
-data-ends Rda e = (refl, refl)
-data-ends Wr e = (refl, refl)
-data-ends Wra e = (refl, refl)
-data-ends Ref e = true-false false e refl
-data-ends (Other n) e = true-false false e refl
-
-ref-ends : (k : Kind) → isRef k ≡ true → (canEnd k ≡ true) × (isKnown k ≡ true)
-ref-ends Act e = true-false false e refl
-ref-ends Rd e = true-false false e refl
-ref-ends Rda e = true-false false e refl
-ref-ends Wr e = true-false false e refl
-ref-ends Wra e = true-false false e refl
-ref-ends Ref e = (refl, refl)
-ref-ends (Other n) e = true-false false e refl
-
-act-ends : (k : Kind) → isAct k ≡ true → (canEnd k ≡ false) × (isKnown k ≡ true)
-act-ends Act e = (refl, refl)
-act-ends Rd e = true-false false e refl
-act-ends Rda e = true-false false e refl
-act-ends Wr e = true-false false e refl
-act-ends Wra e = true-false false e refl
-act-ends Ref e = true-false false e refl
-act-ends (Other n) e = true-false false e refl
 
 -- two banks, or two counts, that a test tells apart
 differ : (x y : ℕ) → not (eqb x y) ≡ true → x ≡ y → ⊥

@@ -1,7 +1,0 @@
-use borrow.Author.Needs.{needs}
-use Rattle.jump.proofs.Numbers.{since-never, since-at}
-use Rattle.jump.proofs.free.since_of.Statement.{statement}
-use Rattle.jump.proofs.free.since_of.Tie as tie
-
-pub since-of-spec : {M : Type 1} → statement M
-since-of-spec = tie.close (tie.spec (λ c. since-never (c .before .args .s) (c .before .args .d) (c .if1 .taken)) (λ c. search needs) (λ c κs. search needs) (λ c. search needs) (λ c. rw (c .sooner-of .ensures) (since-at (c .before .before .args .s) (c .before .before .args .d) (c .before .if1 .left))))
