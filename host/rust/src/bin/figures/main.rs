@@ -11,6 +11,7 @@ mod archives;
 mod builds;
 mod captures;
 mod climb;
+mod engines;
 mod judgements;
 mod ordinary;
 mod patterns;
@@ -97,9 +98,11 @@ fn beside(title: &str, repeats: usize, times_in_call: usize, mut sides: Vec<Side
 }
 
 fn due(list: &[Transaction]) -> usize {
-    list.iter()
-        .map(|x| usize::from(x.bi) * (1 + usize::from(x.bc)))
-        .sum()
+    let one = |x: &Transaction| match x.kind {
+        2 => 1,
+        _ => usize::from(x.bi) * (1 + usize::from(x.bc)),
+    };
+    list.iter().map(one).sum()
 }
 
 fn for_model(list: &[Transaction]) -> Vec<desk::Transaction> {
@@ -138,6 +141,7 @@ fn main() {
     let emulated = args.iter().any(|word| word == "--emulated");
     machine(emulated);
     builds::measure();
+    engines::measure(emulated);
     steps::measure(emulated);
     judgements::measure(emulated);
     captures::measure(emulated);
