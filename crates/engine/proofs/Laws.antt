@@ -30,15 +30,11 @@ use Rattle.heads.specs.declared.head.Head.{Head}
 use Rattle.heads.specs.declared.queue.Queues.{Queues}
 use Rattle.heads.specs.Head.{dueOf}
 use Rattle.heads.specs.Queue.{Listed, BothStand}
-use Rattle.heads.proofs.Laws.{first, first-fits}
+use Rattle.heads.proofs.Laws.{first, first-fits, here}
 use Rattle.choices.specs.Choose.{commandOf, seenAt, dataFree, actFree}
 use Rattle.engine.proofs.Tried.{Asked, apart, ref-rules, data-all, act-all}
 
 -- ---- a head that is tried
-
--- what a head stands for, where one does
-abbrev pub here : Head → Due
-here h = record { kind = h .kind; bank = h .bank; number = h .number; act = h .act; arrival = h .arrival }
 
 module _ (f : Command → Bool) (t : ℕ) (h : Head) where
   is-seen : seen t (dueOf h) ≡ pick (seenAt t h) (some (here h)) none

@@ -29,11 +29,11 @@ use Rattle.heads.specs.declared.head.Head.{Head}
 use Rattle.heads.specs.declared.queue.Queues.{Queues}
 use Rattle.heads.specs.Head.{dueOf}
 use Rattle.heads.specs.Queue.{Listed, BothStand}
-use Rattle.heads.proofs.Laws.{first, length-from, first-fits}
+use Rattle.heads.proofs.Laws.{here, first, length-from, first-fits}
 use Rattle.timing.specs.declared.kept.Kept.{Kept}
 use Rattle.timing.specs.Kept.{stampOf, toldBank, toldGroup, told, shutKept}
 use Rattle.timing.proofs.Telling.{told-at}
-use Rattle.engine.proofs.Laws.{here, there, data-kinds, act-kinds}
+use Rattle.engine.proofs.Laws.{there, data-kinds, act-kinds}
 use Rattle.engine.proofs.Schedule.{find-number}
 use Rattle.earliest.specs.Earliest.{limit, since, gate, actsFrom, datasFrom, restFrom, restsFrom, actFrom, dataFrom, freeFrom, headFrom, actDueFrom, dataDueFrom, actHeadFrom, dataHeadFrom}
 use Rattle.soonest.specs.Earlier.{readyFrom, opensFrom}

@@ -26,7 +26,7 @@ use Rattle.heads.specs.Queue.{queueOf}
 use Rattle.heads.proofs.Laws.{first, head-past}
 use Rattle.choices.specs.Choose.{commandOf}
 use Rattle.engine.specs.Run.{Ready}
-use Rattle.engine.proofs.Laws.{here}
+use Rattle.heads.proofs.Laws.{here}
 use Rattle.engine.proofs.Going.{Going, Moving}
 use Rattle.earliest.specs.Earliest.{limit, headFrom, actDueFrom, dataDueFrom, actHeadFrom, dataHeadFrom}
 use Rattle.earliest.specs.Jump.{atCycle, leavesAt, endsAt, later}

@@ -25,10 +25,9 @@ use Rattle.heads.specs.declared.queue.Place.{Place}
 use Rattle.heads.specs.declared.queue.Queue.{Queue}
 use Rattle.heads.specs.Head.{headOf}
 use Rattle.heads.specs.Queue.{Listed, leftAt, Found}
-use Rattle.heads.proofs.Laws.{first, fits-at, fit-at, head-here, head-past}
+use Rattle.heads.proofs.Laws.{here, first, fits-at, fit-at, head-here, head-past}
 use Rattle.heads.proofs.Standing.{in-bank, asked, stands-here, by-itself, stands}
 use Rattle.timing.specs.Kept.{isClosing}
-use Rattle.engine.proofs.Laws.{here}
 use Rattle.soonest.specs.Next.{Stood}
 
 -- ---- numbers
