@@ -31,6 +31,7 @@ pub record Alike (expected : ℕ) (table : List ℕ) : Type 0 where
   pub scheduleBytes : (later : Bool) (s b₀ f₀ : List ℕ) (x y : BuildAnswer) (b d f g : List ℕ)
       → Schedules (λ τ. checkBytes later τ s) (admitted expected table) (listOf later s) b₀ b f₀ f x
       → Schedules (λ τ. checkBytes later τ s) (admitted expected table) (listOf later s) b₀ d f₀ g y → (x ≡ y) × (b ≡ d) × (f ≡ g)
+  -- a step is the run of one cycle
   pub run : (c₀ : Controller) (l : List Transaction) (n : ℕ) (b₀ : List ℕ) (x y : RunAnswer) (c e : Controller) (b d : List ℕ)
       → Runs (running (λ τ. checkList τ l) (admitted expected table) c₀ l n b₀) x c b → Runs (running (λ τ. checkList τ l) (admitted expected table) c₀ l n b₀) y e d
       → (x ≡ y) × (c ≡ e) × (b ≡ d)

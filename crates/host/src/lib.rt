@@ -5,6 +5,7 @@ pub mod one_record;
 pub mod patterns;
 pub mod running;
 pub mod schedules;
+pub mod second;
 pub mod serving;
 pub mod tracing;
 pub mod transactions;
