@@ -56,6 +56,7 @@ fn in_units(seconds: f64) -> String {
 
 fn ratio(of: f64, to: f64) -> String {
     match of / to {
+        r if r < 0.001 => format!("{r:.1e}"),
         r if r < 0.1 => format!("{r:.4}"),
         r => format!("{r:.2}"),
     }
