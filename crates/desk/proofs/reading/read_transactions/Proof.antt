@@ -1,6 +1,6 @@
--- `desk::transactions::read_later_transactions` meets its contract: a walk of its MIR, by hand. All that it was lent goes on to `read_records`, with records of 8 bytes: the list for good, and copies of what the table and the bytes own.
+-- `desk::reading::read_transactions` meets its contract: a walk of its MIR, by hand. All that it was lent goes on to `read_records`, with records of 4 bytes: the list for good, and copies of what the table and the bytes own.
 -- Assumes nothing.
-use mathlib.Core.Bool.{true}
+use mathlib.Core.Bool.{false}
 use mathlib.Core.Path.{_≡_, refl}
 use Prim.Native.Nat.{ℕ, _<_, _^_}
 use mathlib.Core.List.{[], _∷_, List}
@@ -17,7 +17,7 @@ use ghost.Atoms.{Atoms}
 use contract.Monad.{Fun, fact}
 use contract.Running.{givenOf, tables, tablesOf}
 use types.Kit.{Given, Item, ‵, raw, _⊛_, ⋆, some, later, _$_, _∵_, !, qed, by, move, keep, drop, use1, split, join, pick, fsplit, fjoin, feqL, suffices, frame, await, done}
-use types.Run.{look, init, forget, stop, hop, fld, from, load, true-lit, addr, and-then, no-more, assigns, land, returns, enter, alloc1, alloc0, params1, pass1, pass0, free1, free0}
+use types.Run.{look, init, forget, stop, hop, fld, from, load, false-lit, addr, and-then, no-more, assigns, land, returns, enter, alloc1, alloc0, params1, pass1, pass0, free1, free0}
 use types.Part.{agg, whole, sub, look-in}
 use sound.WpLaws.{FmC, fmOf, WpFn-mono}
 use denote.RattleType.{owns}
@@ -45,14 +45,14 @@ use Rattle.desk.specs.Transactions.{reading}
 use Rattle.records.proofs.transaction.Transaction as T
 use Rattle.lists.proofs.decode.Decoded as R
 use Rattle.lists.proofs.decode.Decoded.Laws as R′
-use Rattle.desk.proofs.transactions.read_records as g
-use Rattle.desk.proofs.transactions.read_records.Symbol as g-def
-use Rattle.desk.proofs.transactions.read_records.Symbol.{name as #read-records}
-use Rattle.desk.proofs.transactions.read_records.Met as g-thm
-use Rattle.desk.proofs.transactions.read_later_transactions.Key.{name as #read-later-transactions}
-use Rattle.desk.proofs.transactions.read_later_transactions as f
-use Rattle.desk.proofs.transactions.read_later_transactions.Statement as stated
-use Rattle.desk.proofs.transactions.read_later_transactions.Code as code
+use Rattle.desk.proofs.reading.read_records as g
+use Rattle.desk.proofs.reading.read_records.Symbol as g-def
+use Rattle.desk.proofs.reading.read_records.Symbol.{name as #read-records}
+use Rattle.desk.proofs.reading.read_records.Met as g-thm
+use Rattle.desk.proofs.reading.read_transactions.Key.{name as #read-transactions}
+use Rattle.desk.proofs.reading.read_transactions as f
+use Rattle.desk.proofs.reading.read_transactions.Statement as stated
+use Rattle.desk.proofs.reading.read_transactions.Code as code
 
 abbrev stayed : Stays (f.ended .signature .params) (f.ended .kept)
 stayed = (stay-none (λ _. u16) yes, (stay-none-slice (0 ∷ []) tt (plain (λ _. u8)) yes, (stay-none-slice (1 ∷ []) tt (plain (λ _. u8)) yes, (gave-slice (2 ∷ []) tt (plain (λ _. T.the-row)), tt))))
@@ -91,7 +91,7 @@ module _ {M : Type 1} (𝓤 : URA M) (H : Heap 𝓤) (A : Atoms 𝓤) (W : Given
 
   -- what `read_records` ensures of its answer and the last list, which is what is asked
   abbrev Said : Decoded → List Transaction → Type 0
-  Said r zs = Decodes (reading true (admitted expected (now table)) (now bytes) (now list)) r zs
+  Said r zs = Decodes (reading false (admitted expected (now table)) (now bytes) (now list)) r zs
 
   abbrev Left : Decoded → Val → List Transaction → List (Item 𝓤)
   Left r v zs = ‵ (R.the-row .own r (v ∷ [])) ∷ Toks ∷ ‵ (finally T.the-row (list .name) zs) ∷ Table ∷ Bytes ∷ []
@@ -104,14 +104,14 @@ module _ {M : Type 1} (𝓤 : URA M) (H : Heap 𝓤) (A : Atoms 𝓤) (W : Given
 
   -- what `read_records` is passed
   abbrev to : Records 𝓤 H A mem run .Ghost
-  to = (((κ₀, (κ₁, (κ₂, tt))), (q₀, (q₁, (q₂, tt))), tt, (expected, (table, (true, (bytes, (list, tt))))), (vint w16 expected ∷ [], (val table ∷ [], (vbool true ∷ [], (val bytes ∷ [], (val list ∷ [], tt)))))), tt)
+  to = (((κ₀, (κ₁, (κ₂, tt))), (q₀, (q₁, (q₂, tt))), tt, (expected, (table, (false, (bytes, (list, tt))))), (vint w16 expected ∷ [], (val table ∷ [], (vbool false ∷ [], (val bytes ∷ [], (val list ∷ [], tt)))))), tt)
 
   abbrev Passed : Item 𝓤
   Passed = ((Table ⊛ Bytes) ⊛ List′) ⊛ Toks
 
   goes : expected < 2 ^ 16 → ent 𝓤 (⋆ 𝓤 H A (Passed ∷ [])) (Records 𝓤 H A mem run .pre to)
   goes ge =
-      qed W (Passed ∷ []) ∵ split ! $ split ! $ split ! $ nothing ! $ move ! (3 ∷ 0 ∷ []) $ fjoin ! $ move ! (2 ∷ 0 ∷ []) $ fjoin ! $ owned ! bool (Is bool) (bool-makes 𝓤 H A W) true _ refl $ fjoin ! $ move ! (1 ∷ 0 ∷ []) $ fjoin ! $
+      qed W (Passed ∷ []) ∵ split ! $ split ! $ split ! $ nothing ! $ move ! (3 ∷ 0 ∷ []) $ fjoin ! $ move ! (2 ∷ 0 ∷ []) $ fjoin ! $ owned ! bool (Is bool) (bool-makes 𝓤 H A W) false _ refl $ fjoin ! $ move ! (1 ∷ 0 ∷ []) $ fjoin ! $
       owned ! u16 (Is u16) (uint-makes 𝓤 H A W w16) expected _ (refl, ge) $ fjoin ! $ move ! (1 ∷ 0 ∷ []) $ join ! $ frame ! $ done !
 
   module _ (C : Calls 𝓤 H) (Λ : Loops 𝓤 H) (fm : FmC 𝓤 H (W .laws) C) (known : Triple 𝓤 (C #read-records) (Records 𝓤 H A mem run)) where
@@ -130,7 +130,7 @@ module _ {M : Type 1} (𝓤 : URA M) (H : Heap 𝓤) (A : Atoms 𝓤) (W : Given
         move ! (2 ∷ []) $ use1 W (Bytes ⊛ Bytes) (shr-slice-copy 𝓤 H A W (named 1) κ₁ u8 .twice bytes (val bytes ∷ [])) $ split ! $
         move ! (2 ∷ 0 ∷ 4 ∷ 5 ∷ []) $ join ! $ join ! $ join ! $ use1 W (raw (Records 𝓤 H A mem run .pre to)) (goes ge) $
         -- [what is passed; the bytes; the table; _6; …; _0; …]
-        calls-at ! fm (Records 𝓤 H A mem run) known to (and-then ! (load ! (from ! (stop !)) (look ! 13 refl)) (and-then ! (load ! (from ! (stop !)) (look ! 11 refl)) (and-then ! (true-lit !) (and-then ! (load ! (from ! (stop !)) (look ! 9 refl)) (and-then ! (load ! (from ! (stop !)) (look ! 3 refl)) (no-more !)))))) (λ v.
+        calls-at ! fm (Records 𝓤 H A mem run) known to (and-then ! (load ! (from ! (stop !)) (look ! 13 refl)) (and-then ! (load ! (from ! (stop !)) (look ! 11 refl)) (and-then ! (false-lit !) (and-then ! (load ! (from ! (stop !)) (look ! 9 refl)) (and-then ! (load ! (from ! (stop !)) (look ! 3 refl)) (no-more !)))))) (λ v.
         use1 W (later (some (λ (r : Decoded). (Toks ⊛ ‵ (R.the-row .own r (v ∷ []))) ⊛ raw (ensured 𝓤 H A g.ended (g.clauses 𝓤 H A mem run) (κ₀, (κ₁, (κ₂, tt))) (to .0 .3) tt r)))) (id⊢ 𝓤 _) $ await ! tt $ pick ! (λ r.
         -- what it ensures, at some last list
         split ! $ move ! (1 ∷ []) $ use1 W (some (λ (zs : Unit {0} × (Unit {0} × (Unit {0} × (Unit {0} × (List Transaction × Unit {0}))))). ‵ (lasts g.ended (κ₀, (κ₁, (κ₂, tt))) (to .0 .3) zs) ⊛ raw (fact 𝓤 (Said r (zs .1 .1 .1 .1 .0))))) (id⊢ 𝓤 _) $ pick ! (λ zs.
@@ -157,10 +157,10 @@ meets 𝓤 H A W mem run 𝓣 known =
     (goes-none 𝓤 H A W 3 (λ _. u16) yes (λ κs x f. refl), (goes-none-slice 𝓤 H A W 3 (0 ∷ []) tt (plain (λ _. u8)) yes, (goes-none-slice 𝓤 H A W 3 (1 ∷ []) tt (plain (λ _. u8)) yes, (goes-gave-slice 𝓤 H A W 3 2 tt (plain (λ _. T.the-row)), tt))))
     (f.clauses 𝓤 H A mem run) (WpFn 𝓤 H (𝓣 .C) (𝓣 .Λ) code.function) (WpFn-mono 𝓤 H (W .laws) 𝓣 code.function) (walks 𝓤 H A W mem run (𝓣 .C) (𝓣 .Λ) (fmOf 𝓤 H (W .laws) 𝓣) known)
 
-pub read-later-transactions-spec : {M : Type 1} → stated.statement M
+pub read-transactions-spec : {M : Type 1} → stated.statement M
 unfolding code.routine tablesOf
-read-later-transactions-spec 𝓤 H 𝓜 𝓖 𝓡 =
+read-transactions-spec 𝓤 H 𝓜 𝓖 𝓡 =
     entered 𝓤 H (tripleOf 𝓤 H (𝓖 .A) f.signature (f.spec 𝓤 H (𝓖 .A) (𝓜 .mem) (𝓡 .run)))
-    (tables 𝓤 H 𝓜 𝓡 code.env .C) (tables 𝓤 H 𝓜 𝓡 code.env .Λ) #read-later-transactions code.function (code.unfolded 𝓤 H 𝓜 𝓡)
+    (tables 𝓤 H 𝓜 𝓡 code.env .C) (tables 𝓤 H 𝓜 𝓡 code.env .Λ) #read-transactions code.function (code.unfolded 𝓤 H 𝓜 𝓡)
     (meets 𝓤 H (𝓖 .A) (givenOf 𝓤 H 𝓜 𝓖) (𝓜 .mem) (𝓡 .run) (tablesOf 𝓤 H 𝓜 (tables 𝓤 H 𝓜 𝓡 code.env))
-    (cited 𝓤 H (Records 𝓤 H (𝓖 .A) (𝓜 .mem) (𝓡 .run)) 𝓜 𝓡 code.env #read-records g-def.routine code.calls-desk·transactions·read-records (g-thm.met 𝓤 H 𝓜 𝓖 𝓡)))
+    (cited 𝓤 H (Records 𝓤 H (𝓖 .A) (𝓜 .mem) (𝓡 .run)) 𝓜 𝓡 code.env #read-records g-def.routine code.calls-desk·reading·read-records (g-thm.met 𝓤 H 𝓜 𝓖 𝓡)))

@@ -1,7 +1,7 @@
 use borrow.Author.Needs.{needs}
 use Rattle.desk.proofs.Told.{plan-read, plan-refused}
-use Rattle.desk.proofs.transactions.plan_reading.Statement.{statement}
-use Rattle.desk.proofs.transactions.plan_reading.Tie as tie
+use Rattle.desk.proofs.reading.plan_reading.Statement.{statement}
+use Rattle.desk.proofs.reading.plan_reading.Tie as tie
 
 returns : tie.Need-returns
 returns c = plan-read _ _ _ (c .before .before .before .before .admit .ensures) _ (c .before .before .t .given .1) _ _ _ _ (c .planned .ensures)

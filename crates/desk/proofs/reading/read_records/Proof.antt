@@ -1,4 +1,4 @@
--- `desk::transactions::read_records` meets its contract: a walk of its MIR, by hand. `plan_reading` decides the answer and how many are stored, and `store` is given the slice for good.
+-- `desk::reading::read_records` meets its contract: a walk of its MIR, by hand. `plan_reading` decides the answer and how many are stored, and `store` is given the slice for good.
 -- Assumes nothing.
 use mathlib.Core.Bool.{Bool}
 use mathlib.Core.Path.{_≡_, refl, _∙_, ap}
@@ -51,18 +51,18 @@ use Rattle.lists.proofs.decode.Plan as P
 use Rattle.lists.proofs.decode.Plan.Laws as P′
 use Rattle.lists.proofs.decode.Decoded as R
 use Rattle.lists.proofs.decode.Decoded.Laws as R′
-use Rattle.desk.proofs.transactions.plan_reading as g
-use Rattle.desk.proofs.transactions.plan_reading.Symbol as g-def
-use Rattle.desk.proofs.transactions.plan_reading.Symbol.{name as #plan-reading}
-use Rattle.desk.proofs.transactions.plan_reading.Met as g-thm
+use Rattle.desk.proofs.reading.plan_reading as g
+use Rattle.desk.proofs.reading.plan_reading.Symbol as g-def
+use Rattle.desk.proofs.reading.plan_reading.Symbol.{name as #plan-reading}
+use Rattle.desk.proofs.reading.plan_reading.Met as g-thm
 use Rattle.lists.proofs.decode.store as h
 use Rattle.lists.proofs.decode.store.Symbol as h-def
 use Rattle.lists.proofs.decode.store.Symbol.{name as #store}
 use Rattle.lists.proofs.decode.store.Met as h-thm
-use Rattle.desk.proofs.transactions.read_records.Key.{name as #read-records}
-use Rattle.desk.proofs.transactions.read_records as f
-use Rattle.desk.proofs.transactions.read_records.Statement as stated
-use Rattle.desk.proofs.transactions.read_records.Code as code
+use Rattle.desk.proofs.reading.read_records.Key.{name as #read-records}
+use Rattle.desk.proofs.reading.read_records as f
+use Rattle.desk.proofs.reading.read_records.Statement as stated
+use Rattle.desk.proofs.reading.read_records.Code as code
 
 abbrev stayed : Stays (f.ended .signature .params) (f.ended .kept)
 stayed = (stay-none (λ _. u16) yes, (stay-none-slice (0 ∷ []) tt (plain (λ _. u8)) yes, (stay-none (λ _. bool) yes, (stay-none-slice (1 ∷ []) tt (plain (λ _. u8)) yes, (gave-slice (2 ∷ []) tt (plain (λ _. T.the-row)), tt)))))
@@ -207,5 +207,5 @@ read-records-spec 𝓤 H 𝓜 𝓖 𝓡 =
     entered 𝓤 H (tripleOf 𝓤 H (𝓖 .A) f.signature (f.spec 𝓤 H (𝓖 .A) (𝓜 .mem) (𝓡 .run)))
     (tables 𝓤 H 𝓜 𝓡 code.env .C) (tables 𝓤 H 𝓜 𝓡 code.env .Λ) #read-records code.function (code.unfolded 𝓤 H 𝓜 𝓡)
     (meets 𝓤 H (𝓖 .A) (givenOf 𝓤 H 𝓜 𝓖) (𝓜 .mem) (𝓡 .run) (tablesOf 𝓤 H 𝓜 (tables 𝓤 H 𝓜 𝓡 code.env))
-    (cited 𝓤 H (Planned 𝓤 H (𝓖 .A) (𝓜 .mem) (𝓡 .run)) 𝓜 𝓡 code.env #plan-reading g-def.routine code.calls-desk·transactions·plan-reading (g-thm.met 𝓤 H 𝓜 𝓖 𝓡))
+    (cited 𝓤 H (Planned 𝓤 H (𝓖 .A) (𝓜 .mem) (𝓡 .run)) 𝓜 𝓡 code.env #plan-reading g-def.routine code.calls-desk·reading·plan-reading (g-thm.met 𝓤 H 𝓜 𝓖 𝓡))
     (cited 𝓤 H (Store 𝓤 H (𝓖 .A) (𝓜 .mem) (𝓡 .run)) 𝓜 𝓡 code.env #store h-def.routine code.calls-lists·decode·store (h-thm.met 𝓤 H 𝓜 𝓖 𝓡)))

@@ -1,4 +1,4 @@
--- `host::transactions::skv_read_transactions` meets its contract: a walk of its MIR, by hand. All that it was lent goes on to `desk::read_transactions`: the list for good, and copies of what the table and the bytes own. `of_read` makes plain numbers of the answer.
+-- `host::reading::skv_read_transactions` meets its contract: a walk of its MIR, by hand. All that it was lent goes on to `desk::read_transactions`: the list for good, and copies of what the table and the bytes own. `of_read` makes plain numbers of the answer.
 -- Assumes nothing.
 use mathlib.Core.Bool.{false}
 use mathlib.Core.Path.{_≡_, refl, _∙_, ap}
@@ -50,18 +50,18 @@ use Rattle.lists.proofs.decode.Decoded as R
 use Rattle.lists.proofs.decode.Decoded.Laws as R′
 use Rattle.answers.proofs.answer.Answer as N
 use Rattle.answers.proofs.answer.Answer.Laws as N′
-use Rattle.desk.proofs.transactions.read_transactions as g
-use Rattle.desk.proofs.transactions.read_transactions.Symbol as g-def
-use Rattle.desk.proofs.transactions.read_transactions.Symbol.{name as #read-transactions}
-use Rattle.desk.proofs.transactions.read_transactions.Met as g-thm
+use Rattle.desk.proofs.reading.read_transactions as g
+use Rattle.desk.proofs.reading.read_transactions.Symbol as g-def
+use Rattle.desk.proofs.reading.read_transactions.Symbol.{name as #read-transactions}
+use Rattle.desk.proofs.reading.read_transactions.Met as g-thm
 use Rattle.answers.proofs.answer.of_read as h
 use Rattle.answers.proofs.answer.of_read.Symbol as h-def
 use Rattle.answers.proofs.answer.of_read.Symbol.{name as #of-read}
 use Rattle.answers.proofs.answer.of_read.Met as h-thm
-use Rattle.host.proofs.transactions.skv_read_transactions.Key.{name as #skv-read-transactions}
-use Rattle.host.proofs.transactions.skv_read_transactions as f
-use Rattle.host.proofs.transactions.skv_read_transactions.Statement as stated
-use Rattle.host.proofs.transactions.skv_read_transactions.Code as code
+use Rattle.host.proofs.reading.skv_read_transactions.Key.{name as #skv-read-transactions}
+use Rattle.host.proofs.reading.skv_read_transactions as f
+use Rattle.host.proofs.reading.skv_read_transactions.Statement as stated
+use Rattle.host.proofs.reading.skv_read_transactions.Code as code
 
 abbrev stayed : Stays (f.ended .signature .params) (f.ended .kept)
 stayed = (stay-none (λ _. u16) yes, (stay-none-slice (0 ∷ []) tt (plain (λ _. u8)) yes, (stay-none-slice (1 ∷ []) tt (plain (λ _. u8)) yes, (gave-slice (2 ∷ []) tt (plain (λ _. T.the-row)), tt))))
@@ -190,5 +190,5 @@ skv-read-transactions-spec 𝓤 H 𝓜 𝓖 𝓡 =
     entered 𝓤 H (tripleOf 𝓤 H (𝓖 .A) f.signature (f.spec 𝓤 H (𝓖 .A) (𝓜 .mem) (𝓡 .run)))
     (tables 𝓤 H 𝓜 𝓡 code.env .C) (tables 𝓤 H 𝓜 𝓡 code.env .Λ) #skv-read-transactions code.function (code.unfolded 𝓤 H 𝓜 𝓡)
     (meets 𝓤 H (𝓖 .A) (givenOf 𝓤 H 𝓜 𝓖) (𝓜 .mem) (𝓡 .run) (tablesOf 𝓤 H 𝓜 (tables 𝓤 H 𝓜 𝓡 code.env))
-    (cited 𝓤 H (Work 𝓤 H (𝓖 .A) (𝓜 .mem) (𝓡 .run)) 𝓜 𝓡 code.env #read-transactions g-def.routine code.calls-desk·transactions·read-transactions (g-thm.met 𝓤 H 𝓜 𝓖 𝓡))
+    (cited 𝓤 H (Work 𝓤 H (𝓖 .A) (𝓜 .mem) (𝓡 .run)) 𝓜 𝓡 code.env #read-transactions g-def.routine code.calls-desk·reading·read-transactions (g-thm.met 𝓤 H 𝓜 𝓖 𝓡))
     (cited 𝓤 H (Numbers 𝓤 H (𝓖 .A) (𝓜 .mem) (𝓡 .run)) 𝓜 𝓡 code.env #of-read h-def.routine code.calls-answers·answer·of-read (h-thm.met 𝓤 H 𝓜 𝓖 𝓡)))
