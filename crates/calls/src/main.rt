@@ -5,8 +5,10 @@ mod each;
 mod found;
 mod lent;
 mod lent_host;
+mod lent_straight;
 mod one_record;
 mod serving;
+mod straight;
 mod told;
 mod whole;
 
