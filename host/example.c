@@ -66,6 +66,16 @@ int main(void) {
     ran = skv_run(&c, expected, table, sizeof table, pieces, 3, 1, again, sizeof again);
     if (ran.refused != 12 || c.lent != 2) return wrong("skv_run");
 
+    /* The second engine builds the same; where a bank that nobody closes is open, it is at the last cycle at once. */
+    uint32_t again_finishes[2];
+    skv_answer straight = skv_schedule_straight(expected, table, sizeof table, list, 2, again, sizeof again, again_finishes, 2);
+    if (straight.refused != 0 || straight.count != 4 || memcmp(again, commands, sizeof commands) != 0) return wrong("skv_schedule_straight");
+    if (memcmp(again_finishes, finishes, sizeof finishes) != 0) return wrong("skv_schedule_straight");
+    c = skv_start(expected, table, sizeof table).controller;
+    c.banks[0].opened = 1;
+    ran = skv_run_straight(&c, expected, table, sizeof table, list, 2, UINT32_MAX, again, sizeof again);
+    if (ran.refused != 0 || ran.count != 0 || ran.cycles != 100000000 || c.cycle != 100000000) return wrong("skv_run_straight");
+
     skv_answer none = skv_schedule(expected, table, sizeof table, list, 2, commands, 31, finishes, 2);
     if (none.refused != 5 || none.edition != 7) return wrong("skv_schedule");
     skv_answer other = skv_schedule(5, table, sizeof table, list, 2, commands, 31, finishes, 2);

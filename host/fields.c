@@ -1,6 +1,7 @@
-/* Every field of every struct, and every parameter of every call, with a value of its own, through the archive. Were two of them in another
- * order here than in the archive, some value would come back elsewhere. Ends with status 1 and the line where one does. */
+/* Every field of every struct, and every parameter of every call, of either engine, with a value of its own, through the archive. Were two of
+ * them in another order here than in the archive, some value would come back elsewhere. Ends with status 1 and the line where one does. */
 #include "fields.h"
+#include "fields_engines.h"
 #include "fields_running.h"
 
 static void one_record(void) {
@@ -54,52 +55,59 @@ static void one_record(void) {
     MUST(r.refused == 7 && r.position == 0 && r.edition == 0 && r.stamp == 0 && r.kind == 0 && r.bank == 0);
 }
 
+static const uint8_t bytes[12] = {1, 2, 3, 4, 0, 5, 6, 7, 0, 16, 1, 1};
+static const skv_transaction untouched = {9, 9, 9, 9, 9};
+/* The first two, 0x010203 cycles later. */
+static const uint8_t laters[16] = {1, 2, 3, 4, 3, 2, 1, 0, 0, 5, 6, 7, 3, 2, 1, 0};
+
 static void lists(void) {
-    const uint8_t bytes[12] = {1, 2, 3, 4, 0, 5, 6, 7, 0, 16, 1, 1};
     const skv_transaction first = {.kind = 1, .start = 2, .bi = 3, .bc = 4}, second = {.kind = 0, .start = 5, .bi = 6, .bc = 7};
-    const skv_transaction third = {.kind = 0, .start = 16, .bi = 1, .bc = 1}, untouched = {9, 9, 9, 9, 9};
     skv_transaction list[3] = {untouched, untouched, untouched};
     MUST(is(skv_read_transactions(EDITION, table, 32, bytes, 8, list, 3), 0, 0, EDITION, 2, 0));
     MUST(same(&list[0], &first, 8) && same(&list[1], &second, 8) && same(&list[2], &untouched, 8));
     MUST(is(skv_read_transactions(EDITION, table, 32, bytes, 8, list, 1), 3, 0, EDITION, 0, 0));
     MUST(is(skv_read_transactions(EDITION, table, 32, bytes, 12, list, 3), 4, 2, EDITION, 0, 0));
     MUST(is(skv_read_transactions(1, table, 32, bytes, 8, list, 3), 10, EDITION, EDITION, 0, 0));
-
-    /* 3 x 5 and 6 x 8 commands. */
-    uint8_t commands[8 * 63], again[8 * 63], start[8];
-    uint32_t finishes[3] = {9, 9, 9}, same_finishes[3] = {9, 9, 9};
-    MUST(is(skv_schedule(EDITION, table, 32, list, 2, commands, sizeof commands, finishes, 3), 0, 0, EDITION, 63, 0));
-    MUST(is(skv_schedule_bytes(EDITION, table, 32, bytes, 8, again, sizeof again, same_finishes, 3), 0, 0, EDITION, 63, 0));
-    put(start, 0, 0, 2, 0);
-    MUST(same(commands, start, 8) && same(commands, again, sizeof commands) && same(finishes, same_finishes, sizeof finishes));
-    skv_command_answer last = skv_read_command(commands + 8 * 62, 8);
-    MUST(last.kind == 2 && last.bank == 10 && last.number == 1 && finishes[1] == last.cycle + 13 + 4 && finishes[2] == 9);
-    /* The same, 0x010203 cycles later. */
-    const uint8_t laters[16] = {1, 2, 3, 4, 3, 2, 1, 0, 0, 5, 6, 7, 3, 2, 1, 0};
     skv_transaction arriving[3] = {untouched, untouched, untouched};
     MUST(is(skv_read_later_transactions(EDITION, table, 32, laters, 16, arriving, 3), 0, 0, EDITION, 2, 0));
     MUST(arriving[0].kind == 1 && arriving[0].bc == 4 && arriving[0].arrival == 0x010203 && same(&arriving[2], &untouched, 8));
     MUST(is(skv_read_later_transactions(EDITION, table, 32, laters, 12, arriving, 3), 3, 0, EDITION, 0, 0));
-    MUST(is(skv_schedule_later_bytes(EDITION, table, 32, laters, 16, again, sizeof again, same_finishes, 3), 0, 0, EDITION, 63, 0));
-    MUST(skv_read_command(again + 8 * 62, 8).cycle == last.cycle + 0x010203 && same_finishes[1] == finishes[1] + 0x010203);
-    MUST(is(skv_schedule(EDITION, table, 32, arriving, 2, commands, sizeof commands, finishes, 3), 0, 0, EDITION, 63, 0));
-    MUST(same(commands, again, sizeof commands) && same(finishes, same_finishes, sizeof finishes));
-    list[2] = third;
-    MUST(is(skv_schedule(EDITION, table, 32, list, 3, commands, sizeof commands, finishes, 3), 4, 2, EDITION, 0, 0));
-    MUST(is(skv_schedule(EDITION, table, 32, list, 2, commands, 8 * 63 - 1, finishes, 3), 5, 0, EDITION, 0, 0));
-    MUST(is(skv_schedule(EDITION, table, 32, list, 2, commands, sizeof commands, finishes, 1), 6, 0, EDITION, 0, 0));
-    MUST(is(skv_schedule_bytes(EDITION, table, 32, bytes, 12, commands, sizeof commands, finishes, 3), 4, 2, EDITION, 0, 0));
-    MUST(is(skv_schedule_bytes(EDITION, table, 32, bytes, 8, commands, 8 * 63 - 1, finishes, 3), 5, 0, EDITION, 0, 0));
-    MUST(is(skv_schedule_bytes(EDITION, table, 32, bytes, 8, commands, sizeof commands, finishes, 1), 6, 0, EDITION, 0, 0));
-    /* A refresh finishes RFC after its REF. */
-    const skv_transaction refresh = {.kind = 2, .start = 0, .bi = 0, .bc = 0};
-    MUST(is(skv_schedule(EDITION, table, 32, &refresh, 1, commands, 8, finishes, 1), 0, 0, EDITION, 1, 0));
-    put(start, 0, 5, 0, 0);
-    MUST(same(commands, start, 8) && finishes[0] == 50);
     /* By the second limit of document 01: S + RCD is 155, to which come D + 1 = 40 for each further bank
      * and CCD = 5 for each further burst. */
     MUST(is(skv_bound(EDITION, table, 32, 4, 2), 0, 0, EDITION, 155 + 3 * 40 + 5, 0));
     MUST(is(skv_bound(EDITION, table, 32, 2, 4), 0, 0, EDITION, 155 + 40 + 3 * 5, 0));
+}
+
+static void schedules(const engine *e) {
+    skv_transaction list[3] = {untouched, untouched, {.kind = 0, .start = 16, .bi = 1, .bc = 1}}, arriving[2];
+    skv_read_transactions(EDITION, table, 32, bytes, 8, list, 2);
+    skv_read_later_transactions(EDITION, table, 32, laters, 16, arriving, 2);
+    /* 3 x 5 and 6 x 8 commands. */
+    uint8_t commands[8 * 63] = {0}, again[8 * 63] = {0}, start[8];
+    uint32_t finishes[3] = {9, 9, 9}, same_finishes[3] = {9, 9, 9};
+    MUST(is(e->schedule(EDITION, table, 32, list, 2, commands, sizeof commands, finishes, 3), 0, 0, EDITION, 63, 0));
+    MUST(is(e->schedule_bytes(EDITION, table, 32, bytes, 8, again, sizeof again, same_finishes, 3), 0, 0, EDITION, 63, 0));
+    put(start, 0, 0, 2, 0);
+    MUST(same(commands, start, 8) && same(commands, again, sizeof commands) && same(finishes, same_finishes, sizeof finishes));
+    skv_command_answer last = skv_read_command(commands + 8 * 62, 8);
+    MUST(last.kind == 2 && last.bank == 10 && last.number == 1 && finishes[1] == last.cycle + 13 + 4 && finishes[2] == 9);
+    MUST(is(e->schedule_later_bytes(EDITION, table, 32, laters, 16, again, sizeof again, same_finishes, 3), 0, 0, EDITION, 63, 0));
+    MUST(skv_read_command(again + 8 * 62, 8).cycle == last.cycle + 0x010203 && same_finishes[1] == finishes[1] + 0x010203);
+    MUST(is(e->schedule(EDITION, table, 32, arriving, 2, commands, sizeof commands, finishes, 3), 0, 0, EDITION, 63, 0));
+    MUST(same(commands, again, sizeof commands) && same(finishes, same_finishes, sizeof finishes));
+    MUST(is(e->schedule(EDITION, table, 32, list, 3, commands, sizeof commands, finishes, 3), 4, 2, EDITION, 0, 0));
+    MUST(is(e->schedule(EDITION, table, 32, list, 2, commands, 8 * 63 - 1, finishes, 3), 5, 0, EDITION, 0, 0));
+    MUST(is(e->schedule(EDITION, table, 32, list, 2, commands, sizeof commands, finishes, 1), 6, 0, EDITION, 0, 0));
+    MUST(is(e->schedule_bytes(EDITION, table, 32, bytes, 12, commands, sizeof commands, finishes, 3), 4, 2, EDITION, 0, 0));
+    MUST(is(e->schedule_bytes(EDITION, table, 32, bytes, 8, commands, 8 * 63 - 1, finishes, 3), 5, 0, EDITION, 0, 0));
+    MUST(is(e->schedule_bytes(EDITION, table, 32, bytes, 8, commands, sizeof commands, finishes, 1), 6, 0, EDITION, 0, 0));
+    MUST(is(e->schedule_later_bytes(EDITION, table, 32, laters, 12, commands, sizeof commands, finishes, 3), 3, 0, EDITION, 0, 0));
+    MUST(is(e->schedule_later_bytes(1, table, 32, laters, 16, commands, sizeof commands, finishes, 3), 10, EDITION, EDITION, 0, 0));
+    /* A refresh finishes RFC after its REF. */
+    const skv_transaction refresh = {.kind = 2, .start = 0, .bi = 0, .bc = 0};
+    MUST(is(e->schedule(EDITION, table, 32, &refresh, 1, commands, 8, finishes, 1), 0, 0, EDITION, 1, 0));
+    put(start, 0, 5, 0, 0);
+    MUST(same(commands, start, 8) && finishes[0] == 50);
 }
 
 static void verdicts(void) {
@@ -196,10 +204,12 @@ static void patterns(void) {
 int main(void) {
     one_record();
     lists();
+    for (int k = 0; k < 2; k++) schedules(&engines[k]);
     verdicts();
     captures();
     serving();
     patterns();
-    running_controllers();
+    fresh_controllers();
+    for (int k = 0; k < 2; k++) running_controllers(&engines[k]);
     return wrong;
 }

@@ -1,5 +1,6 @@
 /*
- * Skvorzhan: SDRAM command schedules. The calls of the archive libhost.a, for C on x86-64.
+ * Skvorzhan: SDRAM command schedules. The calls of the archive libhost.a, for C on x86-64; those of the second engine, which promise the same as
+ * the plain ones, are in skvorzhan_straight.h, which this includes.
  *
  * What holds of every call
  *
@@ -74,9 +75,9 @@ extern "C" {
 #define SKV_NEVER 4294967295u
 
 /* refused: 0, or the number of the refusal; then count and cycles are 0.
- * count: commands written (skv_schedule, skv_run and skv_step, and those from bytes), transactions read (skv_read_transactions and
- * skv_read_later_transactions), or the bound (skv_bound); else 0, for skv_write_command and skv_write_capture_record too. cycles: cycles run
- * (skv_run and skv_step, and those from bytes); else 0. */
+ * count: commands written (skv_schedule, skv_run and skv_step, those from bytes, and those of the second engine), transactions read
+ * (skv_read_transactions and skv_read_later_transactions), or the bound (skv_bound); else 0, for skv_write_command and
+ * skv_write_capture_record too. cycles: cycles run (skv_run and skv_step, and likewise); else 0. */
 typedef struct skv_answer { uint32_t refused, position, edition, count, cycles; } skv_answer;
 
 /* rule: 0 where the schedule or pattern is accepted, else the first broken rule, 1 to 12. copy: the lowest that breaks it, from 1, for a
@@ -293,4 +294,5 @@ skv_controller_answer skv_run_later_bytes(skv_controller c, uint16_t expected, c
 }
 #endif
 
+#include "skvorzhan_straight.h"
 #endif

@@ -1,6 +1,7 @@
 //! What the program `calls` must write. Its cases stand in the program, and in `cases` once more.
 
 mod cases;
+mod engines;
 mod told;
 
 use std::fmt::{Display, Write};
@@ -149,7 +150,7 @@ impl Lines {
         let answer = schedule(expected, &table, &case.list, &mut room, &mut finishes);
         let answer = answer.map(|s| (s.edition, s.commands, 0));
         let rest = [spaced(&finishes), hex(&room)].join(" ");
-        self.line("schedule", &[desk(answer, 2), rest.clone()]);
+        self.line("schedule", &[desk(answer, 2), rest]);
         let verdict = judge(expected, &table, &room).map(|(e, v)| match v {
             Verdict::Accepted => (e, vec![0, 0, 0]),
             Verdict::Broken { rule, record } => (e, vec![rule.into(), 0, record as u32]),
@@ -163,19 +164,7 @@ impl Lines {
             }
         });
         self.line("skv_judge_pattern", &[flat(verdict, |v| v, 3)]);
-        self.line("skv_schedule", &[host(answer), rest]);
-        type Build = fn(u16, &[u8], &[u8], &mut [u8], &mut [u32]) -> Result<Scheduled, Refusal>;
-        let builds: [(&str, Build); 2] = [
-            ("skv_schedule_bytes", schedule_bytes),
-            ("skv_schedule_later_bytes", schedule_later_bytes),
-        ];
-        for (name, build) in builds {
-            let (mut room, mut finishes) = ([0; 96], [9; 4]);
-            let answer = build(expected, &table, case.bytes, &mut room, &mut finishes);
-            let answer = answer.map(|s| (s.edition, s.commands, 0));
-            let rest = [spaced(&finishes), hex(&room)].join(" ");
-            self.line(name, &[host(answer), rest]);
-        }
+        self.builds(case);
         self.serves(expected, &table, &case.list, case.bytes, case.bytes);
         let x = case.list[0];
         let answer = bound(expected, &table, x.bi, x.bc).map(|(e, cycles)| (e, cycles as u32, 0));
@@ -224,39 +213,5 @@ impl Lines {
         let answer = answer.map(|s| (s.edition, s.commands, 0));
         self.line("schedule", &[desk(answer, 2)]);
         self.serves(expected, &table, &of(list), bytes, &room);
-    }
-
-    fn runs(&mut self, case: &Case) {
-        let (expected, table, list) = (case.expected, case.table(), case.list);
-        let (answer, fresh) = start(expected, &table);
-        let answer = answer.map(|e| (e, 0, 0));
-        self.line("start", &[desk(answer, 1), state(&fresh)]);
-        self.line("skv_start", &[host(answer), state(&fresh)]);
-        let (_, begun) = start(case.started_as, &table);
-        let told = |r: Ran| (r.edition, r.commands, r.cycles);
-
-        let (mut ran, mut run_room) = (begun.clone(), [0; 96]);
-        let answer = run(&mut ran, expected, &table, &list, case.count, &mut run_room).map(told);
-        let (mut stepped, mut step_room) = (begun.clone(), [0; 9]);
-        let step_answer = step(&mut stepped, expected, &table, &list, &mut step_room).map(told);
-        self.line("run", &[desk(answer, 3), state(&ran), hex(&run_room)]);
-        let parts = [desk(step_answer, 3), state(&stepped), hex(&step_room)];
-        self.line("step", &parts);
-        self.line("skv_run", &[host(answer), state(&ran), hex(&run_room)]);
-        let parts = [host(step_answer), state(&stepped), hex(&step_room)];
-        self.line("skv_step", &parts);
-
-        type Run = fn(&mut Controller, u16, &[u8], &[u8], u32, &mut [u8]) -> Result<Ran, Refusal>;
-        let runs: [(&str, Run); 2] = [
-            ("skv_run_bytes", run_bytes),
-            ("skv_run_later_bytes", run_later_bytes),
-        ];
-        for (name, run) in runs {
-            let (mut ran, mut room) = (begun.clone(), [0; 96]);
-            let (bytes, count) = (case.bytes, case.count);
-            let answer = run(&mut ran, expected, &table, bytes, count, &mut room);
-            let parts = [host(answer.map(told)), state(&ran), hex(&room)];
-            self.line(name, &parts);
-        }
     }
 }

@@ -11,6 +11,8 @@ mod captures;
 #[cfg(test)]
 mod editions;
 #[cfg(test)]
+mod engines;
+#[cfg(test)]
 mod groups;
 #[cfg(test)]
 mod laws;
@@ -21,6 +23,8 @@ mod refreshes;
 #[cfg(test)]
 mod refusals;
 mod running;
+mod schedules;
+mod straight;
 #[cfg(test)]
 mod table_t;
 #[cfg(test)]
@@ -37,6 +41,9 @@ pub use crate::rules::{PatternVerdict, Verdict};
 pub use crate::scheduler::{Bank, Group, State as Controller, NEVER};
 pub use crate::serves::Served;
 pub use running::{run, run_bytes, run_later_bytes, start, step, step_bytes, Ran};
+pub use schedules::{schedule, schedule_bytes, schedule_later_bytes, Scheduled};
+pub use straight::{run_straight, run_straight_bytes, run_straight_later_bytes, step_straight};
+pub use straight::{schedule_straight, schedule_straight_bytes, schedule_straight_later_bytes};
 
 use crate::records::{EDITION, LATER, PLAIN};
 use crate::shortest::Asked;
@@ -99,55 +106,6 @@ fn read_list(
         edition: table[EDITION],
         transactions: list.len() as u32,
     })
-}
-
-/// What `schedule` answers: how many commands were written.
-#[derive(Debug, Clone, Copy, PartialEq, Eq)]
-pub struct Scheduled {
-    pub edition: u16,
-    pub commands: u32,
-}
-
-/// Numbers 1, 2, 10, and 3 to 6. "Success writes each result from its buffer's start and leaves all beyond as it stood."
-pub fn schedule(
-    expected: u16,
-    table: &[u8],
-    list: &[Transaction],
-    room: &mut [u8],
-    finishes: &mut [u32],
-) -> Result<Scheduled, Refusal> {
-    let table = admit(expected, table)?;
-    let built = scheduler::build(&table, list, room.len(), finishes.len())?;
-    write_commands(&built.commands, room);
-    finishes[..list.len()].copy_from_slice(&built.finishes);
-    Ok(Scheduled {
-        edition: table[EDITION],
-        commands: built.commands.len() as u32,
-    })
-}
-
-/// The same from the transactions' bytes.
-pub fn schedule_bytes(
-    expected: u16,
-    table: &[u8],
-    bytes: &[u8],
-    room: &mut [u8],
-    finishes: &mut [u32],
-) -> Result<Scheduled, Refusal> {
-    let list = scheduler::decode(&admit(expected, table)?, bytes, PLAIN)?;
-    schedule(expected, table, &list, room, finishes)
-}
-
-/// The same from records of 8 bytes.
-pub fn schedule_later_bytes(
-    expected: u16,
-    table: &[u8],
-    bytes: &[u8],
-    room: &mut [u8],
-    finishes: &mut [u32],
-) -> Result<Scheduled, Refusal> {
-    let list = scheduler::decode(&admit(expected, table)?, bytes, LATER)?;
-    schedule(expected, table, &list, room, finishes)
 }
 
 fn write_commands(commands: &[Command], room: &mut [u8]) {

@@ -3,8 +3,10 @@
 #[cfg(test)]
 mod before;
 mod state;
+mod straight;
 
 pub use state::{run, Bank, Group, State, NEVER};
+pub use straight::Engine;
 
 use crate::records::*;
 use crate::rules::{first_broken, Record, Times, ACT, RD, RDA, REF, WR, WRA};
@@ -70,6 +72,14 @@ impl Waiting {
             kind: self.kind,
             bank: self.bank,
             transaction: self.transaction,
+        }
+    }
+
+    fn as_record(&self, cycle: u32) -> Record {
+        Record {
+            cycle: cycle.into(),
+            kind: self.kind,
+            bank: self.bank,
         }
     }
 }
@@ -139,6 +149,7 @@ pub struct Built {
 
 /// Numbers 3 to 6, and then the build. Room in bytes, and the finishing slice's length.
 pub fn build(
+    engine: Engine,
     table: &GroupTable,
     list: &[Transaction],
     room: usize,
@@ -153,7 +164,7 @@ pub fn build(
     if slots < list.len() {
         return refused(table, 6, 0);
     }
-    let commands = from_fresh_start(table, &queues);
+    let commands = from_fresh_start(engine, table, &queues);
     let finishes = list
         .iter()
         .enumerate()
@@ -185,32 +196,30 @@ fn finish(table: &GroupTable, x: &Transaction, last: u32) -> u32 {
         .expect("a list is served long before the last of the 32-bit cycles")
 }
 
-/// Every cycle from 0 is tried, each head against all records that have gone.
-fn from_fresh_start(table: &GroupTable, queues: &Queues) -> Vec<Command> {
+/// From cycle 0 on, each head against all records that have gone.
+fn from_fresh_start(engine: Engine, table: &GroupTable, queues: &Queues) -> Vec<Command> {
     let mut gone: Vec<Record> = Vec::new();
     let mut commands = Vec::new();
     let (mut acts, mut datas) = (0, 0);
     let mut cycle = 0;
     while acts < queues.acts.len() || datas < queues.datas.len() {
-        let as_record = |w: &Waiting| Record {
-            cycle: u64::from(cycle),
-            kind: w.kind,
-            bank: w.bank,
+        let next_at = |cycle: u32| {
+            let goes = |w: &&Waiting| {
+                w.is_seen(cycle) && first_broken(table, &gone, &w.as_record(cycle)).is_none()
+            };
+            let data = queues.datas.get(datas).filter(|w| w.act < acts);
+            data.filter(goes)
+                .or_else(|| queues.acts.get(acts).filter(goes))
         };
-        let goes =
-            |w: &&Waiting| w.is_seen(cycle) && first_broken(table, &gone, &as_record(w)).is_none();
-        let data = queues.datas.get(datas).filter(|w| w.act < acts);
-        let next = data
-            .filter(goes)
-            .or_else(|| queues.acts.get(acts).filter(goes));
-        if let Some(w) = next {
+        cycle = engine.next(cycle, u32::MAX, |cycle| next_at(cycle).is_some());
+        if let Some(w) = next_at(cycle) {
             if w.kind == ACT || w.kind == REF {
                 acts += 1;
             } else {
                 datas += 1;
             }
             commands.push(w.at(cycle));
-            gone.push(as_record(w));
+            gone.push(w.as_record(cycle));
         }
         cycle += 1;
     }

@@ -2,7 +2,7 @@
 use records::refusal::refuse;
 use records::table::Table;
 use records::table::TableRead;
-use records::table::read_table;
+use tables::table::read_table;
 ghost use mathlib.Core.Path.{_≡_};
 ghost use Rattle.admission.specs.Admit.{expects, admitted, byLength, wayIn};
 

@@ -15,6 +15,9 @@ use crate::one_record::table_written;
 use crate::one_record::transaction_written;
 use crate::serving::asked;
 use crate::serving::asked_built;
+use crate::straight::straight_byte_schedules;
+use crate::straight::straight_later_schedules;
+use crate::straight::straight_schedules;
 use crate::told::text;
 use crate::whole::bounded;
 use crate::whole::byte_schedules;
@@ -23,8 +26,8 @@ use crate::whole::later_schedules;
 use crate::whole::runs;
 use crate::whole::schedules;
 use crate::whole::starts;
-use records::house::table_a;
 use records::transaction::Transaction;
+use tables::house::table_a;
 
 pub(crate) fn of(kind: u8, start: u8, bi: u8, bc: u8) -> Transaction {
     Transaction {
@@ -86,8 +89,11 @@ fn all_calls(
     host_read_later(expected, table, bytes, list);
     schedules(expected, table, list, count);
     host_schedules(expected, table, list);
+    straight_schedules(expected, table, list);
     byte_schedules(expected, table, bytes);
+    straight_byte_schedules(expected, table, bytes);
     later_schedules(expected, table, bytes);
+    straight_later_schedules(expected, table, bytes);
     asked(expected, table, list, bytes, bytes);
     bounded(expected, table, x);
     starts(expected, table);

@@ -4,12 +4,12 @@ use answers::answer::Answer;
 use answers::answer::RunAnswer;
 use answers::verdict::ServesAnswer;
 use controller::controller::Controller;
+use host::reading::skv_read_later_transactions;
+use host::reading::skv_read_transactions;
 use host::running::skv_run;
 use host::running::skv_step;
 use host::schedules::skv_schedule;
 use host::serving::skv_serves;
-use host::transactions::skv_read_later_transactions;
-use host::transactions::skv_read_transactions;
 use records::transaction::Transaction;
 
 pub(crate) fn host_read(expected: u16, table: &[u8], bytes: &[u8], list: [Transaction; 3]) {

@@ -5,8 +5,10 @@ mod each;
 mod found;
 mod lent;
 mod lent_host;
+mod lent_straight;
 mod one_record;
 mod serving;
+mod straight;
 mod told;
 mod whole;
 
@@ -16,10 +18,10 @@ use each::group_case;
 use each::of;
 use each::of_built;
 use each::pattern_asked;
-use records::house::table_a;
-use records::house::table_d;
-use records::house::table_t;
-use records::later::arriving;
+use tables::house::table_a;
+use tables::house::table_d;
+use tables::house::table_t;
+use transactions::later::arriving;
 
 fn main() {
     // A write, a read of the same bank, and a read of two banks and two words

@@ -5,6 +5,10 @@ use crate::lent::lent_step;
 use crate::lent_host::host_run;
 use crate::lent_host::host_schedule;
 use crate::lent_host::host_step;
+use crate::straight::straight_byte_runs_of;
+use crate::straight::straight_later_runs_of;
+use crate::straight::straight_runs_of;
+use crate::straight::straight_steps_of;
 use crate::told::built;
 use crate::told::controller;
 use crate::told::hex;
@@ -113,9 +117,13 @@ pub(crate) fn runs(
     runs_of(c, expected, table, list, count);
     steps_of(c, expected, table, list);
     host_runs_of(c, expected, table, list, count);
+    straight_runs_of(c, expected, table, list, count);
     host_steps_of(c, expected, table, list);
+    straight_steps_of(c, expected, table, list);
     byte_runs_of(c, expected, table, bytes, count);
+    straight_byte_runs_of(c, expected, table, bytes, count);
     later_runs_of(c, expected, table, bytes, count);
+    straight_later_runs_of(c, expected, table, bytes, count);
 }
 
 fn runs_of(c: Controller, expected: u16, table: &[u8], list: [Transaction; 3], count: u32) {
@@ -166,7 +174,7 @@ fn later_runs_of(c: Controller, expected: u16, table: &[u8], list: &[u8], count:
     hex(room);
 }
 
-fn host_ran(a: RunAnswer) {
+pub(crate) fn host_ran(a: RunAnswer) {
     let answer = a.answer;
     let c = a.controller;
     numbers(answer);

@@ -4,4 +4,5 @@ pub mod Told
 pub mod Lent
 pub mod Gathering
 pub mod Unique
+pub mod Alike
 pub mod Room

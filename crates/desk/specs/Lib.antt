@@ -9,3 +9,4 @@ pub mod Running
 pub mod Serving
 pub mod Numbers
 pub mod Only
+pub mod Alike

@@ -1,8 +1,8 @@
 // What is the shortest pattern for a type, BI and BC?
 use admission::admit::admit;
 use records::table::TableRead;
+use search::call::shortest;
 use shortest::answer::ShortestAnswer;
-use shortest::call::shortest;
 ghost use Rattle.desk.specs.Admit.{admitted};
 ghost use Rattle.desk.specs.Patterns.{ShortestTold};
 

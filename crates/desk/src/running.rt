@@ -8,11 +8,11 @@ use controller::run::RunTold;
 use lists::packed::gather;
 use records::refusal::Refusal;
 use records::table::TableRead;
-use records::table::table_of;
 use records::transaction::Transaction;
 use runner::running::has_run;
 use runner::running::run_held;
 use runner::running::run_records;
+use tables::table::table_of;
 ghost use mathlib.Core.Bool.{true, false};
 ghost use mathlib.Core.Path.{_≡_};
 ghost use Rattle.records.specs.Transaction.{transactionsIn, laterIn};
@@ -66,7 +66,7 @@ pub fn run_bytes(
 ) -> RunTold
     ensures { λ r. ⌜ LeavesRun (running (λ τ. checkBytes false τ (now (list .entry))) (admitted expected (now (table .entry))) c (transactionsIn (now (list .entry))) count (now (room .entry))) r (now (room .exit)) ⌝ }
 {
-    run_records(c, expected, table, false, list, count, room)
+    run_records(c, expected, table, false, list, count, room, false)
 }
 
 // Of records of 8 bytes.
@@ -80,7 +80,7 @@ pub fn run_later_bytes(
 ) -> RunTold
     ensures { λ r. ⌜ LeavesRun (running (λ τ. checkBytes true τ (now (list .entry))) (admitted expected (now (table .entry))) c (laterIn (now (list .entry))) count (now (room .entry))) r (now (room .exit)) ⌝ }
 {
-    run_records(c, expected, table, true, list, count, room)
+    run_records(c, expected, table, true, list, count, room, false)
 }
 
 // The host's form: the controller is run where it lies, over a lent run of records.
@@ -96,7 +96,7 @@ pub fn run(
 {
     let w = admit_lent(expected, table, list.len());
     let bytes = gather(list, w.n);
-    let o = run_held(*c, w, bytes, count, room);
+    let o = run_held(*c, w, bytes, count, room, false);
     if has_run(o.answer) {
         *c = o.controller;
     }

@@ -21,7 +21,7 @@ pub fn schedule_bytes(
 ) -> BuildAnswer
     ensures { λ r. ⌜ Schedules (λ τ. checkBytes false τ (now (list .entry))) (admitted expected (now (table .entry))) (transactionsIn (now (list .entry))) (now (commands .entry)) (now (commands .exit)) (now (finishes .entry)) (now (finishes .exit)) r ⌝ }
 {
-    schedule_records(expected, table, false, list, commands, finishes)
+    schedule_records(expected, table, false, list, commands, finishes, false)
 }
 
 // Of records of 8 bytes.
@@ -34,7 +34,7 @@ pub fn schedule_later_bytes(
 ) -> BuildAnswer
     ensures { λ r. ⌜ Schedules (λ τ. checkBytes true τ (now (list .entry))) (admitted expected (now (table .entry))) (laterIn (now (list .entry))) (now (commands .entry)) (now (commands .exit)) (now (finishes .entry)) (now (finishes .exit)) r ⌝ }
 {
-    schedule_records(expected, table, true, list, commands, finishes)
+    schedule_records(expected, table, true, list, commands, finishes, false)
 }
 
 // Numbers 1, 2, 10, 3 to 6; then the schedule of a lent run of records.
@@ -49,5 +49,5 @@ pub fn schedule(
 {
     let w = admit_lent(expected, table, list.len());
     let bytes = gather(list, w.n);
-    schedule_held(w, bytes, commands, finishes)
+    schedule_held(w, bytes, commands, finishes, false)
 }

@@ -30,15 +30,11 @@ use Rattle.heads.specs.declared.head.Head.{Head}
 use Rattle.heads.specs.declared.queue.Queues.{Queues}
 use Rattle.heads.specs.Head.{dueOf}
 use Rattle.heads.specs.Queue.{Listed, BothStand}
-use Rattle.heads.proofs.Laws.{first, first-fits}
+use Rattle.heads.proofs.Laws.{first, first-fits, here}
 use Rattle.choices.specs.Choose.{commandOf, seenAt, dataFree, actFree}
 use Rattle.engine.proofs.Tried.{Asked, apart, ref-rules, data-all, act-all}
 
 -- ---- a head that is tried
-
--- what a head stands for, where one does
-abbrev here : Head → Due
-here h = record { kind = h .kind; bank = h .bank; number = h .number; act = h .act; arrival = h .arrival }
 
 module _ (f : Command → Bool) (t : ℕ) (h : Head) where
   is-seen : seen t (dueOf h) ≡ pick (seenAt t h) (some (here h)) none
@@ -80,21 +76,21 @@ module _ (f : Command → Bool) (a d : Head) (acts t : ℕ) (x : Bool) (p : x �
       ∙ (tried-act f t a ∙ ap (λ (y : Bool). pick y (some (commandOf a t)) none) (sym r)))
 
 -- the kinds of what stands in the queues
-data-kinds : (τ : Table) (l : List Transaction) (n : ℕ) → OnSome (λ x. isData (x .kind) ≡ true) (headAfter (dataQueue τ l) n)
+pub data-kinds : (τ : Table) (l : List Transaction) (n : ℕ) → OnSome (λ x. isData (x .kind) ≡ true) (headAfter (dataQueue τ l) n)
 data-kinds τ l n = rw (data-head τ l n) (on (dataPlace l n))
   where
     on : (o : Option Place) → OnSome (λ x. isData (x .kind) ≡ true) (Option·map (dataDue τ) o)
     on none = tt
     on (some p) = is-data (isWrite (p .transaction)) (eqb (p .offset % p .transaction .bc + 1) (p .transaction .bc))
 
-act-kinds : (τ : Table) (l : List Transaction) (n : ℕ) → OnSome (λ x. inActQueue (x .kind) ≡ true) (headAfter (actQueue τ l) n)
+pub act-kinds : (τ : Table) (l : List Transaction) (n : ℕ) → OnSome (λ x. inActQueue (x .kind) ≡ true) (headAfter (actQueue τ l) n)
 act-kinds τ l n = rw (act-head τ l n) (on (actPlace l n))
   where
     on : (o : Option Place) → OnSome (λ x. inActQueue (x .kind) ≡ true) (Option·map (actDue τ) o)
     on none = tt
     on (some p) = act-queued (p .transaction)
 
-act-kind : (k : Kind) → inActQueue k ≡ true → isRef k ≡ false → isAct k ≡ true
+pub act-kind : (k : Kind) → inActQueue k ≡ true → isRef k ≡ false → isAct k ≡ true
 act-kind Act e f = refl
 act-kind Rd e f = e
 act-kind Rda e f = e
@@ -104,7 +100,7 @@ act-kind Ref e f = sym f
 act-kind (Other n) e f = e
 
 -- of a head that stands there
-there : (P : Due → Type 0) (h : Head) → h .there ≡ true → OnSome P (dueOf h) → P (here h)
+pub there : (P : Due → Type 0) (h : Head) → h .there ≡ true → OnSome P (dueOf h) → P (here h)
 there P h e u = subst (λ (b : Bool). OnSome P (pick b (some (here h)) none)) e u
 
 module _ (τ : Table) (bs : List ℕ) (n : ℕ) (s : State) where

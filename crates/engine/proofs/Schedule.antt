@@ -48,7 +48,7 @@ use Rattle.engine.specs.Build.{finishesFrom, Builds}
 
 -- ---- what goes comes from a transaction of the list, and is of a known kind
 
-find-number : (f : Transaction → ℕ) (l : List Transaction) (i a k : ℕ) → OnSome (λ p. p .number < i + length l) (find f l i a k)
+pub find-number : (f : Transaction → ℕ) (l : List Transaction) (i a k : ℕ) → OnSome (λ p. p .number < i + length l) (find f l i a k)
 find-number f [] i a k = tt
 find-number f (x ∷ l) i a k =
     on-pick (λ p. p .number < i + suc (length l)) (ltb k (f x)) (placeOf x i a k) (find f l (suc i) (a + actCount x) (k - f x)) (λ e. omega arith)

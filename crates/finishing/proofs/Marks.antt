@@ -37,7 +37,7 @@ and-false false = refl
 
 module _ (cs : List Command) (f₀ f : List ℕ) (m : Marked cs f₀ f) (c : Command) where
   -- a data command, or a REF, is stored at its number
-  marks : canEnd (c .kind) ≡ true → c .number < length f → Marked (cs ++ (c ∷ [])) f₀ (set f (c .number) (c .cycle))
+  pub marks : canEnd (c .kind) ≡ true → c .number < length f → Marked (cs ++ (c ∷ [])) f₀ (set f (c .number) (c .cycle))
   marks e p = record { size = length-set f (c .number) (c .cycle) ∙ m .size; each = λ k. ⊎-elim (here k) (there k) (same? k (c .number)) }
     where
       at-last : (k : ℕ) (b : Bool) → eqb (c .number) k ≡ b → lastCommand k (cs ++ (c ∷ [])) ≡ pick b (At (c .cycle)) (lastCommand k cs)
@@ -55,7 +55,7 @@ module _ (cs : List Command) (f₀ f : List ℕ) (m : Marked cs f₀ f) (c : Com
           ∙ (m .each k ∙ sym (ap (cycleOr (getD f₀ k 0)) (at-last k false (ne-eqb (c .number) k (λ z. q (sym z))))))
 
   -- an ACT changes nothing
-  passes : canEnd (c .kind) ≡ false → Marked (cs ++ (c ∷ [])) f₀ f
+  pub passes : canEnd (c .kind) ≡ false → Marked (cs ++ (c ∷ [])) f₀ f
   passes e = record { size = m .size; each = λ k. m .each k ∙ sym (ap (cycleOr (getD f₀ k 0)) (same k)) }
     where
       same : (k : ℕ) → lastCommand k (cs ++ (c ∷ [])) ≡ lastCommand k cs

@@ -19,7 +19,12 @@ use Rattle.rules.proofs.Ranges.{ranges}
 use Rattle.rules.proofs.TestLaws.{and-fst, and-snd}
 use Rattle.rules.proofs.Fit.{Fits, AllFit, is-fit, all-fit, plain-count}
 use Rattle.rules.proofs.Queue.{Place, dataCount, placeOf, find, actDue, dataDue, sum, actSum, act-head, data-head, act-length, data-length, at-own, find-end, sum-append}
+use Rattle.heads.specs.declared.head.Head.{Head}
 use Rattle.heads.specs.Queue.{Listed, queueOf, Placed, Found}
+
+-- what a head stands for, where one does
+abbrev pub here : Head → Due
+here h = record { kind = h .kind; bank = h .bank; number = h .number; act = h .act; arrival = h .arrival }
 
 -- the first k transactions
 abbrev pub first : List ℕ → ℕ → List Transaction

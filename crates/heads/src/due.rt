@@ -1,7 +1,7 @@
 // How many commands the list puts into the two queues.
 use crate::queue::size_in;
-use records::later::later_at;
 use records::table::Table;
+use transactions::later::later_at;
 ghost use Rattle.heads.specs.Queue.{Listed, Counted};
 
 pub struct Counts {

@@ -1,7 +1,7 @@
 // What the listing program of document 01 prints for any bytes that it reads. The text always fits into 262,144 bytes: 8,192 commands of at
 // most 25, 256 finishes of at most 39, and a first line.
 use builder::build::BuildAnswer;
-use desk::schedule_bytes;
+use desk::schedule_straight_bytes;
 use lines::answer::put_refusal;
 use lines::answer::put_schedule;
 use records::little::num_at;
@@ -11,7 +11,7 @@ ghost use lib.ListN.{length};
 ghost use Rattle.text.specs.Puts.{Writes};
 ghost use Rattle.listed.specs.Listing.{ListsCall, ListsBehind, Lists};
 
-// The desk's call, in 64 KiB of command room.
+// The desk's call, by the second engine, in 64 KiB of command room.
 fn list_call(expected: u16, table: &[u8], list: &[u8], out: &mut [u8]) -> usize
     requires { ⌜ 262144 ≤ length (now out) ⌝ }
     ensures { λ r. ⌜ Writes (ListsCall expected (now (table .entry)) (now (list .entry))) r (now (out .entry)) (now (out .exit)) ⌝ }
@@ -21,7 +21,7 @@ fn list_call(expected: u16, table: &[u8], list: &[u8], out: &mut [u8]) -> usize
     let commands = &mut room[..];
     let finishes = &mut places[..];
     let n = list.len() / 4;
-    let answer = schedule_bytes(expected, table, list, commands, finishes);
+    let answer = schedule_straight_bytes(expected, table, list, commands, finishes);
     match answer {
         BuildAnswer::Built(edition, written) => {
             put_schedule(out, edition, commands, written, finishes, n)

@@ -1,7 +1,7 @@
 // Lists in the bytes that the covered code reads, eight to a transaction: a lent run of records, gathered, and records of 4 bytes, widened.
 use records::little::put_32;
 use records::transaction::Transaction;
-use records::transaction::transaction_at;
+use transactions::transaction::transaction_at;
 ghost use mathlib.Core.Path.{_≡_};
 ghost use mathlib.Core.List.{[]};
 ghost use Prim.Native.Nat.{_+_, _*_, _≤_};

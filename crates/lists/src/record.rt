@@ -1,7 +1,7 @@
 // A run of records, of 8 bytes each where `later`, else of 4.
-use records::later::later_at;
 use records::transaction::Transaction;
-use records::transaction::transaction_at;
+use transactions::later::later_at;
+use transactions::transaction::transaction_at;
 ghost use mathlib.Core.Path.{_≡_};
 ghost use Prim.Native.Nat.{_%_, _<_};
 ghost use lib.Dec.{eqb};

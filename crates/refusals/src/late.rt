@@ -1,5 +1,5 @@
 // "Each run is lent the whole list so far, and the state tells how many of it were lent before" (document 02, request 9).
-use records::later::later_at;
+use transactions::later::later_at;
 ghost use mathlib.Core.Path.{_≡_};
 ghost use Prim.Native.Nat.{_*_, _≤_};
 ghost use lib.Dec.{ltb};

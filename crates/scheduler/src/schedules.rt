@@ -1,4 +1,4 @@
-// The schedule of the cycle rule, with a finishing cycle for each transaction, behind the desk's calls.
+// The schedule of the cycle rule, with a finishing cycle for each transaction, behind the desk's calls; `second` tells by which engine.
 use admission::admit::WayIn;
 use admission::admit::admit;
 use builder::build::BuildAnswer;
@@ -8,6 +8,7 @@ use lists::check::check_bytes;
 use lists::packed::widen;
 use records::table::Table;
 use records::table::TableRead;
+use straight::build::build_straight;
 ghost use Prim.Native.Nat.{_/_};
 ghost use mathlib.Core.Path.{_≡_};
 ghost use lib.ListN.{length};
@@ -27,11 +28,15 @@ pub fn schedule_packed(
     list: &[u8],
     commands: &mut [u8],
     finishes: &mut [u32],
+    second: bool,
 ) -> BuildAnswer
     requires { ⌜ Listed t (now list) (length (now list) / 8) ⌝ }
     ensures { λ r. ⌜ LeavesBuild t (laterIn (now (list .entry))) (now (commands .entry)) (now (commands .exit)) (now (finishes .entry)) (now (finishes .exit)) r ⌝ }
 {
     let n = list.len() / 8;
+    if second {
+        return build_straight(t, list, n, commands, finishes);
+    }
     build_schedule(t, list, n, commands, finishes)
 }
 
@@ -42,17 +47,18 @@ pub fn schedule_fine(
     list: &[u8],
     commands: &mut [u8],
     finishes: &mut [u32],
+    second: bool,
 ) -> BuildAnswer
     requires { ⌜ Accepted t × (checkBytes later t (now list) ≡ Fine) ⌝ }
     ensures { λ r. ⌜ LeavesBuild t (listOf later (now (list .entry))) (now (commands .entry)) (now (commands .exit)) (now (finishes .entry)) (now (finishes .exit)) r ⌝ }
 {
     if later {
-        return schedule_packed(t, list, commands, finishes);
+        return schedule_packed(t, list, commands, finishes, second);
     }
     let n = list.len() / 4;
     let bytes = widen(list, n);
     let end = 8 * n;
-    schedule_packed(t, &bytes[..end], commands, finishes)
+    schedule_packed(t, &bytes[..end], commands, finishes, second)
 }
 
 // Numbers 3 to 6, by an accepted table; then the schedule.
@@ -62,12 +68,13 @@ pub fn schedule_by(
     list: &[u8],
     commands: &mut [u8],
     finishes: &mut [u32],
+    second: bool,
 ) -> BuildAnswer
     requires { ⌜ Accepted t ⌝ }
     ensures { λ r. ⌜ BuildsChecked (checkBytes later t (now (list .entry))) t (listOf later (now (list .entry))) (now (commands .entry)) (now (commands .exit)) (now (finishes .entry)) (now (finishes .exit)) r ⌝ }
 {
     match check_bytes(t, later, list) {
-        Checked::Fine => schedule_fine(t, later, list, commands, finishes),
+        Checked::Fine => schedule_fine(t, later, list, commands, finishes, second),
         Checked::Refused(r) => BuildAnswer::Refused(r),
     }
 }
@@ -80,11 +87,12 @@ pub fn schedule_records(
     list: &[u8],
     commands: &mut [u8],
     finishes: &mut [u32],
+    second: bool,
 ) -> BuildAnswer
     ensures { λ r. ⌜ Schedules (λ τ. checkBytes later τ (now (list .entry))) (admitted expected (now (table .entry))) (listOf later (now (list .entry))) (now (commands .entry)) (now (commands .exit)) (now (finishes .entry)) (now (finishes .exit)) r ⌝ }
 {
     match admit(expected, table) {
-        TableRead::Read(t) => schedule_by(t, later, list, commands, finishes),
+        TableRead::Read(t) => schedule_by(t, later, list, commands, finishes, second),
         TableRead::Refused(r) => BuildAnswer::Refused(r),
     }
 }
@@ -95,6 +103,7 @@ pub fn schedule_held(
     bytes: [u8; 2048],
     commands: &mut [u8],
     finishes: &mut [u32],
+    second: bool,
 ) -> BuildAnswer
     requires { ⌜ LetIn w ⌝ }
     ensures { λ r. ⌜ Schedules (λ τ. checkList τ (held (w .n) bytes)) (w .table) (held (w .n) bytes) (now (commands .entry)) (now (commands .exit)) (now (finishes .entry)) (now (finishes .exit)) r ⌝ }
@@ -102,7 +111,7 @@ pub fn schedule_held(
     let end = 8 * w.n;
     let table = w.table;
     match table {
-        TableRead::Read(t) => schedule_by(t, true, &bytes[..end], commands, finishes),
+        TableRead::Read(t) => schedule_by(t, true, &bytes[..end], commands, finishes, second),
         TableRead::Refused(r) => BuildAnswer::Refused(r),
     }
 }

@@ -1,12 +1,12 @@
 // After the pass: the first transaction whose REF is before an earlier one's command, or whose commands are not as many as are due.
 use crate::due::due_count;
 use crate::turn::slot_of;
-use records::later::later_at;
 use records::tests::both_of;
 use records::tests::either_of;
 use records::tests::not_of;
 use records::transaction::Transaction;
 use timing::square::greater;
+use transactions::later::later_at;
 ghost use mathlib.Core.Path.{_≡_};
 ghost use Prim.Native.Nat.{_*_, _≤_, _<_};
 ghost use lib.Dec.{eqb};

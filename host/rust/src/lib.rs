@@ -2,7 +2,8 @@
 //!
 //! Any bytes may be handed in. A refused call changes no buffer and no controller. A call that is not refused writes each result from its
 //! buffer's start and leaves all beyond as it stood. Each call that is lent a table is told before it which edition is expected.
-//! `skvorzhan.h` says what each call checks and writes.
+//! `skvorzhan.h` says what each call checks and writes. A call with `straight` in its name does the same as the one without, by the second engine,
+//! which passes over the cycles at which nothing goes.
 
 mod captures;
 mod patterns;
@@ -11,6 +12,7 @@ mod records;
 mod running;
 mod schedules;
 mod serving;
+mod straight;
 
 pub use captures::*;
 pub use patterns::*;
@@ -19,6 +21,7 @@ pub use records::*;
 pub use running::*;
 pub use schedules::*;
 pub use serving::*;
+pub use straight::*;
 
 use raw::Answer;
 use std::fmt;

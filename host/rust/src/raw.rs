@@ -1,7 +1,9 @@
-//! The archive's calls and structs, as `skvorzhan.h` declares them. Nothing checks one against the other but the tests.
+//! The archive's calls and structs, as `skvorzhan.h` and `skvorzhan_straight.h` declare them. Nothing checks one against the other but the tests.
 //!
 //! A slice crosses as a pointer and a number of elements. The pointer is never null, even where the number is 0, which holds of every
 //! Rust slice; what is lent for writing overlaps nothing else that is lent.
+
+pub mod engines;
 
 #[repr(C)]
 #[derive(Debug, Clone, Copy, PartialEq, Eq)]
@@ -168,7 +170,7 @@ pub struct Transaction {
     pub arrival: u32,
 }
 
-/// What `skv_start`, `skv_run_bytes` and `skv_run_later_bytes` hand back.
+/// What `skv_start`, `skv_run_bytes` and `skv_run_later_bytes` hand back, and the last two's of the second engine.
 #[repr(C)]
 #[derive(Debug, Clone, Copy, PartialEq, Eq)]
 pub struct ControllerAnswer {
@@ -222,4 +224,18 @@ extern "C" {
         count: u32, room: *mut u8, room_len: usize) -> ControllerAnswer;
     pub fn skv_run_later_bytes(c: Controller, expected: u16, table: *const u8, table_len: usize, list: *const u8, list_len: usize,
         count: u32, room: *mut u8, room_len: usize) -> ControllerAnswer;
+    pub fn skv_schedule_straight(expected: u16, table: *const u8, table_len: usize, list: *const Transaction, list_len: usize,
+        commands: *mut u8, commands_len: usize, finishes: *mut u32, finishes_len: usize) -> Answer;
+    pub fn skv_schedule_straight_bytes(expected: u16, table: *const u8, table_len: usize, list: *const u8, list_len: usize,
+        commands: *mut u8, commands_len: usize, finishes: *mut u32, finishes_len: usize) -> Answer;
+    pub fn skv_schedule_straight_later_bytes(expected: u16, table: *const u8, table_len: usize, list: *const u8, list_len: usize,
+        commands: *mut u8, commands_len: usize, finishes: *mut u32, finishes_len: usize) -> Answer;
+    pub fn skv_run_straight(c: *mut Controller, expected: u16, table: *const u8, table_len: usize, list: *const Transaction,
+        list_len: usize, count: u32, room: *mut u8, room_len: usize) -> Answer;
+    pub fn skv_step_straight(c: *mut Controller, expected: u16, table: *const u8, table_len: usize, list: *const Transaction,
+        list_len: usize, room: *mut u8, room_len: usize) -> Answer;
+    pub fn skv_run_straight_bytes(c: Controller, expected: u16, table: *const u8, table_len: usize, list: *const u8, list_len: usize,
+        count: u32, room: *mut u8, room_len: usize) -> ControllerAnswer;
+    pub fn skv_run_straight_later_bytes(c: Controller, expected: u16, table: *const u8, table_len: usize, list: *const u8,
+        list_len: usize, count: u32, room: *mut u8, room_len: usize) -> ControllerAnswer;
 }

@@ -33,19 +33,7 @@ pub fn run(
     count: u32,
     room: &mut [u8],
 ) -> Result<Ran, Refusal> {
-    ran(unsafe {
-        skv_run(
-            c,
-            expected,
-            table.as_ptr(),
-            table.len(),
-            list.as_ptr(),
-            list.len(),
-            count,
-            room.as_mut_ptr(),
-            room.len(),
-        )
-    })
+    run_where_it_lies(skv_run, c, expected, table, list, count, room)
 }
 
 /// One cycle.
@@ -56,18 +44,7 @@ pub fn step(
     list: &[Transaction],
     room: &mut [u8],
 ) -> Result<Ran, Refusal> {
-    ran(unsafe {
-        skv_step(
-            c,
-            expected,
-            table.as_ptr(),
-            table.len(),
-            list.as_ptr(),
-            list.len(),
-            room.as_mut_ptr(),
-            room.len(),
-        )
-    })
+    stepped(skv_step, c, expected, table, list, room)
 }
 
 /// As `run`, from the transactions' bytes, with the controller handed in and back.
@@ -94,11 +71,56 @@ pub fn run_later_bytes(
     handed_over(skv_run_later_bytes, c, expected, table, list, count, room)
 }
 
-#[rustfmt::skip]
-type Run = unsafe extern "C" fn(Controller, u16, *const u8, usize, *const u8, usize, u32, *mut u8, usize) -> ControllerAnswer;
+// Each of the following makes a call of either engine.
 
-fn handed_over(
-    run: Run,
+pub(crate) fn run_where_it_lies(
+    run: engines::Run,
+    c: &mut Controller,
+    expected: u16,
+    table: &[u8],
+    list: &[Transaction],
+    count: u32,
+    room: &mut [u8],
+) -> Result<Ran, Refusal> {
+    ran(unsafe {
+        run(
+            c,
+            expected,
+            table.as_ptr(),
+            table.len(),
+            list.as_ptr(),
+            list.len(),
+            count,
+            room.as_mut_ptr(),
+            room.len(),
+        )
+    })
+}
+
+pub(crate) fn stepped(
+    step: engines::Step,
+    c: &mut Controller,
+    expected: u16,
+    table: &[u8],
+    list: &[Transaction],
+    room: &mut [u8],
+) -> Result<Ran, Refusal> {
+    ran(unsafe {
+        step(
+            c,
+            expected,
+            table.as_ptr(),
+            table.len(),
+            list.as_ptr(),
+            list.len(),
+            room.as_mut_ptr(),
+            room.len(),
+        )
+    })
+}
+
+pub(crate) fn handed_over(
+    run: engines::RunBytes,
     c: Controller,
     expected: u16,
     table: &[u8],

@@ -110,12 +110,9 @@ pub fn schedule_later_bytes(
     )
 }
 
-/// Of a list whose entries are `T`: transactions, or bytes.
-#[rustfmt::skip]
-type Schedule<T> = unsafe extern "C" fn(u16, *const u8, usize, *const T, usize, *mut u8, usize, *mut u32, usize) -> Answer;
-
-fn scheduled<T>(
-    build: Schedule<T>,
+/// Of either engine, and of a list whose entries are `T`: transactions, or bytes.
+pub(crate) fn scheduled<T>(
+    build: engines::Schedule<T>,
     expected: u16,
     table: &[u8],
     list: &[T],

@@ -2,7 +2,7 @@
 
 use super::{admit, write_commands, Controller, Refusal, Transaction};
 use crate::records::{EDITION, LATER, PLAIN};
-use crate::scheduler;
+use crate::scheduler::{self, Engine};
 
 /// Numbers 1, 2 and 10. Answers the edition, and hands over a fresh controller: of edition 0 when it refuses.
 pub fn start(expected: u16, table: &[u8]) -> (Result<u16, Refusal>, Controller) {
@@ -30,8 +30,29 @@ pub fn run(
     count: u32,
     room: &mut [u8],
 ) -> Result<Ran, Refusal> {
+    of_list(
+        Engine::Plain,
+        controller,
+        expected,
+        table,
+        list,
+        count,
+        room,
+    )
+}
+
+/// By either engine.
+pub(super) fn of_list(
+    engine: Engine,
+    controller: &mut Controller,
+    expected: u16,
+    table: &[u8],
+    list: &[Transaction],
+    count: u32,
+    room: &mut [u8],
+) -> Result<Ran, Refusal> {
     let table = admit(expected, table)?;
-    let run = scheduler::run(controller, &table, list, count, room.len())?;
+    let run = scheduler::run(engine, controller, &table, list, count, room.len())?;
     write_commands(&run.commands, room);
     *controller = run.state;
     Ok(Ran {
@@ -39,6 +60,20 @@ pub fn run(
         commands: run.commands.len() as u32,
         cycles: run.cycles,
     })
+}
+
+/// By either engine, of records of so many bytes.
+pub(super) fn of_bytes(
+    (engine, of_record): (Engine, usize),
+    controller: &mut Controller,
+    expected: u16,
+    table: &[u8],
+    bytes: &[u8],
+    count: u32,
+    room: &mut [u8],
+) -> Result<Ran, Refusal> {
+    let list = scheduler::decode(&admit(expected, table)?, bytes, of_record)?;
+    of_list(engine, controller, expected, table, &list, count, room)
 }
 
 /// The same from the transactions' bytes.
@@ -50,8 +85,8 @@ pub fn run_bytes(
     count: u32,
     room: &mut [u8],
 ) -> Result<Ran, Refusal> {
-    let list = scheduler::decode(&admit(expected, table)?, bytes, PLAIN)?;
-    run(controller, expected, table, &list, count, room)
+    let of = (Engine::Plain, PLAIN);
+    of_bytes(of, controller, expected, table, bytes, count, room)
 }
 
 /// The same from records of 8 bytes.
@@ -63,8 +98,8 @@ pub fn run_later_bytes(
     count: u32,
     room: &mut [u8],
 ) -> Result<Ran, Refusal> {
-    let list = scheduler::decode(&admit(expected, table)?, bytes, LATER)?;
-    run(controller, expected, table, &list, count, room)
+    let of = (Engine::Plain, LATER);
+    of_bytes(of, controller, expected, table, bytes, count, room)
 }
 
 /// One cycle.

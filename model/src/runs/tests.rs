@@ -1,5 +1,7 @@
 //! What the cases meet.
 
+mod engines;
+
 use super::*;
 use crate::house::*;
 use crate::records::EDITION;

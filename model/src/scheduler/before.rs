@@ -279,7 +279,8 @@ fn runs() {
             state.groups[0] = Group { act, rd, wr };
         }
         let count = 400;
-        let present = run(&state, &table, &list, count, 1 << 16).expect("nothing is refused");
+        let present = run(Engine::Plain, &state, &table, &list, count, 1 << 16);
+        let present = present.expect("nothing is refused");
         let queues = Queues::of(&table, &list);
         let (rd, wr) = (state.groups[0].rd, state.groups[0].wr);
         let mut old = Old { state, rd, wr };

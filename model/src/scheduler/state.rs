@@ -1,6 +1,6 @@
 //! "Running a few cycles": the cycle rule by what a state tells.
 
-use super::{check_list, refused, Queues, Waiting, MOST_TRANSACTIONS};
+use super::{check_list, refused, Engine, Queues, Waiting, MOST_TRANSACTIONS};
 use crate::records::{Command, GroupTable, Refusal, Transaction, BANKS, EDITION, GROUPS};
 use crate::rules::{Times, ACT, RD, RDA, REF, WR};
 
@@ -152,8 +152,8 @@ impl State {
         }
     }
 
-    /// One step of the cycle rule.
-    fn step(&mut self, t: &Times, queues: &Queues) -> Option<Command> {
+    /// What goes at its cycle.
+    fn next<'a>(&self, t: &Times, queues: &'a Queues) -> Option<&'a Waiting> {
         let seen = |w: &&Waiting| w.is_seen(self.cycle);
         let data = queues.datas.get(self.datas as usize).filter(seen);
         let data = data.filter(|w| w.act < self.acts as usize && self.data_goes(t, w));
@@ -162,7 +162,19 @@ impl State {
             REF => self.refresh_goes(t),
             _ => self.act_goes(t, w),
         };
-        let next = data.or_else(|| act.filter(act_goes));
+        data.or_else(|| act.filter(act_goes))
+    }
+
+    /// Whether something goes at another cycle, were nothing to go before.
+    fn goes_at(&self, cycle: u32, t: &Times, queues: &Queues) -> bool {
+        let mut then = self.clone();
+        then.cycle = cycle;
+        then.next(t, queues).is_some()
+    }
+
+    /// One step of the cycle rule.
+    fn step(&mut self, t: &Times, queues: &Queues) -> Option<Command> {
+        let next = self.next(t, queues);
         let gone = next.map(|w| w.at(self.cycle));
         if let Some(w) = next {
             self.note(t, w);
@@ -210,6 +222,7 @@ pub struct Run {
 
 /// Numbers 3, 4, 5, 9 and 12, and then the run. Room in bytes.
 pub fn run(
+    engine: Engine,
     state: &State,
     table: &GroupTable,
     list: &[Transaction],
@@ -236,6 +249,14 @@ pub fn run(
     let mut commands = Vec::new();
     let mut cycles = 0;
     while cycles < count && !state.served(&queues) && state.cycle < LAST_CYCLE {
+        // Where the run stops if nothing goes before; that cycle is not tried.
+        let end = LAST_CYCLE.min(state.cycle.saturating_add(count - cycles));
+        let next = engine.next(state.cycle, end, |c| state.goes_at(c, &times, &queues));
+        cycles += next - state.cycle;
+        state.cycle = next;
+        if next == end {
+            break;
+        }
         commands.extend(state.step(&times, &queues));
         cycles += 1;
     }

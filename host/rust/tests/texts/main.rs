@@ -181,9 +181,18 @@ fn alike(where_else: &str, other: &Said, raw: &Said) {
 #[test]
 fn three_texts() {
     let raw = said_in(&read(&root().join("host/rust/src/raw.rs")));
-    assert_eq!(raw.len(), 29 + 16);
-    let header = said_in_header(&read(&root().join("host/skvorzhan.h")));
-    alike("skvorzhan.h", &header, &raw);
+    assert_eq!(raw.len(), 36 + 16);
+    // The second header stands in the first.
+    let mut header = said_in_header(&read(&root().join("host/skvorzhan.h")));
+    for (name, said) in said_in_header(&read(&root().join("host/skvorzhan_straight.h"))) {
+        assert!(header.insert(name, said).is_none());
+    }
+    alike("the headers", &header, &raw);
+    // A call of the second engine is the plain one but for its name.
+    let straight = raw.iter().filter(|(name, _)| name.contains("_straight"));
+    let plain = |name: &str| raw.get(&name.replace("_straight", ""));
+    let alike_but_for_names = straight.filter(|(name, said)| plain(name) == Some(said));
+    assert_eq!(alike_but_for_names.count(), 7);
     let mut code = String::new();
     code_below(&root().join("crates"), &mut code);
     alike("the Rattle code", &said_in(&code), &raw);

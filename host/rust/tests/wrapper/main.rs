@@ -1,4 +1,4 @@
-//! Document 01's examples through the safe functions, and a refusal of each kind.
+//! Document 01's examples through the safe functions, by both engines, and a refusal of each kind.
 
 mod arrivals;
 mod banks;
@@ -8,6 +8,7 @@ mod groups;
 mod patterns;
 mod refreshes;
 mod serving;
+mod straight;
 
 use skvorzhan::*;
 
@@ -41,6 +42,38 @@ fn refused<T: std::fmt::Debug>(told: Result<T, Refusal>) -> (u32, u32, u32) {
 
 /// Cycle, kind, bank, number.
 type Told = (u32, u8, u8, u16);
+
+/// By both engines, which answer and write the same.
+fn schedule(
+    expected: u16,
+    table: &[u8],
+    list: &[Transaction],
+    commands: &mut [u8],
+    finishes: &mut [u32],
+) -> Result<Scheduled, Refusal> {
+    let (mut same, mut same_finishes) = (commands.to_vec(), finishes.to_vec());
+    let straight = schedule_straight(expected, table, list, &mut same, &mut same_finishes);
+    let told = skvorzhan::schedule(expected, table, list, commands, finishes);
+    assert_eq!((straight, &same[..]), (told, &commands[..]));
+    assert_eq!(same_finishes, finishes);
+    told
+}
+
+/// By both engines, which answer, write and leave the same.
+fn run(
+    c: &mut Controller,
+    expected: u16,
+    table: &[u8],
+    list: &[Transaction],
+    count: u32,
+    room: &mut [u8],
+) -> Result<Ran, Refusal> {
+    let (mut left, mut same) = (*c, room.to_vec());
+    let straight = run_straight(&mut left, expected, table, list, count, &mut same);
+    let told = skvorzhan::run(c, expected, table, list, count, room);
+    assert_eq!((straight, left, &same[..]), (told, *c, &room[..]));
+    told
+}
 
 /// The commands, the finishing cycles, and the commands' bytes.
 fn built(list: &[Transaction]) -> (Vec<Told>, Vec<u32>, Vec<u8>) {

@@ -42,7 +42,7 @@ fn run() {
     let mut c = start(70, &table).expect("the table is accepted");
     assert_eq!(c.refresh, NEVER);
     let mut room = [0; 24];
-    let ran = skvorzhan::run(&mut c, 70, &table, &list, 20, &mut room);
+    let ran = super::run(&mut c, 70, &table, &list, 20, &mut room);
     assert_eq!(ran.map(|r| (r.commands, r.cycles)), Ok((1, 20)));
     assert_eq!((c.cycle, c.acts, c.datas, c.refresh), (20, 1, 0, 0));
     let (c, ran) = run_bytes(c, 70, &table, &[2, 0, 0, 0, 0, 0, 1, 1], 99, &mut room[8..]);
@@ -52,7 +52,7 @@ fn run() {
     assert_eq!(room[..], whole);
     let mut late = c;
     late.refresh = late.cycle;
-    let ran = skvorzhan::run(&mut late, 70, &table, &list, 1, &mut room);
+    let ran = super::run(&mut late, 70, &table, &list, 1, &mut room);
     assert_eq!(refused(ran), (9, 0, 70));
 }
 

@@ -53,10 +53,10 @@ use Rattle.calls.proofs.told.answered as g
 use Rattle.calls.proofs.told.answered.Symbol as g-def
 use Rattle.calls.proofs.told.answered.Symbol.{name as #answered}
 use Rattle.calls.proofs.told.answered.Met as g-thm
-use Rattle.host.proofs.transactions.skv_read_transactions as h
-use Rattle.host.proofs.transactions.skv_read_transactions.Symbol as h-def
-use Rattle.host.proofs.transactions.skv_read_transactions.Symbol.{name as #skv-read-transactions}
-use Rattle.host.proofs.transactions.skv_read_transactions.Met as h-thm
+use Rattle.host.proofs.reading.skv_read_transactions as h
+use Rattle.host.proofs.reading.skv_read_transactions.Symbol as h-def
+use Rattle.host.proofs.reading.skv_read_transactions.Symbol.{name as #skv-read-transactions}
+use Rattle.host.proofs.reading.skv_read_transactions.Met as h-thm
 use Rattle.calls.proofs.lent_host.host_read.Key.{name as #host-read}
 use Rattle.calls.proofs.lent_host.host_read as f
 use Rattle.calls.proofs.lent_host.host_read.Statement as stated
@@ -211,4 +211,4 @@ host-read-spec 𝓤 H 𝓜 𝓖 𝓡 =
     (tables 𝓤 H 𝓜 𝓡 code.env .C) (tables 𝓤 H 𝓜 𝓡 code.env .Λ) #host-read code.function (code.unfolded 𝓤 H 𝓜 𝓡)
     (meets 𝓤 H (𝓖 .A) (givenOf 𝓤 H 𝓜 𝓖) (𝓜 .mem) (𝓡 .run) (tablesOf 𝓤 H 𝓜 (tables 𝓤 H 𝓜 𝓡 code.env))
     (cited 𝓤 H (Tell 𝓤 H (𝓖 .A) (𝓜 .mem) (𝓡 .run)) 𝓜 𝓡 code.env #answered g-def.routine code.calls-calls·told·answered (g-thm.met 𝓤 H 𝓜 𝓖 𝓡))
-    (cited 𝓤 H (Work 𝓤 H (𝓖 .A) (𝓜 .mem) (𝓡 .run)) 𝓜 𝓡 code.env #skv-read-transactions h-def.routine code.calls-host·transactions·skv-read-transactions (h-thm.met 𝓤 H 𝓜 𝓖 𝓡)))
+    (cited 𝓤 H (Work 𝓤 H (𝓖 .A) (𝓜 .mem) (𝓡 .run)) 𝓜 𝓡 code.env #skv-read-transactions h-def.routine code.calls-host·reading·skv-read-transactions (h-thm.met 𝓤 H 𝓜 𝓖 𝓡)))

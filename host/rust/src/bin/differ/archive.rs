@@ -1,12 +1,15 @@
 //! A case put through the archive, in memory that shows what was touched.
 
+mod flat;
 mod long;
 
+use flat::*;
 pub use long::ENTRIES;
+use skvorzhan::raw::engines::{Engine, PLAIN, STRAIGHT};
 use skvorzhan::raw::*;
 use std::mem::size_of;
 
-use crate::case::{fresh, Call, Case, State, BANKS, GROUPS, LAST, LENT, NUMBERS, REFRESH};
+use crate::case::{Call, Case, NUMBERS};
 use crate::expected::Outcome;
 use crate::numbers::Noise;
 
@@ -29,95 +32,12 @@ pub struct Archive {
     pub noise: Noise,
 }
 
-/// The numbers of a controller where it lies: it has no other bytes.
-fn state_now(bytes: &[u8]) -> State {
-    let mut s = [0; NUMBERS];
-    for (number, word) in s.iter_mut().zip(bytes.chunks_exact(4)) {
-        *number = u32::from_le_bytes([word[0], word[1], word[2], word[3]]);
+/// The engine that the call is made of.
+fn engine(case: &Case) -> &'static Engine {
+    match case.straight {
+        true => &STRAIGHT,
+        false => &PLAIN,
     }
-    s
-}
-
-fn controller(s: &State) -> Controller {
-    let mut banks = [HostBank {
-        opened: 0,
-        act: 0,
-        rd: 0,
-        wr: 0,
-    }; 16];
-    for (bank, n) in banks.iter_mut().zip(s[BANKS..LAST].chunks_exact(4)) {
-        *bank = HostBank {
-            opened: n[0],
-            act: n[1],
-            rd: n[2],
-            wr: n[3],
-        };
-    }
-    let mut groups = [HostGroup {
-        act: 0,
-        rd: 0,
-        wr: 0,
-    }; 8];
-    for (group, n) in groups.iter_mut().zip(s[GROUPS..REFRESH].chunks_exact(3)) {
-        *group = HostGroup {
-            act: n[0],
-            rd: n[1],
-            wr: n[2],
-        };
-    }
-    Controller {
-        edition: s[0],
-        cycle: s[1],
-        acts: s[2],
-        datas: s[3],
-        banks,
-        last: [s[68], s[69], s[70], s[71]],
-        groups,
-        refresh: s[REFRESH],
-        lent: s[LENT],
-    }
-}
-
-fn state(c: &Controller) -> State {
-    let mut s = fresh(0);
-    s[..BANKS].copy_from_slice(&[c.edition, c.cycle, c.acts, c.datas]);
-    for (n, bank) in s[BANKS..LAST].chunks_exact_mut(4).zip(&c.banks) {
-        n.copy_from_slice(&[bank.opened, bank.act, bank.rd, bank.wr]);
-    }
-    s[LAST..LAST + 4].copy_from_slice(&c.last);
-    for (n, group) in s[GROUPS..REFRESH].chunks_exact_mut(3).zip(&c.groups) {
-        n.copy_from_slice(&[group.act, group.rd, group.wr]);
-    }
-    (s[REFRESH], s[LENT]) = (c.refresh, c.lent);
-    s
-}
-
-fn numbers(a: Answer) -> Vec<u32> {
-    vec![a.refused, a.position, a.edition, a.count, a.cycles]
-}
-
-fn verdict(a: VerdictAnswer) -> Vec<u32> {
-    vec![a.refused, a.position, a.edition, a.rule, a.copy, a.record]
-}
-
-fn transaction(a: TransactionAnswer) -> Vec<u32> {
-    let x = [a.kind, a.start, a.bi, a.bc].map(u32::from);
-    let head = [a.refused, a.position, a.edition];
-    [&head[..], &x, &[a.arrival]].concat()
-}
-
-fn shortest(a: PatternAnswer) -> Vec<u32> {
-    vec![a.refused, a.position, a.edition, a.length, a.count]
-}
-
-fn captured(a: CaptureAnswer) -> Vec<u32> {
-    vec![a.refused, a.position, a.edition, a.count, a.rule, a.record]
-}
-
-fn served(a: ServesAnswer) -> Vec<u32> {
-    let head = [a.refused, a.position, a.edition];
-    let told = [a.serves, a.rule, a.record, a.transaction];
-    [&head[..], &told].concat()
 }
 
 impl Archive {
@@ -161,6 +81,7 @@ impl Archive {
         let (finishes, places) = (slots as *mut u32, slots as *mut Transaction);
         let [v0, v1, v2, v3, v4] = case.values;
         let four = [v0, v1, v2, v3].map(|n| n as u8);
+        let engine = engine(case);
         let mut handed_back = None;
         let mut keep = |a: ControllerAnswer| {
             handed_back = Some(state(&a.controller));
@@ -220,11 +141,13 @@ impl Archive {
                 Call::ReadLaterTransactions => {
                     numbers(skv_read_later_transactions(e, t, tn, list, bn, places, sn))
                 }
-                Call::Schedule => numbers(skv_schedule(e, t, tn, xs, xn, room, rn, finishes, sn)),
-                Call::ScheduleBytes => numbers(skv_schedule_bytes(
+                Call::Schedule => {
+                    numbers((engine.schedule)(e, t, tn, xs, xn, room, rn, finishes, sn))
+                }
+                Call::ScheduleBytes => numbers((engine.schedule_bytes)(
                     e, t, tn, list, bn, room, rn, finishes, sn,
                 )),
-                Call::ScheduleLaterBytes => numbers(skv_schedule_later_bytes(
+                Call::ScheduleLaterBytes => numbers((engine.schedule_later_bytes)(
                     e, t, tn, list, bn, room, rn, finishes, sn,
                 )),
                 Call::Judge => verdict(skv_judge(e, t, tn, list, bn)),
@@ -239,15 +162,17 @@ impl Archive {
                 }
                 Call::Bound => numbers(skv_bound(e, t, tn, v0 as u8, v1 as u8)),
                 Call::Start => keep(skv_start(e, t, tn)),
-                Call::Run => numbers(skv_run(c, e, t, tn, xs, xn, v0, room, rn)),
-                Call::Step => numbers(skv_step(c, e, t, tn, xs, xn, room, rn)),
+                Call::Run => numbers((engine.run)(c, e, t, tn, xs, xn, v0, room, rn)),
+                Call::Step => numbers((engine.step)(c, e, t, tn, xs, xn, room, rn)),
                 Call::RunBytes => {
                     let c = controller(&case.state);
-                    keep(skv_run_bytes(c, e, t, tn, list, bn, v0, room, rn))
+                    keep((engine.run_bytes)(c, e, t, tn, list, bn, v0, room, rn))
                 }
                 Call::RunLaterBytes => {
                     let c = controller(&case.state);
-                    keep(skv_run_later_bytes(c, e, t, tn, list, bn, v0, room, rn))
+                    keep((engine.run_later_bytes)(
+                        c, e, t, tn, list, bn, v0, room, rn,
+                    ))
                 }
             }
         };

@@ -57,6 +57,8 @@ pub fn stamp(x: &[u8; 4]) -> u16 {
 #[derive(Debug, Clone, PartialEq, Eq)]
 pub struct Case {
     pub call: Call,
+    /// Made of the second engine.
+    pub straight: bool,
     /// The expected edition, for a call that is lent a table.
     pub expected: u16,
     /// The table's bytes; for the calls that write one its sixteen or twenty numbers.
@@ -82,6 +84,7 @@ impl Case {
     pub fn new(call: Call) -> Case {
         Case {
             call,
+            straight: false,
             expected: 7,
             table: Vec::new(),
             bytes: Vec::new(),
@@ -93,6 +96,21 @@ impl Case {
             filling: 0,
             lies: 0,
         }
+    }
+
+    /// The call's name, of its engine.
+    pub fn name(&self) -> &'static str {
+        match self.call.in_straight() {
+            Some(at) if self.straight => STRAIGHT[at].1,
+            _ => self.call.name(),
+        }
+    }
+
+    /// The same by the second engine, or by the plain one.
+    pub fn by(&self, straight: bool) -> Case {
+        let mut case = self.clone();
+        case.straight = straight;
+        case
     }
 
     /// The transactions of the bytes.

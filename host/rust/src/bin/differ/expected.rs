@@ -1,11 +1,14 @@
-//! What the model says of a case: every number of the answer, and what each buffer must then hold.
+//! What the model says of a case: every number of the answer, and what each buffer must then hold. A case of the second engine is put through
+//! the model's own second one.
+
+mod builds;
 
 use model::desk::Verdict;
 use model::desk::{self, Bank, Controller, Group, PatternVerdict, Refusal, Served, Transaction};
-use model::house::{room_for, B, RFC, RL};
 
 use crate::case::*;
 use crate::numbers::Noise;
+use builds::{PLAIN, STRAIGHT};
 
 /// Buffers as bytes; those that the call isn't lent are empty.
 #[derive(Debug, Clone, PartialEq, Eq)]
@@ -16,10 +19,6 @@ pub struct Outcome {
     pub slots: Vec<u8>,
     pub state: Option<State>,
 }
-
-/// A list is built by the model's own way, which tries each command at each cycle against all before it, where it has at most so many commands
-/// times cycles; else by the model's controller.
-const BY_HISTORY: u64 = 100_000;
 
 pub fn transactions(list: &[[u8; 8]]) -> Vec<Transaction> {
     list.iter().map(|x| Transaction::of(x)).collect()
@@ -95,6 +94,10 @@ pub fn expected(case: &Case, noise: &Noise) -> Outcome {
     let decoded = |d: desk::Decoded| (d.edition, [d.transactions, 0]);
     let built = |s: desk::Scheduled| (s.edition, [s.commands, 0]);
     let ran = |r: desk::Ran| (r.edition, [r.commands, r.cycles]);
+    let engine = match case.straight {
+        true => &STRAIGHT,
+        false => &PLAIN,
+    };
     let answer = match case.call {
         Call::ReadTable => answer(desk::read_table(table).map(|t| (t[0], t.map(u32::from)))),
         Call::WriteTable => answer(desk::write_table(case.sixteen(), &mut room).map(whole)),
@@ -128,13 +131,14 @@ pub fn expected(case: &Case, noise: &Noise) -> Outcome {
             answer(desk::read_later_transactions(e, table, bytes, &mut places).map(decoded))
         }
         Call::ScheduleBytes if bytes.len() % 4 != 0 => {
-            answer(desk::schedule_bytes(e, table, bytes, &mut room, &mut finishes).map(built))
+            answer((engine.schedule_bytes)(e, table, bytes, &mut room, &mut finishes).map(built))
         }
         Call::ScheduleLaterBytes if bytes.len() % 8 != 0 => {
-            answer(desk::schedule_later_bytes(e, table, bytes, &mut room, &mut finishes).map(built))
+            let build = engine.schedule_later_bytes;
+            answer(build(e, table, bytes, &mut room, &mut finishes).map(built))
         }
         Call::Schedule | Call::ScheduleBytes | Call::ScheduleLaterBytes => {
-            answer(schedule(e, table, &list, &mut room, &mut finishes).map(built))
+            answer(builds::schedule(engine, e, table, &list, &mut room, &mut finishes).map(built))
         }
         Call::Judge => answer(desk::judge(e, table, bytes).map(
             |(edition, verdict)| match verdict {
@@ -184,11 +188,13 @@ pub fn expected(case: &Case, noise: &Noise) -> Outcome {
         }
         Call::Run | Call::Step => {
             let list = transactions(&list);
-            answer(desk::run(&mut run, e, table, &list, case.count(), &mut room).map(ran))
+            answer((engine.run)(&mut run, e, table, &list, case.count(), &mut room).map(ran))
         }
-        Call::RunBytes => answer(desk::run_bytes(&mut run, e, table, bytes, a, &mut room).map(ran)),
+        Call::RunBytes => {
+            answer((engine.run_bytes)(&mut run, e, table, bytes, a, &mut room).map(ran))
+        }
         Call::RunLaterBytes => {
-            answer(desk::run_later_bytes(&mut run, e, table, bytes, a, &mut room).map(ran))
+            answer((engine.run_later_bytes)(&mut run, e, table, bytes, a, &mut room).map(ran))
         }
     };
     Outcome {
@@ -225,63 +231,4 @@ fn five(x: Transaction) -> (u16, [u32; 5]) {
 fn words(bytes: &[u8]) -> Vec<u32> {
     let word = |x: &[u8]| u32::from_le_bytes([x[0], x[1], x[2], x[3]]);
     bytes.chunks_exact(4).map(word).collect()
-}
-
-fn schedule(
-    e: u16,
-    table: &[u8],
-    list: &[[u8; 8]],
-    room: &mut [u8],
-    finishes: &mut [u32],
-) -> Result<desk::Scheduled, Refusal> {
-    let by_controller = built(e, table, list);
-    let list = transactions(list);
-    match by_controller {
-        Ok((told, commands, all))
-            if u64::from(told.commands) * u64::from(told.cycles) > BY_HISTORY =>
-        {
-            // Refused by 5 or 6, before anything is built.
-            if room.len() < commands.len() || finishes.len() < all.len() {
-                return desk::schedule(e, table, &list, room, finishes);
-            }
-            room[..commands.len()].copy_from_slice(&commands);
-            finishes[..all.len()].copy_from_slice(&all);
-            Ok(desk::Scheduled {
-                edition: told.edition,
-                commands: told.commands,
-            })
-        }
-        _ => desk::schedule(e, table, &list, room, finishes),
-    }
-}
-
-/// What the model's controller makes of a list, and the finishing cycles that its commands give.
-fn built(
-    e: u16,
-    table: &[u8],
-    list: &[[u8; 8]],
-) -> Result<(desk::Ran, Vec<u8>, Vec<u32>), Refusal> {
-    let (_, mut fresh) = desk::start(e, table);
-    let mut room = vec![0; room_for(list)];
-    let told = desk::run(
-        &mut fresh,
-        e,
-        table,
-        &transactions(list),
-        u32::MAX,
-        &mut room,
-    )?;
-    let t = desk::read_table(table)?.map(u32::from);
-    let mut finishes = vec![0; list.len()];
-    for record in room.chunks_exact(8) {
-        let c = desk::read_command(record)?;
-        let after = match c.kind {
-            0 => continue,
-            1 | 2 => t[RL] + t[B],
-            5 => t[RFC],
-            _ => 0,
-        };
-        finishes[usize::from(c.transaction)] = c.cycle + after;
-    }
-    Ok((told, room, finishes))
 }

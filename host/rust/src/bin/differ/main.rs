@@ -1,12 +1,16 @@
-//! Puts random and hostile calls through the archive and through the model, and compares every number and every byte.
+//! Puts random and hostile calls through the archive and through the model, and compares every number and every byte; and puts those of the
+//! second engine beside the plain one's.
 //!
-//!     differ [COUNT] [--seed SEED] [--from INDEX]     COUNT calls, by default 1,000,000; the seed is printed
-//!     differ again 'CASE'                             one call, as a difference prints it
+//!     differ [COUNT] [--seed SEED] [--from INDEX]             COUNT calls, by default 1,000,000, and as many of the second engine; the seed is printed
+//!     differ engines [COUNT] [--seed SEED] [--from INDEX]     those of the second engine that are drawn for the two engines alone
+//!     differ again 'CASE'                                     one call, as a difference prints it
 //!
 //! Exit status 0 for no difference, 1 for one, which is made small and printed.
 
 mod archive;
 mod case;
+mod compare;
+mod engines;
 mod expected;
 mod groups;
 mod lent;
@@ -22,15 +26,19 @@ use std::time::{Instant, SystemTime, UNIX_EPOCH};
 
 use archive::Archive;
 use case::Case;
-use expected::{expected, refused, Outcome};
+use compare::{against, difference, report, By};
+use expected::{expected, refused};
 use tally::Tally;
 
-const USAGE: &str = "usage: differ [COUNT] [--seed SEED] [--from INDEX] | differ again 'CASE'";
+const USAGE: &str =
+    "usage: differ [engines] [COUNT] [--seed SEED] [--from INDEX] | differ again 'CASE'";
 
 struct Asked {
     count: u64,
     seed: u64,
     from: Option<u64>,
+    /// The two engines alone.
+    engines: bool,
 }
 
 fn asked(args: &[String]) -> Option<Asked> {
@@ -39,12 +47,14 @@ fn asked(args: &[String]) -> Option<Asked> {
         count: 1_000_000,
         seed: clock.as_micros() as u64 % 1_000_000_000,
         from: None,
+        engines: false,
     };
     let mut args = args.iter();
     while let Some(word) = args.next() {
         match word.as_str() {
             "--seed" => asked.seed = args.next()?.parse().ok()?,
             "--from" => asked.from = Some(args.next()?.parse().ok()?),
+            "engines" => asked.engines = true,
             count => asked.count = count.parse().ok()?,
         }
     }
@@ -67,66 +77,6 @@ fn main() -> ExitCode {
     }
 }
 
-/// The difference, if there is one.
-fn difference(archive: &mut Archive, case: &Case) -> (Outcome, Option<String>) {
-    let right = expected(case, &archive.noise);
-    let number = refused(&right.answer);
-    trap::in_call(case.call, number);
-    let mut wrong = |read_only| match archive.call(case, read_only) {
-        Ok(got) if got == right => None,
-        Ok(got) => Some(told(&got, &right)),
-        Err(touched) => Some(touched),
-    };
-    // What can be compared is compared first: a write to read-only pages ends the program.
-    let found = wrong(false).or_else(|| if number == 0 { None } else { wrong(true) });
-    (right, found)
-}
-
-/// What differs, in words.
-fn told(got: &Outcome, right: &Outcome) -> String {
-    let mut lines = Vec::new();
-    if got.answer != right.answer {
-        lines.push(format!(
-            "answer {:?}, by the model {:?}",
-            got.answer, right.answer
-        ));
-    }
-    for (name, got, right) in [
-        ("room", &got.room, &right.room),
-        ("slots", &got.slots, &right.slots),
-    ] {
-        if let Some(at) = (0..got.len()).find(|&at| got[at] != right[at]) {
-            let (is, be) = (got[at], right[at]);
-            lines.push(format!(
-                "{name}, byte {at}: {is:#04x}, by the model {be:#04x}"
-            ));
-        }
-    }
-    if let (Some(got), Some(right)) = (&got.state, &right.state) {
-        for at in (0..got.len()).filter(|&at| got[at] != right[at]) {
-            let (is, be) = (got[at], right[at]);
-            lines.push(format!("controller, number {at}: {is}, by the model {be}"));
-        }
-    }
-    lines.join("\n")
-}
-
-/// Makes it small and prints it.
-fn report(archive: &mut Archive, case: &Case, wrong: &str) {
-    println!("a difference in {}:\n{wrong}", case.call.name());
-    println!("as it was found:\n{case}");
-    let small = shrink::shrunk(case, |case| difference(archive, case).1.is_some());
-    let (_, wrong) = difference(archive, &small);
-    println!("made small:\n{small}");
-    let (edition, numbers) = (small.expected, small.numbers());
-    println!(
-        "expected {edition}, table {numbers:?}, records {:?}",
-        small.shown()
-    );
-    println!("{}", wrong.unwrap_or_default());
-    println!("again: differ again '{small}'");
-}
-
 fn again(text: &str) -> ExitCode {
     let case: Case = match text.parse() {
         Ok(case) => case,
@@ -138,46 +88,51 @@ fn again(text: &str) -> ExitCode {
     trap::set(0);
     trap::at(trap::AGAIN);
     match difference(&mut Archive::new(), &case) {
-        (right, None) => {
+        Ok((right, _)) => {
             println!("no difference; answer {:?}", right.answer);
             ExitCode::SUCCESS
         }
-        (_, Some(wrong)) => {
+        Err(wrong) => {
             println!("{case}\n{wrong}");
             ExitCode::FAILURE
         }
     }
 }
 
-fn run(asked: &Asked) -> ExitCode {
-    let Asked { count, seed, from } = *asked;
-    println!("{count} calls, seed {seed}");
-    let mut archive = Archive::new();
-    let mut tally = Tally::default();
+/// A case, and how it differs.
+type Found = (Case, String);
+
+/// The calls that are drawn, or those from an index on, and those that random ones seldom meet, through the archive and the model; each that the
+/// second engine has once more by that. Answers what two bursts do on the pins that none may.
+fn with_the_model(
+    asked: &Asked,
+    archive: &mut Archive,
+    tally: &mut Tally,
+) -> Result<Vec<String>, Found> {
+    let Asked { count, seed, .. } = *asked;
     let mut wrong_pins = Vec::new();
-    let began = Instant::now();
     // Those that random ones seldom meet come last, and not where the run starts within.
-    let whole = from.is_none();
-    let last = if whole { make::last() } else { Vec::new() };
-    let from = from.unwrap_or(0);
-    trap::set(seed);
+    let last = match asked.from {
+        None => make::last(),
+        Some(_) => Vec::new(),
+    };
+    let from = asked.from.unwrap_or(0);
     let drawn = (from..from + count.saturating_sub(last.len() as u64)).map(|index| {
         trap::at(index);
         make::case(seed, index)
     });
     let last = last.into_iter().inspect(|_| trap::at(trap::LAST));
     for case in drawn.chain(last) {
-        let (right, wrong) = difference(&mut archive, &case);
+        let (right, _) = difference(archive, &case).map_err(|wrong| (case.clone(), wrong))?;
         let other = case.call.expects() && case.expected != case.edition();
         let agreeing = other.then(|| expected(&case.agreeing(), &archive.noise));
         tally.add(&case, &right, agreeing.as_ref());
-        if let Some(wrong) = wrong {
-            report(&mut archive, &case, &wrong);
-            println!(
-                "{} calls compared, 1 difference (seed {seed})",
-                tally.total()
-            );
-            return ExitCode::FAILURE;
+        if case.call.in_straight().is_some() {
+            let second = case.by(true);
+            if let Some(wrong) = against(archive, &second, &right, By::PlainEngine) {
+                return Err((second, wrong));
+            }
+            tally.engines.add(&second, &right, By::PlainEngine);
         }
         if refused(&right.answer) == 0 {
             let (looked_at, clash) = pins::looked_at(&case, &right);
@@ -185,8 +140,59 @@ fn run(asked: &Asked) -> ExitCode {
             wrong_pins.extend(clash.map(|clash| format!("{clash:?} on the pins: {case}")));
         }
     }
-    tally.print();
-    let mut wrong = wrong_pins;
+    Ok(wrong_pins)
+}
+
+/// States for the two engines alone, until as many are compared as were asked for.
+fn engines_alone(asked: &Asked, archive: &mut Archive, tally: &mut Tally) -> Result<(), Found> {
+    trap::of_engines();
+    let set = match asked.from {
+        None => make::for_engines(),
+        Some(_) => Vec::new(),
+    };
+    let set = set.into_iter().inspect(|_| trap::at(trap::LAST));
+    let drawn = (asked.from.unwrap_or(0)..).map(|index| {
+        trap::at(index);
+        make::case_for_engines(asked.seed, index)
+    });
+    for case in set.chain(drawn) {
+        if tally.engines.total() >= asked.count {
+            break;
+        }
+        let (right, by) = difference(archive, &case).map_err(|wrong| (case.clone(), wrong))?;
+        tally.engines.add(&case, &right, by);
+    }
+    Ok(())
+}
+
+fn run(asked: &Asked) -> ExitCode {
+    let Asked { count, seed, .. } = *asked;
+    println!("{count} calls, seed {seed}");
+    let mut archive = Archive::new();
+    let mut tally = Tally::default();
+    let began = Instant::now();
+    trap::set(seed);
+    let whole = asked.from.is_none() && !asked.engines;
+    let mut compared = match asked.engines {
+        true => Ok(Vec::new()),
+        false => with_the_model(asked, &mut archive, &mut tally),
+    };
+    if compared.is_ok() && (whole || asked.engines) {
+        let alone = engines_alone(asked, &mut archive, &mut tally);
+        compared = compared.and_then(|wrong| alone.map(|()| wrong));
+    }
+    let mut wrong = match compared {
+        Ok(wrong_pins) => wrong_pins,
+        Err((case, wrong)) => {
+            report(&mut archive, &case, &wrong);
+            println!("{}, 1 difference (seed {seed})", tally.compared());
+            return ExitCode::FAILURE;
+        }
+    };
+    match asked.engines {
+        true => tally.engines.print(),
+        false => tally.print(),
+    }
     if whole {
         let not_met = tally.not_met().into_iter();
         wrong.extend(not_met.map(|refusal| format!("not met: {refusal}")));
@@ -199,18 +205,18 @@ fn run(asked: &Asked) -> ExitCode {
         }
     }
     let seconds = began.elapsed().as_secs_f64();
-    let total = tally.total();
     println!(
         "{seconds:.1} s, {:.0} calls a second, seed {seed}",
-        total as f64 / seconds
+        tally.total() as f64 / seconds
     );
     for told in &wrong {
         println!("{told}");
     }
+    let compared = tally.compared();
     if !wrong.is_empty() {
-        println!("{total} calls compared, 0 differences, and what stands above");
+        println!("{compared}, 0 differences, and what stands above");
         return ExitCode::FAILURE;
     }
-    println!("{total} calls compared, 0 differences");
+    println!("{compared}, 0 differences");
     ExitCode::SUCCESS
 }

@@ -2,6 +2,7 @@
 
 mod arrivals;
 mod captures;
+mod engines;
 mod groups;
 mod lists;
 mod patterns;
@@ -11,12 +12,14 @@ mod schedules;
 mod serving;
 mod states;
 mod tables;
+mod terms;
 mod walk;
 
 use model::house::{bytes_of, room_for, whole, GREATEST, TABLE_A};
 
 use crate::case::*;
 use crate::numbers::Random;
+pub use engines::{all as for_engines, case as case_for_engines};
 pub use states::too_long;
 
 /// How often each call is made, in the order of the header.

@@ -1,10 +1,13 @@
 //! How often each call was made, and with what answers.
 
+mod engines;
+
 use std::ops::RangeInclusive;
 
 use crate::case::{Call, Case, CALLS, COUNT, CYCLE};
 use crate::expected::{refused, Outcome};
 use crate::groups::broken_by;
+use engines::Engines;
 
 #[derive(Default)]
 pub struct Tally {
@@ -39,6 +42,8 @@ pub struct Tally {
     shortest: [u64; 7],
     /// Schedules, patterns and captures whose bursts were looked at on the pins.
     pub pins: u64,
+    /// The second engine's calls.
+    pub engines: Engines,
 }
 
 fn by_number(counts: &[u64; 14], numbers: RangeInclusive<usize>) -> String {
@@ -121,7 +126,7 @@ impl Tally {
 
     /// The refusals that were not met, and verdicts by groups, in words.
     pub fn not_met(&self) -> Vec<String> {
-        let mut all = Vec::new();
+        let mut all = self.engines.not_met();
         if self.pins == 0 {
             all.push("a schedule on the data pins".to_owned());
         }
@@ -153,32 +158,43 @@ impl Tally {
     }
 
     pub fn total(&self) -> u64 {
+        self.with_the_model() + self.engines.total()
+    }
+
+    fn with_the_model(&self) -> u64 {
         self.calls.iter().sum()
+    }
+
+    /// How many of both kinds, in words.
+    pub fn compared(&self) -> String {
+        let (first, second) = (self.with_the_model(), self.engines.total());
+        format!("{first} calls compared with the model, {second} of the second engine with the plain one's")
     }
 
     pub fn print(&self) {
         println!(
-            "{:28}{:>9}{:>9}  refused, by number; each again with all that is lent in read-only pages",
+            "{:34}{:>9}{:>9}  refused, by number; each again with all that is lent in read-only pages",
             "", "calls", "not ref."
         );
         for (at, (_, name)) in CALLS.iter().enumerate() {
             let by = by_number(&self.refused[at], 1..=13);
             let (calls, accepted) = (self.calls[at], self.refused[at][0]);
-            println!("{name:28}{calls:>9}{accepted:>9}  {by}");
+            println!("{name:34}{calls:>9}{accepted:>9}  {by}");
         }
+        self.engines.print();
         println!("with another edition expected: refused as 1 and 2; as 10, by what else there was to refuse");
         for (at, (call, name)) in CALLS.iter().enumerate() {
             if call.expects() {
                 let [nothing, first, second, ..] = self.others[at];
                 let rest = by_number(&self.others[at], 3..=13);
-                println!("{name:28}  1: {first}, 2: {second}; 10 with nothing: {nothing}  {rest}");
+                println!("{name:34}  1: {first}, 2: {second}; 10 with nothing: {nothing}  {rest}");
             }
         }
         println!("not refused, with a transaction that goes over the last bank; of these, with one that takes all banks");
         for (at, (_, name)) in CALLS.iter().enumerate() {
             let [some, all] = self.over[at];
             if some > 0 {
-                println!("{name:28}{some:>9}{all:>9}");
+                println!("{name:34}{some:>9}{all:>9}");
             }
         }
         for (what, counts) in [
@@ -202,7 +218,7 @@ impl Tally {
         for (at, (_, name)) in CALLS.iter().enumerate() {
             let [some, several] = self.groups[at];
             if some > 0 {
-                println!("{name:28}{some:>9}{several:>9}");
+                println!("{name:34}{some:>9}{several:>9}");
             }
         }
         for (name, rules) in ["schedules", "patterns", "captures"]
@@ -228,7 +244,7 @@ impl Tally {
         for (at, (call, name)) in CALLS.iter().enumerate() {
             if call.serves() {
                 let [serves, against, fault, length] = self.served[at];
-                println!("{name:28}serves: {serves}, the judge's verdict: {against}, a transaction at fault: {fault}, the list's length: {length}");
+                println!("{name:34}serves: {serves}, the judge's verdict: {against}, a transaction at fault: {fault}, the list's length: {length}");
             }
         }
         let [ticks, wraps, late] = self.captures;

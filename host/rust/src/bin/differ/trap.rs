@@ -1,9 +1,9 @@
 //! Says which case touched memory that it may not.
 
 use std::os::raw::{c_int, c_void};
-use std::sync::atomic::{AtomicU64, AtomicUsize, Ordering::Relaxed};
+use std::sync::atomic::{AtomicBool, AtomicPtr, AtomicU64, AtomicUsize, Ordering::Relaxed};
 
-use crate::case::{Call, CALLS};
+use crate::case::Case;
 
 extern "C" {
     fn signal(number: c_int, handler: usize) -> usize;
@@ -23,8 +23,15 @@ pub const AGAIN: u64 = u64::MAX - 2;
 
 static SEED: AtomicU64 = AtomicU64::new(0);
 static INDEX: AtomicU64 = AtomicU64::new(LAST);
-static CALL: AtomicUsize = AtomicUsize::new(0);
+/// Whether that is one of those that are drawn for the two engines alone.
+static ENGINES: AtomicBool = AtomicBool::new(false);
+/// The call's name.
+static NAME: AtomicPtr<u8> = AtomicPtr::new(std::ptr::null_mut());
+static LENGTH: AtomicUsize = AtomicUsize::new(0);
 static NUMBER: AtomicUsize = AtomicUsize::new(0);
+
+/// In place of the number by which a call must be refused: not known yet.
+pub const UNKNOWN: usize = usize::MAX;
 
 /// From now on a touch of a page that traps ends the program with status 1 and the words to run the case again.
 pub fn set(seed: u64) {
@@ -41,9 +48,16 @@ pub fn at(index: u64) {
     INDEX.store(index, Relaxed);
 }
 
+/// From now on the cases are drawn for the two engines alone.
+pub fn of_engines() {
+    ENGINES.store(true, Relaxed);
+}
+
 /// Its call, and the number that it must be refused by.
-pub fn in_call(call: Call, number: usize) {
-    CALL.store(call as usize, Relaxed);
+pub fn in_call(case: &Case, number: usize) {
+    let name = case.name();
+    NAME.store(name.as_ptr() as *mut u8, Relaxed);
+    LENGTH.store(name.len(), Relaxed);
     NUMBER.store(number, Relaxed);
 }
 
@@ -69,9 +83,13 @@ fn say_number(mut n: u64) {
 }
 
 extern "C" fn trapped(_: c_int) {
-    say(CALLS[CALL.load(Relaxed)].1.as_bytes());
+    let name = NAME.load(Relaxed);
+    if !name.is_null() {
+        say(unsafe { std::slice::from_raw_parts(name, LENGTH.load(Relaxed)) });
+    }
     match NUMBER.load(Relaxed) {
         0 => say(b", not refused,"),
+        UNKNOWN => (),
         number => {
             say(b", which is refused by number ");
             say_number(number as u64);
@@ -84,7 +102,11 @@ extern "C" fn trapped(_: c_int) {
         AGAIN => say(b"the case is the one asked for\n"),
         LONG => say(b"its list is a long one of which no entry may be read\n"),
         index => {
-            say(b"again: differ 1 --seed ");
+            say(b"again: differ ");
+            if ENGINES.load(Relaxed) {
+                say(b"engines ");
+            }
+            say(b"1 --seed ");
             say_number(SEED.load(Relaxed));
             say(b" --from ");
             say_number(index);

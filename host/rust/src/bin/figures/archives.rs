@@ -9,18 +9,11 @@
 // `build.rs` says `before`; an older compiler doesn't know the lint.
 #![allow(unknown_lints, unexpected_cfgs)]
 
-use skvorzhan::raw::{self, Answer, Transaction, VerdictAnswer};
+use skvorzhan::raw::engines::{Schedule, Step};
+use skvorzhan::raw::{self, Transaction, VerdictAnswer};
 use skvorzhan::Controller;
 
-#[rustfmt::skip]
-mod types {
-    use super::*;
-
-    /// Of a list whose entries are `T`: transactions, or bytes.
-    pub type Schedule<T> = unsafe extern "C" fn(u16, *const u8, usize, *const T, usize, *mut u8, usize, *mut u32, usize) -> Answer;
-    pub type Step = unsafe extern "C" fn(*mut Controller, u16, *const u8, usize, *const Transaction, usize, *mut u8, usize) -> Answer;
-    pub type Judge = unsafe extern "C" fn(u16, *const u8, usize, *const u8, usize) -> VerdictAnswer;
-}
+type Judge = unsafe extern "C" fn(u16, *const u8, usize, *const u8, usize) -> VerdictAnswer;
 
 /// A list as it is lent: of decoded transactions as they are, and as they were before arrivals.
 pub struct List {
@@ -43,10 +36,10 @@ pub struct Archive {
     pub name: &'static str,
     /// Whether its transactions have an arrival.
     arrivals: bool,
-    schedule: types::Schedule<Transaction>,
-    schedule_bytes: types::Schedule<u8>,
-    step: types::Step,
-    judge: types::Judge,
+    schedule: Schedule<Transaction>,
+    schedule_bytes: Schedule<u8>,
+    step: Step,
+    judge: Judge,
 }
 
 const NOW: Archive = Archive {
@@ -62,6 +55,7 @@ const NOW: Archive = Archive {
 #[rustfmt::skip]
 mod before {
     use super::*;
+    use skvorzhan::raw::Answer;
 
     extern "C" {
         fn before_skv_schedule(e: u16, t: *const u8, tn: usize, list: *const Transaction, n: usize, room: *mut u8, rn: usize, f: *mut u32, fnn: usize) -> Answer;
@@ -80,6 +74,15 @@ mod before {
     };
 }
 
+/// The second engine of the one at hand.
+pub const SECOND: Archive = Archive {
+    name: "proved, second engine",
+    schedule: raw::skv_schedule_straight,
+    schedule_bytes: raw::skv_schedule_straight_bytes,
+    step: raw::skv_step_straight,
+    ..NOW
+};
+
 /// The one at hand alone.
 pub fn present() -> Vec<Archive> {
     vec![NOW]
@@ -95,7 +98,7 @@ pub fn all() -> Vec<Archive> {
 
 /// Whether nothing was refused, of a list of either kind: where it starts, and how many entries it has.
 fn scheduled<T>(
-    call: types::Schedule<T>,
+    call: Schedule<T>,
     expected: u16,
     table: &[u8],
     (list, n): (*const T, usize),

@@ -77,6 +77,7 @@ fn measure_by(name: &str, table: &[u8], archives: Vec<Archive>) {
             format!("ordinary, bytes, {way}"),
             Box::new(move |l| {
                 let (room, finishes) = (&mut l.room, &mut l.finishes);
+                let bytes = (bytes, 4);
                 ordinary::schedule_bytes(EDITION, table, bytes, room, finishes, by_cycles).is_some()
             }),
         ));

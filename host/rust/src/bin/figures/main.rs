@@ -11,6 +11,7 @@ mod archives;
 mod builds;
 mod captures;
 mod climb;
+mod engines;
 mod judgements;
 mod ordinary;
 mod patterns;
@@ -55,6 +56,7 @@ fn in_units(seconds: f64) -> String {
 
 fn ratio(of: f64, to: f64) -> String {
     match of / to {
+        r if r < 0.001 => format!("{r:.1e}"),
         r if r < 0.1 => format!("{r:.4}"),
         r => format!("{r:.2}"),
     }
@@ -97,9 +99,11 @@ fn beside(title: &str, repeats: usize, times_in_call: usize, mut sides: Vec<Side
 }
 
 fn due(list: &[Transaction]) -> usize {
-    list.iter()
-        .map(|x| usize::from(x.bi) * (1 + usize::from(x.bc)))
-        .sum()
+    let one = |x: &Transaction| match x.kind {
+        2 => 1,
+        _ => usize::from(x.bi) * (1 + usize::from(x.bc)),
+    };
+    list.iter().map(one).sum()
 }
 
 fn for_model(list: &[Transaction]) -> Vec<desk::Transaction> {
@@ -138,6 +142,7 @@ fn main() {
     let emulated = args.iter().any(|word| word == "--emulated");
     machine(emulated);
     builds::measure();
+    engines::measure(emulated);
     steps::measure(emulated);
     judgements::measure(emulated);
     captures::measure(emulated);

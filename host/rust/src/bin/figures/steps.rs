@@ -1,4 +1,4 @@
-//! One step of a lent controller: the mean over all that serve a list, from a fresh controller on.
+//! One step of a lent controller, by both engines: the mean over all that serve a list, from a fresh controller on.
 
 use model::house::{bytes_of, TABLE_A};
 use skvorzhan::{start, Controller};
@@ -38,7 +38,7 @@ pub fn measure(emulated: bool) {
         let lent = &List::of(list);
         let plain = &for_model(list)[..];
         let mut ways: Vec<(String, Box<Step>)> = Vec::new();
-        for archive in archives::all() {
+        for archive in archives::all().into_iter().chain([archives::SECOND]) {
             ways.push((
                 archive.name.to_string(),
                 Box::new(move |c, room| archive.step(c, EDITION, table, lent, room)),

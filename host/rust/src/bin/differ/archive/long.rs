@@ -5,7 +5,8 @@ use std::time::{Duration, Instant};
 use model::house::{bytes_of, TABLE_A};
 use skvorzhan::raw::*;
 
-use super::{captured, controller, numbers, verdict, Archive};
+use super::flat::{captured, controller, numbers, served, verdict};
+use super::{engine, Archive};
 use crate::case::{fresh, Call, Case};
 use crate::lent::untouchable;
 use crate::trap;
@@ -16,7 +17,7 @@ pub const ENTRIES: usize = 100_000_000;
 const AT_ONCE: Duration = Duration::from_millis(10);
 
 /// Each call that is lent a list, with the number that its length is refused by. Those that are lent a schedule beside it come again, with that
-/// for the long one and no list.
+/// for the long one and no list; those that build and run come again by the second engine.
 const LENT_A_LIST: [(Call, usize); 18] = [
     (Call::ReadTransactions, 3),
     (Call::ReadLaterTransactions, 3),
@@ -47,22 +48,27 @@ impl Archive {
         let mut ccd_1 = right.clone();
         ccd_1[6] = 1;
         let mut calls = 0;
-        for (call, by_length) in LENT_A_LIST {
+        let all = LENT_A_LIST.iter().flat_map(|&(call, by_length)| {
+            let straight = call.in_straight().map(|_| true);
+            let engines = [false].into_iter().chain(straight);
+            engines.map(move |straight| (call, straight, by_length))
+        });
+        for (call, straight, by_length) in all {
             for (table, expected, number) in [
                 (&right[..31], 7, 1),
                 (&ccd_1, 7, 2),
                 (&right, 8, 10),
                 (&right, 7, by_length),
             ] {
-                trap::in_call(call, number);
-                let mut case = Case::new(call);
+                let mut case = Case::new(call).by(straight);
+                trap::in_call(&case, number);
                 case.table = table.to_vec();
                 case.expected = expected;
                 let mut least = Duration::MAX;
                 for _ in 0..3 {
                     let (answer, took) = self.refused_unread(&case, list, by_length);
                     if answer[0] as usize != number {
-                        let name = call.name();
+                        let name = case.name();
                         return Err(format!(
                             "{name} with a list of {ENTRIES} entries: {answer:?}"
                         ));
@@ -71,7 +77,7 @@ impl Archive {
                     calls += 1;
                 }
                 if least > AT_ONCE {
-                    let name = call.name();
+                    let name = case.name();
                     return Err(format!(
                         "{name}, refused by {number}, took {least:?} for a list of {ENTRIES} entries"
                     ));
@@ -110,11 +116,12 @@ impl Archive {
         let (n, by_value) = (ENTRIES, controller(&fresh(7)));
         let bytes = case.call.record() * ENTRIES;
         // For a call that serves: the long list with a schedule of 64 bytes, or no list with the long schedule.
-        let (served, k, s, sn) = match by_length {
+        let (lent, k, s, sn) = match by_length {
             3 => (list, n, room as *const u8, 64),
             _ => (t as *const u8, 0, list, 8 * n),
         };
-        let (served_list, served_bytes) = (served as *const Transaction, case.call.record() * k);
+        let (served_list, served_bytes) = (lent as *const Transaction, case.call.record() * k);
+        let engine = engine(case);
         let began = Instant::now();
         let answer = unsafe {
             match case.call {
@@ -124,36 +131,32 @@ impl Archive {
                 Call::ReadLaterTransactions => numbers(skv_read_later_transactions(
                     e, t, tn, list, bytes, places, 8,
                 )),
-                Call::Schedule => numbers(skv_schedule(e, t, tn, xs, n, room, 64, finishes, 16)),
-                Call::ScheduleBytes => numbers(skv_schedule_bytes(
+                Call::Schedule => {
+                    numbers((engine.schedule)(e, t, tn, xs, n, room, 64, finishes, 16))
+                }
+                Call::ScheduleBytes => numbers((engine.schedule_bytes)(
                     e, t, tn, list, bytes, room, 64, finishes, 16,
                 )),
-                Call::ScheduleLaterBytes => numbers(skv_schedule_later_bytes(
+                Call::ScheduleLaterBytes => numbers((engine.schedule_later_bytes)(
                     e, t, tn, list, bytes, room, 64, finishes, 16,
                 )),
                 Call::Judge => verdict(skv_judge(e, t, tn, list, bytes)),
                 Call::JudgePattern => verdict(skv_judge_pattern(e, t, tn, list, bytes, 9)),
                 Call::JudgeCapture => captured(skv_judge_capture(e, t, tn, list, bytes, room, 64)),
-                Call::Serves => super::served(skv_serves(e, t, tn, served_list, k, s, sn)),
-                Call::ServesBytes => {
-                    super::served(skv_serves_bytes(e, t, tn, served, served_bytes, s, sn))
+                Call::Serves => served(skv_serves(e, t, tn, served_list, k, s, sn)),
+                Call::ServesBytes => served(skv_serves_bytes(e, t, tn, lent, served_bytes, s, sn)),
+                Call::ServesLaterBytes => {
+                    served(skv_serves_later_bytes(e, t, tn, lent, served_bytes, s, sn))
                 }
-                Call::ServesLaterBytes => super::served(skv_serves_later_bytes(
-                    e,
-                    t,
-                    tn,
-                    served,
-                    served_bytes,
-                    s,
-                    sn,
-                )),
-                Call::Run => numbers(skv_run(c, e, t, tn, xs, n, 9, room, 64)),
-                Call::Step => numbers(skv_step(c, e, t, tn, xs, n, room, 64)),
+                Call::Run => numbers((engine.run)(c, e, t, tn, xs, n, 9, room, 64)),
+                Call::Step => numbers((engine.step)(c, e, t, tn, xs, n, room, 64)),
                 Call::RunLaterBytes => {
-                    let a = skv_run_later_bytes(by_value, e, t, tn, list, bytes, 9, room, 64);
+                    let a = (engine.run_later_bytes)(by_value, e, t, tn, list, bytes, 9, room, 64);
                     numbers(a.answer)
                 }
-                _ => numbers(skv_run_bytes(by_value, e, t, tn, list, bytes, 9, room, 64).answer),
+                _ => {
+                    numbers((engine.run_bytes)(by_value, e, t, tn, list, bytes, 9, room, 64).answer)
+                }
             }
         };
         (answer, began.elapsed())

@@ -74,9 +74,25 @@ pub const CALLS: [(Call, &str); COUNT] = [
     (RunLaterBytes, "skv_run_later_bytes"),
 ];
 
+/// Those that the second engine has too, in the order of its header.
+pub const STRAIGHT: [(Call, &str); 7] = [
+    (Schedule, "skv_schedule_straight"),
+    (ScheduleBytes, "skv_schedule_straight_bytes"),
+    (ScheduleLaterBytes, "skv_schedule_straight_later_bytes"),
+    (Run, "skv_run_straight"),
+    (Step, "skv_step_straight"),
+    (RunBytes, "skv_run_straight_bytes"),
+    (RunLaterBytes, "skv_run_straight_later_bytes"),
+];
+
 impl Call {
     pub fn name(self) -> &'static str {
         CALLS[self as usize].1
+    }
+
+    /// Where it stands among those of the second engine.
+    pub fn in_straight(self) -> Option<usize> {
+        STRAIGHT.iter().position(|(call, _)| *call == self)
     }
 
     pub fn runs(self) -> bool {

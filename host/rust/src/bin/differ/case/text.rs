@@ -3,7 +3,7 @@
 use std::fmt::{self, Write};
 use std::str::FromStr;
 
-use super::{fresh, Case, CALLS, NUMBERS};
+use super::{fresh, Case, CALLS, NUMBERS, STRAIGHT};
 
 fn hex(bytes: &[u8]) -> String {
     let mut out = String::new();
@@ -26,7 +26,7 @@ fn unhex(text: &str) -> Result<Vec<u8>, String> {
 impl fmt::Display for Case {
     fn fmt(&self, f: &mut fmt::Formatter) -> fmt::Result {
         let [a, b, c, d, e] = self.values;
-        write!(f, "{}", self.call.name())?;
+        write!(f, "{}", self.name())?;
         write!(f, " expected={}", self.expected)?;
         write!(f, " table={} bytes={}", hex(&self.table), hex(&self.bytes))?;
         write!(f, " schedule={}", hex(&self.schedule))?;
@@ -46,9 +46,10 @@ impl FromStr for Case {
     fn from_str(text: &str) -> Result<Case, String> {
         let mut words = text.split_whitespace();
         let name = words.next().unwrap_or("");
-        let call = CALLS.iter().find(|(_, n)| *n == name);
+        let call = CALLS.iter().chain(&STRAIGHT).find(|(_, n)| *n == name);
         let call = call.ok_or_else(|| format!("no call is named `{name}`"))?.0;
         let mut case = Case::new(call);
+        case.straight = call.name() != name;
         for word in words {
             let (key, value) = word.split_once('=').ok_or(format!("no value: `{word}`"))?;
             let number = || value.parse::<usize>().map_err(|e| format!("{word}: {e}"));

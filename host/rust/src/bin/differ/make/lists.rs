@@ -158,6 +158,20 @@ pub fn plain(r: &mut Random, t: &GroupTable) -> Vec<[u8; 4]> {
     list
 }
 
+/// A list for the case's call that is accepted; now and then all arrivals far apart, which only the second engine passes over.
+pub fn good(r: &mut Random, t: &GroupTable, case: &mut Case) {
+    let list = accepted(r, t);
+    let mut at = arrivals(r, list.len());
+    if r.one_in(8) {
+        let most = at.last().copied().unwrap_or(0).max(1);
+        let by = r.range(1, LATEST / most);
+        at.iter_mut().for_each(|n| *n *= by);
+    }
+    // Not the 257 of them that are too many.
+    let size = list.len().min(256);
+    case.lend(&arriving(&list[..size], &at));
+}
+
 /// The bytes of a list for the case's call, mostly accepted.
 pub fn some(r: &mut Random, t: &GroupTable, case: &mut Case) {
     let list = plain(r, t);

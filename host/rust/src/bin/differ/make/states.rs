@@ -8,14 +8,14 @@ use crate::case::*;
 use crate::expected::{controller, state, transactions};
 use crate::numbers::Random;
 
-const LAST_CYCLE: u32 = 100_000_000;
+pub const LAST_CYCLE: u32 = 100_000_000;
 
 /// A run of more cycles than this is not worth the time; one of so few always is.
 const LONG: u32 = 300_000;
 const SHORT: u32 = 20_000;
 
 /// Where the stored cycles stand.
-fn stamps() -> impl Iterator<Item = usize> {
+pub fn stamps() -> impl Iterator<Item = usize> {
     let of_banks = (BANKS..LAST).filter(|i| (i - BANKS) % 4 != 0);
     of_banks.chain(LAST..=REFRESH)
 }
@@ -45,7 +45,7 @@ fn after_a_piece(r: &mut Random, table: &GroupTable, list: &[[u8; 8]], cycles: u
     reached(table, &list[..at], cycles.min(LONG))
 }
 
-fn moved_on(s: &mut State, by: u32) {
+pub fn moved_on(s: &mut State, by: u32) {
     s[CYCLE] = s[CYCLE].wrapping_add(by);
     for i in stamps() {
         if s[i] != u32::MAX {
@@ -65,7 +65,7 @@ fn make_late(r: &mut Random, s: &mut State) {
     );
 }
 
-fn change_one(r: &mut Random, table: &GroupTable, s: &mut State) {
+pub fn change_one(r: &mut Random, table: &GroupTable, s: &mut State) {
     let i = match r.below(6) {
         0 => r.below(4),
         1 => LAST + r.below(NUMBERS - LAST),
@@ -87,7 +87,7 @@ fn change_one(r: &mut Random, table: &GroupTable, s: &mut State) {
 }
 
 /// Any numbers that number 9 has nothing against, but for the counts perhaps.
-fn plausible(r: &mut Random, table: &GroupTable, case: &Case) -> State {
+pub fn plausible(r: &mut Random, table: &GroupTable, case: &Case) -> State {
     let mut s = fresh(table[0].into());
     let (cycle, back) = r.of_these(&[(400, 80), (400, 80), (9_000, 3_000)]);
     s[CYCLE] = 1 + r.below(cycle) as u32;
@@ -120,13 +120,13 @@ fn groups(table: &GroupTable) -> usize {
 }
 
 /// How many each queue holds at first.
-fn both(list: &[[u8; 8]]) -> [usize; 2] {
+pub fn both(list: &[[u8; 8]]) -> [usize; 2] {
     let acts = list.iter().map(|x| queued(x)[0]).sum();
     [acts, due(list) - acts]
 }
 
 /// The data commands of the banks whose ACTs are among the first so many of the ACT queue. A REF has none.
-fn behind(list: &[[u8; 8]], mut acts: usize) -> usize {
+pub fn behind(list: &[[u8; 8]], mut acts: usize) -> usize {
     let mut datas = 0;
     for x in list {
         let [here, of_them] = queued(x);
@@ -137,7 +137,7 @@ fn behind(list: &[[u8; 8]], mut acts: usize) -> usize {
     datas
 }
 
-fn arbitrary(r: &mut Random) -> State {
+pub fn arbitrary(r: &mut Random) -> State {
     let mut s = [0; NUMBERS];
     s.iter_mut().for_each(|n| *n = r.u32());
     s
@@ -159,7 +159,15 @@ fn some(r: &mut Random, table: &GroupTable, case: &Case) -> State {
     if r.one_in(3) {
         change_one(r, table, &mut s);
     }
-    // What is kept past the table's banks is nobody's, nor what is kept past its groups.
+    scribble(r, table, &mut s);
+    if r.one_in(8) {
+        make_late(r, &mut s);
+    }
+    s
+}
+
+/// What is kept past the table's banks is nobody's, nor what is kept past its groups.
+pub fn scribble(r: &mut Random, table: &GroupTable, s: &mut State) {
     for (past, end) in [
         (BANKS + 4 * usize::from(table[1]), LAST),
         (GROUPS + 3 * groups(table), REFRESH),
@@ -170,14 +178,10 @@ fn some(r: &mut Random, table: &GroupTable, case: &Case) -> State {
             }
         }
     }
-    if r.one_in(8) {
-        make_late(r, &mut s);
-    }
-    s
 }
 
 /// The commands left, queue by queue.
-fn left(case: &Case) -> usize {
+pub fn left(case: &Case) -> usize {
     let [acts, datas] = both(&case.list());
     acts.saturating_sub(case.state[ACTS] as usize)
         + datas.saturating_sub(case.state[DATAS] as usize)
@@ -216,7 +220,8 @@ pub fn run(r: &mut Random, table: &GroupTable, case: &mut Case) {
 
 /// Whether the run, were the table's edition expected, goes on for more cycles than is worth the time: it's long, or it's stuck.
 pub fn too_long(case: &Case) -> bool {
-    if !case.call.runs() || case.count() <= SHORT {
+    // The second engine passes over them.
+    if case.straight || !case.call.runs() || case.count() <= SHORT {
         return false;
     }
     if case.room < 8 * left(case).min(case.count() as usize) {

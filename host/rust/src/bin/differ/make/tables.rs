@@ -180,8 +180,7 @@ fn other(r: &mut Random, edition: u16) -> u16 {
 /// Gives the case a table, mostly an accepted one, and an expected edition, mostly its own. Answers the table that the rest of the case is
 /// made for.
 pub fn some(r: &mut Random, case: &mut Case) -> GroupTable {
-    let t = legal(r);
-    case.table = record(r, &t);
+    let t = accepted(r, case);
     let mut one_in = 8;
     if r.one_in(16) {
         case.table = hostile(r);
@@ -194,7 +193,15 @@ pub fn some(r: &mut Random, case: &mut Case) -> GroupTable {
     t
 }
 
-/// The same with RC or FAW, which seldom decide, far out now and then.
+/// Gives the case a table that is accepted, and its edition.
+pub fn accepted(r: &mut Random, case: &mut Case) -> GroupTable {
+    let t = legal(r);
+    case.table = record(r, &t);
+    case.expected = case.edition();
+    t
+}
+
+/// The same as `some` with RC or FAW, which seldom decide, far out now and then.
 pub fn for_judges(r: &mut Random, case: &mut Case) -> GroupTable {
     let mut t = some(r, case);
     if r.one_in(4) && read_table(&case.table) == Ok(t) {

@@ -140,18 +140,18 @@ fn scheduled<const SEVERAL: bool>(
     Some(due)
 }
 
-/// The same from the transactions' bytes.
+/// The same from the transactions' bytes, so many of each.
 pub fn schedule_bytes(
     expected: u16,
     table: &[u8],
-    bytes: &[u8],
+    (bytes, of_record): (&[u8], usize),
     room: &mut [u8],
     finishes: &mut [u32],
     by_cycles: bool,
 ) -> Option<usize> {
-    if bytes.len() % 4 != 0 {
+    if bytes.len() % of_record != 0 {
         return None;
     }
-    let list: Vec<Transaction> = bytes.chunks_exact(4).map(Transaction::of).collect();
+    let list: Vec<Transaction> = bytes.chunks_exact(of_record).map(Transaction::of).collect();
     schedule(expected, table, &list, room, finishes, by_cycles)
 }

@@ -1,5 +1,6 @@
 //! The ordinary programs say what the model says.
 
+mod idle;
 mod serving;
 
 use super::times::LATEST;
