@@ -19,7 +19,7 @@ use Rattle.records.specs.Table.{tableAt, inRange, tableSize, tableRefusal, read
 use Rattle.records.specs.Transaction.{transactionsIn, laterIn, recordCount, listOf, listFits}
 use Rattle.records.proofs.Laws.{passes, read-was}
 use Rattle.rules.specs.State.{Held}
-use Rattle.rules.proofs.Ranges.{ranges, held}
+use Rattle.rules.proofs.laws.Ranges.{ranges, held}
 use Rattle.heads.specs.Queue.{Listed}
 use Rattle.lists.specs.declared.check.Checked.{Checked}
 use Rattle.lists.specs.declared.check.Checked.the-variants.{Fine}

@@ -13,7 +13,7 @@ use Rattle.records.specs.Table.{Accepted}
 use Rattle.records.specs.Transaction.{listFits}
 use Rattle.records.specs.Command.{bytesOfAll}
 use Rattle.records.proofs.Unique.{one-answer}
-use Rattle.rules.proofs.Built.{built-only}
+use Rattle.rules.proofs.shown.Built.{built-only}
 use Rattle.engine.specs.Build.{finishesFrom}
 use Rattle.builder.specs.declared.build.BuildAnswer.{BuildAnswer}
 use Rattle.builder.specs.declared.build.BuildAnswer.the-variants.{Built, Refused}

@@ -11,7 +11,7 @@ use lib.Dec.{eqb}
 use lib.ListN.{length}
 use borrow.Author.Tests.{ltb-true, ltb-false, eqb-true, eqb-false}
 use Rattle.records.specs.Tests.{pick}
-use Rattle.rules.proofs.TestLaws.{either, neither}
+use Rattle.rules.proofs.laws.TestLaws.{either, neither}
 use Rattle.capture.specs.Capture.{Timed, tooLate, badAfter, lowestAfter, lowest}
 use Rattle.capture.specs.Eleven.{Such, Lowest}
 

@@ -17,7 +17,7 @@ use Rattle.records.proofs.Laws.{refuses, answers, passes}
 use Rattle.records.proofs.Inverse.{kind-number}
 use Rattle.rules.specs.declared.verdict.Verdict as Verdicts
 use Rattle.rules.specs.Verdict.{judge}
-use Rattle.rules.proofs.TestLaws.{neither}
+use Rattle.rules.proofs.laws.TestLaws.{neither}
 use Rattle.capture.specs.declared.one_record.CaptureRecord.{CaptureRecord}
 use Rattle.capture.specs.declared.scan.Scanned.{Scanned}
 use Rattle.capture.specs.declared.answer.CaptureJudged.the-variants.{Verdict, Refused}

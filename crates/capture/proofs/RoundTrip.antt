@@ -24,11 +24,11 @@ use Rattle.rules.specs.declared.verdict.Verdict.the-variants.{Accepted, Refused
 use Rattle.rules.specs.Kinds.{isKnown}
 use Rattle.rules.specs.History.{later, broken}
 use Rattle.rules.specs.Verdict.{judgeFrom, judge, Legal, unnumbered}
-use Rattle.rules.proofs.TestLaws.{true-false, and-fst}
-use Rattle.rules.proofs.DataKinds.{kind-back}
-use Rattle.rules.proofs.Numbers.{same?}
-use Rattle.rules.proofs.Judged.{holds}
-use Rattle.rules.proofs.Unnumbered.{judge-same, length-unnumbered}
+use Rattle.rules.proofs.laws.TestLaws.{true-false, and-fst}
+use Rattle.rules.proofs.laws.DataKinds.{kind-back}
+use Rattle.rules.proofs.laws.Numbers.{same?}
+use Rattle.rules.proofs.history.Judged.{holds}
+use Rattle.rules.proofs.history.Unnumbered.{judge-same, length-unnumbered}
 use Rattle.capture.specs.declared.answer.CaptureJudged.the-variants.{Verdict, Refused}
 use Rattle.capture.specs.Capture.{Timed, timed, timedAfter, timedOf, timedIn, gap, badAfter, lowestAfter, lowest, commandsOf}
 use Rattle.capture.specs.Answer.{notACapture, captureCount, commandsSeen, captureRefusal, Captured, captured}

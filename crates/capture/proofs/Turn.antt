@@ -14,7 +14,7 @@ use Rattle.records.specs.Tests.{pick}
 use Rattle.records.specs.declared.command.Command.{Command}
 use Rattle.records.specs.Command.{kindOf, command, bytesOf, bytesOfAll}
 use Rattle.records.specs.Told.{over, putAt}
-use Rattle.rules.proofs.TestLaws.{neither}
+use Rattle.rules.proofs.laws.TestLaws.{neither}
 use Rattle.capture.specs.declared.one_record.CaptureRecord.{CaptureRecord}
 use Rattle.capture.specs.Record.{recordAt}
 use Rattle.capture.specs.Capture.{recordsFrom, recordsIn, gap, timed, timedAfter, timedOf, timedIn, tooLate, lowestAfter, lowest, isTick, commandsOf}

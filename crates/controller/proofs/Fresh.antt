@@ -20,11 +20,11 @@ use Rattle.rules.specs.CycleRule.{goes, push, Built}
 use Rattle.rules.specs.Run.{served, stops, Ran as RanTo, run}
 use Rattle.rules.specs.Pieces.{lentRun}
 use Rattle.rules.specs.Promise.{nextCycle, Kept}
-use Rattle.rules.proofs.TestLaws.{true-false}
-use Rattle.rules.proofs.Count.{length-turn}
-use Rattle.rules.proofs.RunTo.{stopped, going, n-then-m}
-use Rattle.rules.proofs.Lent.{lendRan, run-lent}
-use Rattle.rules.proofs.Promises.{kept as promised}
+use Rattle.rules.proofs.laws.TestLaws.{true-false}
+use Rattle.rules.proofs.runs.HowMany.{length-turn}
+use Rattle.rules.proofs.runs.RunTo.{stopped, going, n-then-m}
+use Rattle.rules.proofs.runs.Lent.{lendRan, run-lent}
+use Rattle.rules.proofs.shown.Promises.{kept as promised}
 use Rattle.controller.specs.declared.run.RunReport.{RunReport}
 use Rattle.controller.specs.declared.run.RunAnswer.the-variants.{Ran}
 use Rattle.controller.specs.Controller.{tells, kept, freshController, Ranged}

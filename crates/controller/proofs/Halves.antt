@@ -19,9 +19,9 @@ use Rattle.rules.specs.State.{after}
 use Rattle.rules.specs.CycleRule.{goes}
 use Rattle.rules.specs.Run.{served, stops, Ran as RanTo, run}
 use Rattle.rules.specs.Pieces.{lend, lentRun}
-use Rattle.rules.proofs.TestLaws.{on-map}
-use Rattle.rules.proofs.Caps.{after-size, after-groups}
-use Rattle.rules.proofs.Lent.{lent-kept}
+use Rattle.rules.proofs.laws.TestLaws.{on-map}
+use Rattle.rules.proofs.queues.Counts.{after-size, after-groups}
+use Rattle.rules.proofs.runs.Lent.{lent-kept}
 use Rattle.controller.specs.declared.controller.Controller.{Controller}
 use Rattle.controller.specs.declared.run.RunReport.{RunReport}
 use Rattle.controller.specs.declared.run.RunAnswer.the-variants.{Ran, Refused}

@@ -17,7 +17,7 @@ use Rattle.rules.specs.declared.state.Bank.{Bank}
 use Rattle.rules.specs.declared.state.Group.{Group}
 use Rattle.rules.specs.declared.state.State.{State}
 use Rattle.rules.specs.Pieces.{lend}
-use Rattle.rules.proofs.TestLaws.{and-fst, and-snd, OnSome, every-at}
+use Rattle.rules.proofs.laws.TestLaws.{and-fst, and-snd, OnSome, every-at}
 use Rattle.controller.specs.declared.controller.HostBank.{HostBank}
 use Rattle.controller.specs.declared.controller.HostGroup.{HostGroup}
 use Rattle.controller.specs.declared.controller.Controller.{Controller}

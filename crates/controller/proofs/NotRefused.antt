@@ -16,7 +16,7 @@ use Rattle.records.proofs.Laws.{passes}
 use Rattle.rules.specs.declared.state.State.{State}
 use Rattle.rules.specs.Run.{run}
 use Rattle.rules.specs.Pieces.{lend, isLate, lentRun}
-use Rattle.rules.proofs.Count.{run-room}
+use Rattle.rules.proofs.runs.HowMany.{run-room}
 use Rattle.heads.specs.Queue.{Listed}
 use Rattle.heads.proofs.Laws.{length-from}
 use Rattle.engine.specs.declared.run.Ran.{Ran as Answer}

@@ -15,8 +15,8 @@ use Rattle.records.specs.declared.transaction.Transaction.{Transaction}
 use Rattle.rules.specs.declared.state.State.{State}
 use Rattle.rules.specs.Pieces.{lend, lentRun}
 use Rattle.rules.specs.Promise.{SameTold}
-use Rattle.rules.proofs.Promises.{runs-kept}
-use Rattle.rules.proofs.Lent.{lent-is}
+use Rattle.rules.proofs.shown.Promises.{runs-kept}
+use Rattle.rules.proofs.runs.Lent.{lent-is}
 use Rattle.controller.specs.declared.controller.Controller.{Controller}
 use Rattle.controller.specs.declared.run.RunReport.{RunReport}
 use Rattle.controller.specs.declared.run.RunAnswer.the-variants.{Ran}

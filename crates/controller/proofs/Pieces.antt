@@ -14,9 +14,9 @@ use Rattle.rules.specs.declared.state.State.{State}
 use Rattle.rules.specs.State.{fresh}
 use Rattle.rules.specs.Run.{served, Ran as RanTo, run}
 use Rattle.rules.specs.Pieces.{lend, lentRun, Piece, whole, inPieces, InTime, PiecesKept}
-use Rattle.rules.proofs.Lent.{run-lent}
-use Rattle.rules.proofs.Built.{run-ends}
-use Rattle.rules.proofs.Pieces.{run-counted, pieces-kept}
+use Rattle.rules.proofs.runs.Lent.{run-lent}
+use Rattle.rules.proofs.shown.Built.{run-ends}
+use Rattle.rules.proofs.runs.Pieces.{run-counted, pieces-kept}
 use Rattle.controller.specs.declared.controller.Controller.{Controller}
 use Rattle.controller.specs.declared.run.RunReport.{RunReport}
 use Rattle.controller.specs.declared.run.RunAnswer.the-variants.{Ran}

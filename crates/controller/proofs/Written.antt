@@ -10,7 +10,7 @@ use Rattle.records.specs.Told.{over}
 use Rattle.records.specs.Command.{bytesOf, bytesOfAll}
 use Rattle.records.specs.declared.command.Command.{Command}
 use Rattle.rules.specs.Pattern.{onto}
-use Rattle.rules.proofs.Count.{length-turn}
+use Rattle.rules.proofs.runs.HowMany.{length-turn}
 use Rattle.controller.specs.Run.{written}
 
 onto-append : (g h k : List Command) → onto (g ++ h) k ≡ onto h (onto g k)

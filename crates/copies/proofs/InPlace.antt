@@ -21,9 +21,9 @@ use Rattle.rules.specs.Square.{groupOf}
 use Rattle.rules.specs.State.{rule11, note, Held}
 use Rattle.rules.specs.History.{inTable}
 use Rattle.rules.specs.Verdict.{judgeFrom}
-use Rattle.rules.proofs.TestLaws.{and-fst}
-use Rattle.rules.proofs.Judged.{in-bank}
-use Rattle.rules.proofs.Link.{Sums}
+use Rattle.rules.proofs.laws.TestLaws.{and-fst}
+use Rattle.rules.proofs.history.Judged.{in-bank}
+use Rattle.rules.proofs.history.Link.{Sums}
 use Rattle.timing.specs.declared.kept.Kept.{Kept}
 use Rattle.timing.specs.Kept.{isClosing, stampOf, toldBank, toldGroup, told, shutKept, quietKept}
 use Rattle.timing.proofs.Telling.{told-at, actKept, told-act, dataKept, told-data, refKept, told-ref}

@@ -15,7 +15,7 @@ use Rattle.rules.specs.Kinds.{isData, inActQueue}
 use Rattle.rules.specs.State.{addIf}
 use Rattle.rules.specs.CycleRule.{actsIn, datasIn}
 use Rattle.rules.specs.Pattern.{moved, copy, onto}
-use Rattle.rules.proofs.Link.{Sums}
+use Rattle.rules.proofs.history.Link.{Sums}
 use Rattle.copies.specs.Seen.{recordCount, recordIn, before, whole}
 
 -- a schedule is its copy 0 cycles later

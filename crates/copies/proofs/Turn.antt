@@ -20,9 +20,9 @@ use Rattle.rules.specs.declared.verdict.Verdict.the-variants.{Accepted, Refused
 use Rattle.rules.specs.State.{note, Held}
 use Rattle.rules.specs.History.{broken}
 use Rattle.rules.specs.Verdict.{allShut, judgeFrom}
-use Rattle.rules.proofs.Judged.{holds}
-use Rattle.rules.proofs.Legal.{below}
-use Rattle.rules.proofs.JudgeState.{Judging, judging-broken, judging-note, judging-open}
+use Rattle.rules.proofs.history.Judged.{holds}
+use Rattle.rules.proofs.history.Legal.{below}
+use Rattle.rules.proofs.history.JudgeState.{Judging, judging-broken, judging-note, judging-open}
 use Rattle.broken.specs.ByState.{foundBy, shutBy}
 use Rattle.copies.specs.Seen.{recordIn, before}
 use Rattle.copies.proofs.Seen.{left, left-none, left-next}

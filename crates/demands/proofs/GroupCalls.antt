@@ -15,7 +15,7 @@ use Rattle.rules.specs.Queues.{actQueue, dataQueue}
 use Rattle.rules.specs.Bound.{bound, boundS, boundD, boundX}
 use Rattle.rules.specs.Worked.{read, All}
 use Rattle.rules.specs.WorkedGroups.{oneGroup}
-use Rattle.rules.proofs.Pattern.{five-legal}
+use Rattle.rules.proofs.patterns.FiveDecide.{five-legal}
 use Rattle.judge.specs.declared.answer.PatternJudged.the-variants.{Verdict as PatternVerdict, Refused as PatternNotJudged}
 use Rattle.judge.specs.Answer.{judged}
 use Rattle.capture.specs.Capture.{recordsFrom, gap, timedIn, lowest, commandsOf}

@@ -25,7 +25,7 @@ use Rattle.rules.specs.declared.verdict.PatternVerdict.the-variants.{Accepted a
 use Rattle.rules.specs.Verdict.{allShut, judge}
 use Rattle.rules.specs.Pattern.{onto, copy, endToEnd, copies, EveryNumberLegal}
 use Rattle.rules.specs.Demands.{FineTo}
-use Rattle.rules.proofs.Demands.{demand-2 as of-rules}
+use Rattle.rules.proofs.shown.Demands.{demand-2 as of-rules}
 use Rattle.judge.specs.declared.answer.Judged.{Judged}
 use Rattle.judge.specs.declared.answer.Judged.the-variants.{Verdict, Refused as NotJudged}
 use Rattle.judge.specs.declared.answer.PatternJudged.{PatternJudged}

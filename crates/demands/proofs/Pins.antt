@@ -16,7 +16,7 @@ use Rattle.rules.specs.declared.verdict.Verdict.the-variants.{Accepted as Passe
 use Rattle.rules.specs.declared.verdict.PatternVerdict.the-variants.{Accepted as AllPassed}
 use Rattle.rules.specs.Pattern.{endToEnd, EveryNumberLegal}
 use Rattle.rules.specs.Verdict.{Legal}
-use Rattle.rules.proofs.Pins.{legal-pins, pins-shown}
+use Rattle.rules.proofs.pins.Pins.{legal-pins, pins-shown}
 use Rattle.judge.specs.declared.answer.Judged.the-variants.{Verdict}
 use Rattle.judge.specs.declared.answer.PatternJudged.the-variants.{Verdict as PatternVerdict}
 use Rattle.judge.proofs.Accepts.{judge-accepts}

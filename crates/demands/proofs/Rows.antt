@@ -25,7 +25,7 @@ use Rattle.rules.specs.History.{rules, broken}
 use Rattle.rules.specs.Verdict.{judgeFrom}
 use Rattle.rules.specs.Pattern.{onto, copy, endToEnd, copiesFrom, copies}
 use Rattle.rules.specs.Demands.{FirstBroken}
-use Rattle.rules.proofs.Demands.{names-from}
+use Rattle.rules.proofs.shown.Demands.{names-from}
 use Rattle.judge.specs.declared.answer.Judged.{Judged}
 use Rattle.judge.specs.declared.answer.Judged.the-variants.{Verdict as Says, Refused as NotJudged}
 use Rattle.judge.specs.declared.answer.PatternJudged.{PatternJudged}

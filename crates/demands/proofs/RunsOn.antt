@@ -12,7 +12,7 @@ use Rattle.records.specs.declared.table.TableRead.the-variants.{Read}
 use Rattle.records.specs.declared.transaction.Transaction.{Transaction}
 use Rattle.records.specs.Transaction.{recordSize, listOf, listFits}
 use Rattle.rules.specs.Pieces.{isLate}
-use Rattle.rules.proofs.Lent.{lent-is}
+use Rattle.rules.proofs.runs.Lent.{lent-is}
 use Rattle.lists.specs.declared.check.Checked.{Checked}
 use Rattle.lists.specs.declared.check.Checked.the-variants.{Fine}
 use Rattle.lists.specs.Check.{checkList, checkBytes}

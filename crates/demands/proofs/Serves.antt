@@ -28,11 +28,11 @@ use Rattle.rules.specs.Verdict.{Legal}
 use Rattle.rules.specs.Finish.{finishOf, countFrom, finish}
 use Rattle.rules.specs.Bound.{bound, span, startAt}
 use Rattle.rules.specs.Promise.{cycleOf, Kept, lastCommandCycle}
-use Rattle.rules.proofs.TestLaws.{OnSome, every-at}
-use Rattle.rules.proofs.Fit.{is-fit, plain-fit, all-fit}
-use Rattle.rules.proofs.Queue.{act-length, data-length}
-use Rattle.rules.proofs.Ranges.{ranges}
-use Rattle.rules.proofs.Promises.{kept}
+use Rattle.rules.proofs.laws.TestLaws.{OnSome, every-at}
+use Rattle.rules.proofs.queues.Fit.{is-fit, plain-fit, all-fit}
+use Rattle.rules.proofs.queues.Queue.{act-length, data-length}
+use Rattle.rules.proofs.laws.Ranges.{ranges}
+use Rattle.rules.proofs.shown.Promises.{kept}
 use Rattle.heads.proofs.Laws.{acts-most, datas-most}
 use Rattle.judge.specs.declared.answer.Judged.the-variants.{Verdict}
 use Rattle.judge.specs.Answer.{scheduleRefusal}

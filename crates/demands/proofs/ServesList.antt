@@ -20,7 +20,7 @@ use Rattle.rules.specs.declared.verdict.Verdict.{Verdict as Verdicts}
 use Rattle.rules.specs.declared.verdict.Verdict.the-variants.{Accepted as Passed, Refused as Broken}
 use Rattle.rules.specs.CycleRule.{Built as IsBuilt}
 use Rattle.rules.specs.Verdict.{judge, Legal}
-use Rattle.rules.proofs.Promises.{kept}
+use Rattle.rules.proofs.shown.Promises.{kept}
 use Rattle.judge.specs.declared.answer.Judged.the-variants.{Verdict}
 use Rattle.judge.specs.Answer.{scheduleRefusal}
 use Rattle.judge.proofs.Accepts.{judge-accepts}

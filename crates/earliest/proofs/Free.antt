@@ -25,7 +25,7 @@ use Rattle.rules.specs.Square.{groupOf, rrdOf, square, side, cell, writeTail}
 use Rattle.rules.specs.State.{past, isOpen, bankOf, quiet, charged, actsFar, farBy, dataFar, atRest, rule7, rule11, rule12, dataTestsOf, testsBy, breaksNone}
 use Rattle.rules.specs.Queues.{Due, dueAt, actQueue, dataQueue, headAfter}
 use Rattle.rules.specs.CycleRule.{seen, hadAct, legalAt, otherwise, goes}
-use Rattle.rules.proofs.TestLaws.{and-fst, and-snd, bool-eq}
+use Rattle.rules.proofs.laws.TestLaws.{and-fst, and-snd, bool-eq}
 use Rattle.earliest.specs.Earliest.{limit, since, gate, mostBelow, chargedFrom, actsFrom, farFrom, datasFrom, restFrom, restsFrom, dataFrom, freeFrom, headFrom, actDueFrom, dataDueFrom, actHeadFrom, dataHeadFrom}
 use Rattle.earliest.specs.Jump.{atCycle}
 

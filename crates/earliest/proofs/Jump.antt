@@ -15,7 +15,7 @@ use Rattle.rules.specs.declared.state.State.{State}
 use Rattle.rules.specs.State.{after}
 use Rattle.rules.specs.CycleRule.{goes, push}
 use Rattle.rules.specs.Run.{served, stops, Ran, oneMore, run}
-use Rattle.rules.proofs.RunTo.{stopped, going}
+use Rattle.rules.proofs.runs.RunTo.{stopped, going}
 use Rattle.earliest.specs.Earliest.{limit}
 use Rattle.earliest.specs.Jump.{atCycle, leavesAt, leftOf, endsAt, later, jumps, jump}
 use Rattle.earliest.proofs.Free.{quiet-before}

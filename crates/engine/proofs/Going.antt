@@ -24,11 +24,11 @@ use Rattle.rules.specs.Pattern.{onto}
 use Rattle.rules.specs.Queues.{actQueue, dataQueue}
 use Rattle.rules.specs.CycleRule.{goes, push}
 use Rattle.rules.specs.Run.{served, stops, Ran, oneMore, run}
-use Rattle.rules.proofs.TestLaws.{neither}
-use Rattle.rules.proofs.Queue.{act-length, data-length}
-use Rattle.rules.proofs.Caps.{Capped, caps-step}
-use Rattle.rules.proofs.RunTo.{stopped, going}
-use Rattle.rules.proofs.Count.{run-room}
+use Rattle.rules.proofs.laws.TestLaws.{neither}
+use Rattle.rules.proofs.queues.Queue.{act-length, data-length}
+use Rattle.rules.proofs.queues.Counts.{Capped, caps-step}
+use Rattle.rules.proofs.runs.RunTo.{stopped, going}
+use Rattle.rules.proofs.runs.HowMany.{run-room}
 use Rattle.heads.specs.declared.queue.Queue.{Queue}
 use Rattle.heads.specs.declared.queue.Queues.{Queues}
 use Rattle.heads.specs.Queue.{Listed, Placed, Stands, BothStand, actsLeft, datasLeft}

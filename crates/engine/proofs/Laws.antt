@@ -20,12 +20,12 @@ use Rattle.rules.specs.Square.{groupOf}
 use Rattle.rules.specs.State.{bankOf, groupAt, actsFar, dataFar, rule11, rule12, breaksNone}
 use Rattle.rules.specs.Queues.{Due, actCount, actQueue, dataQueue, headAfter}
 use Rattle.rules.specs.CycleRule.{seen, hadAct, legalAt, otherwise, goes}
-use Rattle.rules.proofs.TestLaws.{and-fst, OnSome}
-use Rattle.rules.proofs.Ranges.{ranges}
-use Rattle.rules.proofs.Fit.{AllFit, Inside, place-at, act-bank, data-bank}
-use Rattle.rules.proofs.DataKinds.{is-data, not-in-acts, act-queued, act-no-data}
-use Rattle.rules.proofs.Queue.{Place, dataCount, actPlace, dataPlace, actDue, dataDue, act-head, data-head}
-use Rattle.rules.proofs.Heads.{goes-place}
+use Rattle.rules.proofs.laws.TestLaws.{and-fst, OnSome}
+use Rattle.rules.proofs.laws.Ranges.{ranges}
+use Rattle.rules.proofs.queues.Fit.{AllFit, Inside, place-at, act-bank, data-bank}
+use Rattle.rules.proofs.laws.DataKinds.{is-data, not-in-acts, act-queued, act-no-data}
+use Rattle.rules.proofs.queues.Queue.{Place, dataCount, actPlace, dataPlace, actDue, dataDue, act-head, data-head}
+use Rattle.rules.proofs.queues.Heads.{goes-place}
 use Rattle.heads.specs.declared.head.Head.{Head}
 use Rattle.heads.specs.declared.queue.Queues.{Queues}
 use Rattle.heads.specs.Head.{dueOf}

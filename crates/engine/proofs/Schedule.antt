@@ -32,13 +32,13 @@ use Rattle.rules.specs.CycleRule.{actsIn, datasIn, goesAt, push, gone, Built}
 use Rattle.rules.specs.Run.{Ran, run}
 use Rattle.rules.specs.Finish.{lastCommandIn, lastCommand, finishOf, finish}
 use Rattle.rules.specs.Promise.{nextCycle, cycleOf, lastCommandCycle, Kept}
-use Rattle.rules.proofs.TestLaws.{and-fst, and-snd, OnSome, on-pick, on-map}
-use Rattle.rules.proofs.Numbers.{from?}
-use Rattle.rules.proofs.DataKinds.{is-known, act-known, kind-back}
-use Rattle.rules.proofs.Queue.{Place, dataCount, placeOf, find}
-use Rattle.rules.proofs.Heads.{goes-place}
-use Rattle.rules.proofs.Count.{length-turn}
-use Rattle.rules.proofs.Promises.{promise}
+use Rattle.rules.proofs.laws.TestLaws.{and-fst, and-snd, OnSome, on-pick, on-map}
+use Rattle.rules.proofs.laws.Numbers.{from?}
+use Rattle.rules.proofs.laws.DataKinds.{is-known, act-known, kind-back}
+use Rattle.rules.proofs.queues.Queue.{Place, dataCount, placeOf, find}
+use Rattle.rules.proofs.queues.Heads.{goes-place}
+use Rattle.rules.proofs.runs.HowMany.{length-turn}
+use Rattle.rules.proofs.shown.Promises.{promise}
 use Rattle.heads.specs.Queue.{Listed}
 use Rattle.heads.proofs.Laws.{first, length-from, whole}
 use Rattle.engine.specs.declared.run.Ran as Answer

@@ -15,7 +15,7 @@ use Rattle.rules.specs.declared.state.State.{State}
 use Rattle.rules.specs.Kinds.{isWr, isRef, isData, inActQueue}
 use Rattle.rules.specs.Square.{groupOf}
 use Rattle.rules.specs.State.{bankOf, groupAt, actsFar, dataFar, rule7, rule11, rule12, actTestsOf, actTests, dataTestsOf, dataTests, testsBy, breaksNone}
-use Rattle.rules.proofs.TestLaws.{true-false}
+use Rattle.rules.proofs.laws.TestLaws.{true-false}
 use Rattle.heads.specs.declared.head.Head.{Head}
 use Rattle.timing.proofs.Grouped.{Rest, act-rest, data-rest}
 use Rattle.choices.specs.Choose.{commandOf, seenAt, dataFree, actFree}

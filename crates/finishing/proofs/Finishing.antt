@@ -11,7 +11,7 @@ use Rattle.records.specs.declared.table.Table.{Table}
 use Rattle.records.specs.declared.transaction.Transaction.{Transaction}
 use Rattle.records.specs.Transaction.{laterAt}
 use Rattle.rules.specs.Finish.{finishOf}
-use Rattle.rules.proofs.Numbers.{same?}
+use Rattle.rules.proofs.laws.Numbers.{same?}
 use Rattle.finishing.specs.Finish.{Finished}
 
 pub not-yet : (τ : Table) (s f : List ℕ) → Finished τ s 0 f f

@@ -17,8 +17,8 @@ use Rattle.rules.specs.declared.state.Stamp.the-variants.{At}
 use Rattle.rules.specs.Kinds.{canEnd}
 use Rattle.rules.specs.Pattern.{onto}
 use Rattle.rules.specs.Finish.{lastCommandIn, lastCommand}
-use Rattle.rules.proofs.TestLaws.{and-fst, and-snd}
-use Rattle.rules.proofs.Numbers.{same?}
+use Rattle.rules.proofs.laws.TestLaws.{and-fst, and-snd}
+use Rattle.rules.proofs.laws.Numbers.{same?}
 use Rattle.finishing.specs.Finish.{cycleOr, Marked}
 
 -- ---- one command more

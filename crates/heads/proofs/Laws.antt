@@ -15,10 +15,10 @@ use Rattle.records.specs.declared.transaction.Transaction.{Transaction}
 use Rattle.records.specs.Transaction.{laterAt, laterFrom, fits}
 use Rattle.records.proofs.Arrivals.{few-listed, each-listed}
 use Rattle.rules.specs.Queues.{Due, actCount, actQueue, dataQueue, headAfter}
-use Rattle.rules.proofs.Ranges.{ranges}
-use Rattle.rules.proofs.TestLaws.{and-fst, and-snd}
-use Rattle.rules.proofs.Fit.{Fits, AllFit, is-fit, all-fit, plain-count}
-use Rattle.rules.proofs.Queue.{Place, dataCount, placeOf, find, actDue, dataDue, sum, actSum, act-head, data-head, act-length, data-length, at-own, find-end, sum-append}
+use Rattle.rules.proofs.laws.Ranges.{ranges}
+use Rattle.rules.proofs.laws.TestLaws.{and-fst, and-snd}
+use Rattle.rules.proofs.queues.Fit.{Fits, AllFit, is-fit, all-fit, plain-count}
+use Rattle.rules.proofs.queues.Queue.{Place, dataCount, placeOf, find, actDue, dataDue, sum, actSum, act-head, data-head, act-length, data-length, at-own, find-end, sum-append}
 use Rattle.heads.specs.declared.head.Head.{Head}
 use Rattle.heads.specs.Queue.{Listed, queueOf, Placed, Found}
 

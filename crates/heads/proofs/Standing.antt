@@ -16,11 +16,11 @@ use Rattle.records.specs.declared.transaction.Transaction.{Transaction}
 use Rattle.records.specs.Table.{Accepted}
 use Rattle.records.specs.Transaction.{laterAt, fits}
 use Rattle.rules.specs.Queues.{bankAt, actCount, actQueue, headAfter}
-use Rattle.rules.proofs.Numbers.{round}
-use Rattle.rules.proofs.Ranges.{ranges}
-use Rattle.rules.proofs.Fit.{Fit, Inside, is-fit, data-fit, bank-fit, act-bank, data-bank}
-use Rattle.rules.proofs.Queue.{placeOf, act-length}
-use Rattle.rules.proofs.Queue as Q
+use Rattle.rules.proofs.laws.Numbers.{round}
+use Rattle.rules.proofs.laws.Ranges.{ranges}
+use Rattle.rules.proofs.queues.Fit.{Fit, Inside, is-fit, data-fit, bank-fit, act-bank, data-bank}
+use Rattle.rules.proofs.queues.Queue.{placeOf, act-length}
+use Rattle.rules.proofs.queues.Queue as Q
 use Rattle.heads.specs.declared.head.Head.{Head}
 use Rattle.heads.specs.declared.queue.Place.{Place}
 use Rattle.heads.specs.Head.{noHead, headOf, dueOf}

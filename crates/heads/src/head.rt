@@ -9,7 +9,7 @@ ghost use Prim.Native.Nat.{_+_, _*_, _<_, _≤_};
 ghost use Rattle.records.specs.Table.{Accepted};
 ghost use Rattle.records.specs.Transaction.{fits};
 ghost use Rattle.rules.specs.Queues.{bankAt, actCount};
-ghost use Rattle.rules.proofs.Queue.{placeOf, actDue, dataDue};
+ghost use Rattle.rules.proofs.queues.Queue.{placeOf, actDue, dataDue};
 ghost use Rattle.heads.specs.Head.{headOf, noHead};
 
 // The command that stands there, if any does; `act` is the place in the ACT queue of the ACT of its bank, `arrival` its transaction's.

@@ -21,8 +21,8 @@ use Rattle.records.specs.Command.{bytesOfAll}
 use Rattle.records.proofs.Arrivals.{few-listed}
 use Rattle.rules.specs.Verdict.{judge}
 use Rattle.rules.specs.Queues.{actQueue, dataQueue}
-use Rattle.rules.proofs.Queue.{act-length, data-length}
-use Rattle.rules.proofs.Built.{each-fits, built-count}
+use Rattle.rules.proofs.queues.Queue.{act-length, data-length}
+use Rattle.rules.proofs.shown.Built.{each-fits, built-count}
 use Rattle.heads.proofs.Laws.{acts-most, datas-most}
 use Rattle.capture.specs.declared.answer.CaptureJudged.the-variants.{Verdict, Refused as NotCaptured}
 use Rattle.capture.specs.Answer.{commandsSeen, captureRefusal, positionOf, Captured, captured}

@@ -21,8 +21,8 @@ use Rattle.rules.specs.declared.verdict.PatternVerdict.the-variants.{Accepted, 
 use Rattle.rules.specs.State.{fresh}
 use Rattle.rules.specs.Verdict.{judgeFrom}
 use Rattle.rules.specs.Pattern.{copy, onto, copiesFrom, copies}
-use Rattle.rules.proofs.JudgeState.{Judging, judging-fresh}
-use Rattle.rules.proofs.Pattern.{five-legal, refused-from, accepted-below}
+use Rattle.rules.proofs.history.JudgeState.{Judging, judging-fresh}
+use Rattle.rules.proofs.patterns.FiveDecide.{five-legal, refused-from, accepted-below}
 use Rattle.judge.specs.Answer.{PatternSays}
 use Rattle.copies.specs.Seen.{whole}
 use Rattle.copies.proofs.Seen.{whole-next}

@@ -9,7 +9,7 @@ use lib.Dec.{ltb, eqb}
 use borrow.Author.Tests.{ltb-false}
 use Rattle.records.specs.Told.{firstFailed}
 use Rattle.records.proofs.Laws.{passes}
-use Rattle.rules.proofs.TestLaws.{true-false}
+use Rattle.rules.proofs.laws.TestLaws.{true-false}
 use Rattle.judge.specs.Answer.{notASchedule}
 
 -- a schedule that is not refused has few records

@@ -15,7 +15,7 @@ use Rattle.rules.specs.declared.verdict.Rule.{Rule}
 use Rattle.rules.specs.declared.verdict.PatternVerdict.{PatternVerdict}
 use Rattle.rules.specs.declared.verdict.PatternVerdict.the-variants.{Accepted, Refused}
 use Rattle.rules.specs.Pattern.{EveryNumberLegal, copies}
-use Rattle.rules.proofs.Pattern.{five-accepted, five-legal}
+use Rattle.rules.proofs.patterns.FiveDecide.{five-accepted, five-legal}
 use Rattle.judge.specs.declared.answer.Judged.{Judged}
 use Rattle.judge.specs.declared.answer.PatternJudged.{PatternJudged}
 use Rattle.judge.specs.declared.answer.PatternJudged.the-variants.{Verdict as Said, Refused as NotJudged}

@@ -13,7 +13,7 @@ ghost use Rattle.rules.specs.Square.{square};
 ghost use Rattle.rules.specs.Verdict.{judgeFrom};
 ghost use Rattle.rules.specs.Pattern.{copy};
 ghost use Rattle.rules.specs.State.{Held};
-ghost use Rattle.rules.proofs.JudgeState.{Judging};
+ghost use Rattle.rules.proofs.history.JudgeState.{Judging};
 ghost use Rattle.timing.specs.Kept.{told};
 ghost use Rattle.copies.specs.Seen.{recordCount, whole};
 

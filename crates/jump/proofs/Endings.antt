@@ -5,7 +5,7 @@ use mathlib.Core.Bool.{true, false}
 use Rattle.records.specs.declared.command.Kind.{Kind}
 use Rattle.records.specs.declared.command.Kind.the-variants.{Act, Rd, Rda, Wr, Wra, Ref, Other}
 use Rattle.rules.specs.Kinds.{isAct, isRef, isData, canEnd, isKnown}
-use Rattle.rules.proofs.TestLaws.{true-false}
+use Rattle.rules.proofs.laws.TestLaws.{true-false}
 
 pub data-ends : (k : Kind) → isData k ≡ true → (canEnd k ≡ true) × (isKnown k ≡ true)
 data-ends Act e = true-false false e refl

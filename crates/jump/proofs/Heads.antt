@@ -22,9 +22,9 @@ use Rattle.rules.specs.Kinds.{isWr, isRef, isData, inActQueue}
 use Rattle.rules.specs.Square.{groupOf}
 use Rattle.rules.specs.State.{isOpen, bankOf}
 use Rattle.rules.specs.Queues.{Due, actCount, dataQueue, headAfter}
-use Rattle.rules.proofs.TestLaws.{true-false, OnSome}
-use Rattle.rules.proofs.Fit.{AllFit, Inside, place-at, data-bank}
-use Rattle.rules.proofs.Queue.{Place, dataCount, find, dataPlace, actDue, dataDue, act-head, data-head}
+use Rattle.rules.proofs.laws.TestLaws.{true-false, OnSome}
+use Rattle.rules.proofs.queues.Fit.{AllFit, Inside, place-at, data-bank}
+use Rattle.rules.proofs.queues.Queue.{Place, dataCount, find, dataPlace, actDue, dataDue, act-head, data-head}
 use Rattle.heads.specs.declared.head.Head.{Head}
 use Rattle.heads.specs.declared.queue.Queues.{Queues}
 use Rattle.heads.specs.Head.{dueOf}

@@ -18,7 +18,7 @@ use Rattle.rules.specs.declared.state.State.{State}
 use Rattle.rules.specs.Queues.{Due, actQueue, dataQueue, headAfter}
 use Rattle.rules.specs.CycleRule.{goes, otherwise}
 use Rattle.rules.specs.Run.{served, stops, Ran, run}
-use Rattle.rules.proofs.TestLaws.{and-fst, and-snd}
+use Rattle.rules.proofs.laws.TestLaws.{and-fst, and-snd}
 use Rattle.heads.specs.declared.head.Head.{Head}
 use Rattle.heads.specs.declared.queue.Queues.{Queues}
 use Rattle.heads.specs.Head.{dueOf}

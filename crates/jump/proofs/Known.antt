@@ -16,7 +16,7 @@ use Rattle.records.specs.declared.table.Table.{Table}
 use Rattle.rules.specs.declared.state.Bank.{Bank}
 use Rattle.rules.specs.Square.{groupOf}
 use Rattle.rules.specs.State.{isOpen}
-use Rattle.rules.proofs.Numbers.{same?, from?}
+use Rattle.rules.proofs.laws.Numbers.{same?, from?}
 use Rattle.heads.specs.declared.head.Head.{Head}
 use Rattle.timing.specs.declared.kept.KeptBank.{KeptBank}
 use Rattle.timing.specs.declared.kept.KeptGroup.{KeptGroup}

@@ -14,8 +14,8 @@ use borrow.Author.Tests.{eq-eqb, eqb-true}
 use Rattle.records.specs.Tests.{pick}
 use Rattle.records.specs.declared.table.Table.{Table}
 use Rattle.rules.specs.Square.{rrdOf, square, side, cell}
-use Rattle.rules.proofs.Numbers.{same?, from?}
-use Rattle.rules.proofs.Ranges.{Ranges}
+use Rattle.rules.proofs.laws.Numbers.{same?, from?}
+use Rattle.rules.proofs.laws.Ranges.{Ranges}
 use Rattle.timing.specs.declared.kept.KeptGroup.{KeptGroup}
 use Rattle.timing.specs.Kept.{stampOf, toldGroup, quietKept, groupOpened, groupMoved}
 use Rattle.earliest.specs.Earliest.{limit, since, mostBelow, actsFrom, farFrom, datasFrom}

@@ -17,9 +17,9 @@ use Rattle.records.specs.Command.{bytesOf}
 use Rattle.rules.specs.Kinds.{isAct, isWr, isRef, isData, inActQueue}
 use Rattle.rules.specs.Square.{square, groupOf}
 use Rattle.rules.specs.State.{isOpen}
-use Rattle.rules.proofs.TestLaws.{true-false, and-fst, and-snd}
-use Rattle.rules.proofs.Ranges.{ranges}
-use Rattle.rules.proofs.DataKinds.{kind-back}
+use Rattle.rules.proofs.laws.TestLaws.{true-false, and-fst, and-snd}
+use Rattle.rules.proofs.laws.Ranges.{ranges}
+use Rattle.rules.proofs.laws.DataKinds.{kind-back}
 use Rattle.heads.specs.declared.queue.Queue.{Queue}
 use Rattle.heads.specs.declared.queue.Queues.{Queues}
 use Rattle.heads.specs.Queue.{Listed, leftAt, Found, Stands}

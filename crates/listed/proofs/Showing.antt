@@ -16,7 +16,7 @@ use Rattle.records.specs.declared.command.Command.{Command}
 use Rattle.records.specs.Table.{Accepted}
 use Rattle.records.specs.Transaction.{transactionsIn, listFits}
 use Rattle.records.specs.Command.{commandsFrom, bytesOfAll}
-use Rattle.rules.proofs.Promises.{kept}
+use Rattle.rules.proofs.shown.Promises.{kept}
 use Rattle.records.proofs.Listed.{length-list}
 use Rattle.engine.specs.Build.{finishesFrom}
 use Rattle.records.proofs.Written.{read-back}

@@ -15,8 +15,8 @@ use Rattle.records.specs.Transaction.{isWrite}
 use Rattle.records.specs.declared.table.Table.{Table}
 use Rattle.records.specs.declared.transaction.Transaction.{Transaction}
 use Rattle.rules.specs.Queues.{Due, bankAt, dataKind, numbered, joined, actCount, burstsOf, datasOf, queueFrom, dataQueue, headAfter}
-use Rattle.rules.proofs.Fit.{Fits, AllFit, plain-count}
-use Rattle.rules.proofs.Queue.{actSum}
+use Rattle.rules.proofs.queues.Fit.{Fits, AllFit, plain-count}
+use Rattle.rules.proofs.queues.Queue.{actSum}
 use Rattle.heads.specs.declared.head.Head.{Head}
 use Rattle.heads.specs.Head.{dueOf}
 use Rattle.refusals.specs.Refused.{goneBacked}

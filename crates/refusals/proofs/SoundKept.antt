@@ -22,11 +22,11 @@ use Rattle.rules.specs.Queues.{Due, dueAt, actQueue, dataQueue, headAfter}
 use Rattle.rules.specs.CycleRule.{goes}
 use Rattle.rules.specs.Run.{run}
 use Rattle.rules.specs.Pieces.{lend, overLent}
-use Rattle.rules.proofs.TestLaws.{and-both, and-fst, and-snd, OnSome, on-map}
-use Rattle.rules.proofs.Queue.{Place, actDue, dataDue, actPlace, dataPlace, act-head, data-head}
-use Rattle.rules.proofs.DataKinds.{not-in-acts, is-data, act-queued, act-no-data}
-use Rattle.rules.proofs.Heads.{test-at}
-use Rattle.rules.proofs.Legal.{goes-all}
+use Rattle.rules.proofs.laws.TestLaws.{and-both, and-fst, and-snd, OnSome, on-map}
+use Rattle.rules.proofs.queues.Queue.{Place, actDue, dataDue, actPlace, dataPlace, act-head, data-head}
+use Rattle.rules.proofs.laws.DataKinds.{not-in-acts, is-data, act-queued, act-no-data}
+use Rattle.rules.proofs.queues.Heads.{test-at}
+use Rattle.rules.proofs.history.Legal.{goes-all}
 use Rattle.refusals.specs.Refused.{banksBefore, groupsBefore, lastBefore, backed, sound}
 use Rattle.refusals.proofs.Backed.{in-list}
 use Rattle.refusals.proofs.StoredKept.{Stored, stored-later, stored-after, goes-now, next-cycle, run-keeps, every-map}

@@ -24,9 +24,9 @@ use Rattle.rules.specs.Square.{groupOf}
 use Rattle.rules.specs.State.{shut, bankOf, quiet, groupAt, breaksNone, bankAfter, groupAfter, note, after}
 use Rattle.rules.specs.CycleRule.{goes, push}
 use Rattle.rules.specs.Run.{stops, run}
-use Rattle.rules.proofs.TestLaws.{and-both, and-fst, and-snd, OnSome, every-at}
-use Rattle.rules.proofs.Legal.{goes-all}
-use Rattle.rules.proofs.RunTo.{stopped, going}
+use Rattle.rules.proofs.laws.TestLaws.{and-both, and-fst, and-snd, OnSome, every-at}
+use Rattle.rules.proofs.history.Legal.{goes-all}
+use Rattle.rules.proofs.runs.RunTo.{stopped, going}
 use Rattle.refusals.specs.Refused.{before, bankStamps, groupStamps, lastStamps, bankBefore, banksBefore, groupBefore, groupsBefore, lastBefore}
 
 -- a command cycle of a state's first n banks, of its first m groups, of its four ACTs and of its last REF is before cycle t

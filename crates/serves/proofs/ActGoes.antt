@@ -20,14 +20,14 @@ use Rattle.rules.specs.declared.state.State.{State}
 use Rattle.rules.specs.Kinds.{isAct, isData}
 use Rattle.rules.specs.State.{isOpen, bankOf, atRest, charged, actTests, refreshTests, testsBy, breaksNone}
 use Rattle.rules.specs.Queues.{Due, dueAt, actQueue, dataQueue}
-use Rattle.rules.proofs.TestLaws.{true-false, and-fst}
-use Rattle.rules.proofs.Numbers.{same?, from?}
-use Rattle.rules.proofs.Ranges.{Ranges}
-use Rattle.rules.proofs.Below.{below-each}
-use Rattle.rules.proofs.Heads.{test-at}
-use Rattle.rules.proofs.Fit.{AllFit, bank-lt}
-use Rattle.rules.proofs.Progress.{Progress}
-use Rattle.rules.proofs.StillOpen.{due-open}
+use Rattle.rules.proofs.laws.TestLaws.{true-false, and-fst}
+use Rattle.rules.proofs.laws.Numbers.{same?, from?}
+use Rattle.rules.proofs.laws.Ranges.{Ranges}
+use Rattle.rules.proofs.laws.Below.{below-each}
+use Rattle.rules.proofs.queues.Heads.{test-at}
+use Rattle.rules.proofs.queues.Fit.{AllFit, bank-lt}
+use Rattle.rules.proofs.bound.Progress.{Progress}
+use Rattle.rules.proofs.added.StillOpen.{due-open}
 use Rattle.serves.specs.Serves.{isThe, recordsOf, duesOf, dueUnder, latestAct}
 use Rattle.serves.proofs.Tests.{and-false, same-some}
 use Rattle.serves.proofs.Alike.{found-dues}

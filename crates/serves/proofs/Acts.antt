@@ -15,12 +15,12 @@ use Rattle.records.specs.declared.command.Kind.the-variants.{Act}
 use Rattle.records.specs.Transaction.{transaction}
 use Rattle.rules.specs.Kinds.{isData}
 use Rattle.rules.specs.Queues.{Due, actCount, actKind, actQueue, dataQueue}
-use Rattle.rules.proofs.TestLaws.{OnSome}
-use Rattle.rules.proofs.Numbers.{from?}
-use Rattle.rules.proofs.Queue.{Place, placeOf, find, actPlace, dataPlace, actDue, dataDue, actBank, sum, actSum, dataSum, act-head, data-head, data-length}
-use Rattle.rules.proofs.Fit.{AllFit, plain-count}
-use Rattle.rules.proofs.DataKinds.{act-no-data}
-use Rattle.rules.proofs.Front.{actOf, Own, data-own}
+use Rattle.rules.proofs.laws.TestLaws.{OnSome}
+use Rattle.rules.proofs.laws.Numbers.{from?}
+use Rattle.rules.proofs.queues.Queue.{Place, placeOf, find, actPlace, dataPlace, actDue, dataDue, actBank, sum, actSum, dataSum, act-head, data-head, data-length}
+use Rattle.rules.proofs.queues.Fit.{AllFit, plain-count}
+use Rattle.rules.proofs.laws.DataKinds.{act-no-data}
+use Rattle.rules.proofs.queues.Front.{actOf, Own, data-own}
 use Rattle.serves.proofs.Tests.{same-some, none-some}
 use Rattle.serves.proofs.Entries.{Spot, spot, sum-up, Entry, entry}
 

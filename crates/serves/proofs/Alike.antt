@@ -15,7 +15,7 @@ use Rattle.records.specs.declared.command.Command.{Command}
 use Rattle.records.specs.Tests.{pick}
 use Rattle.rules.specs.State.{addIf}
 use Rattle.rules.specs.Queues.{Due}
-use Rattle.rules.proofs.TestLaws.{and-fst, and-snd}
+use Rattle.rules.proofs.laws.TestLaws.{and-fst, and-snd}
 use Rattle.serves.specs.Serves.{kindCode, isThe, recordsOf, duesOf, Stands}
 use Rattle.serves.proofs.Tests.{and-true, and-false, same-some, none-some}
 

@@ -18,10 +18,10 @@ use Rattle.records.specs.Transaction.{listFits}
 use Rattle.rules.specs.Pattern.{onto}
 use Rattle.rules.specs.Queues.{actQueue, dataQueue}
 use Rattle.rules.specs.CycleRule.{Built}
-use Rattle.rules.proofs.Ranges.{Ranges, ranges}
-use Rattle.rules.proofs.Queue.{act-length, data-length}
-use Rattle.rules.proofs.Fit.{AllFit}
-use Rattle.rules.proofs.Built.{each-fits, stateAt, built-history, all-gone, built-passes}
+use Rattle.rules.proofs.laws.Ranges.{Ranges, ranges}
+use Rattle.rules.proofs.queues.Queue.{act-length, data-length}
+use Rattle.rules.proofs.queues.Fit.{AllFit}
+use Rattle.rules.proofs.shown.Built.{each-fits, stateAt, built-history, all-gone, built-passes}
 use Rattle.serves.specs.declared.answer.Served.the-variants.{Serves}
 use Rattle.serves.specs.Serves.{recordsOf, duesOf, dueUnder, Stands, actBefore, AtFault, missing, repeated, notItsOwn, otherNumber, outOfOrder, misplaced, DoesTheWork, Says}
 use Rattle.serves.proofs.Exactly.{serves-exactly}

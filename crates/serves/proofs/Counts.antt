@@ -20,11 +20,11 @@ use Rattle.records.specs.Transaction.{isWrite, isRefresh}
 use Rattle.rules.specs.Kinds.{isKnown}
 use Rattle.rules.specs.State.{addIf}
 use Rattle.rules.specs.Pattern.{onto}
-use Rattle.rules.proofs.TestLaws.{true-false}
-use Rattle.rules.proofs.Numbers.{same?, from?}
-use Rattle.rules.proofs.Below.{below-each}
-use Rattle.rules.proofs.Judged.{LegalHistory, holds, in-known, in-bank}
-use Rattle.rules.proofs.Fit.{AllFit}
+use Rattle.rules.proofs.laws.TestLaws.{true-false}
+use Rattle.rules.proofs.laws.Numbers.{same?, from?}
+use Rattle.rules.proofs.laws.Below.{below-each}
+use Rattle.rules.proofs.history.Judged.{LegalHistory, holds, in-known, in-bank}
+use Rattle.rules.proofs.queues.Fit.{AllFit}
 use Rattle.serves.specs.Serves.{kindCode, isThe, recordsOf, dueUnder}
 use Rattle.serves.specs.Check.{indexOf, perBank, dueCount, slot, slotCount, bankAgrees, agrees}
 use Rattle.serves.proofs.Tests.{and-false, FailsAt, below-fails}

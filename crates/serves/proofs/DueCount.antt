@@ -17,8 +17,8 @@ use Rattle.records.specs.Tests.{pick}
 use Rattle.records.specs.Transaction.{isWrite}
 use Rattle.rules.specs.State.{addIf}
 use Rattle.rules.specs.Queues.{Due, bankAt, dataKind, actCount, actKind, actBankAt, actsOf, burstsOf, datasOf, queueFrom, actQueue, dataQueue}
-use Rattle.rules.proofs.Numbers.{same?, from?, round}
-use Rattle.rules.proofs.Fit.{Fit, Refreshing, Fits, plain-count, bank-lt}
+use Rattle.rules.proofs.laws.Numbers.{same?, from?, round}
+use Rattle.rules.proofs.queues.Fit.{Fit, Refreshing, Fits, plain-count, bank-lt}
 use Rattle.serves.specs.Serves.{kindCode, duesOf, dueUnder}
 use Rattle.serves.specs.Check.{indexOf, dueCount}
 use Rattle.serves.proofs.Tests.{and-false}

@@ -16,10 +16,10 @@ use Rattle.records.specs.declared.transaction.Transaction.{Transaction}
 use Rattle.records.specs.Tests.{pick}
 use Rattle.records.specs.Transaction.{isWrite}
 use Rattle.rules.specs.Queues.{Due, bankAt, dataKind, actCount, dataQueue}
-use Rattle.rules.proofs.TestLaws.{OnSome, on-pick, on-map}
-use Rattle.rules.proofs.Numbers.{from?}
-use Rattle.rules.proofs.Queue.{Place, dataCount, placeOf, find, dataPlace, dataDue, sum, actSum, data-head}
-use Rattle.rules.proofs.Fit.{Fit, Fits, AllFit, data-fit}
+use Rattle.rules.proofs.laws.TestLaws.{OnSome, on-pick, on-map}
+use Rattle.rules.proofs.laws.Numbers.{from?}
+use Rattle.rules.proofs.queues.Queue.{Place, dataCount, placeOf, find, dataPlace, dataDue, sum, actSum, data-head}
+use Rattle.rules.proofs.queues.Fit.{Fit, Fits, AllFit, data-fit}
 use Rattle.serves.proofs.Tests.{same-some, none-some}
 use Rattle.serves.proofs.Alike.{Alike}
 

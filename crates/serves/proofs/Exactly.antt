@@ -19,7 +19,7 @@ use Rattle.rules.specs.declared.verdict.Verdict.the-variants.{Accepted, Refused
 use Rattle.rules.specs.Kinds.{isData}
 use Rattle.rules.specs.Pattern.{onto}
 use Rattle.rules.specs.Verdict.{judge}
-use Rattle.rules.proofs.Numbers.{same?, from?}
+use Rattle.rules.proofs.laws.Numbers.{same?, from?}
 use Rattle.serves.specs.declared.answer.Served.{Served}
 use Rattle.serves.specs.declared.answer.Served.the-variants.{Serves, Refused as Judged, AtFault as Names}
 use Rattle.serves.specs.Serves.{recordsOf, dueUnder, Stands, actBefore, AtFault, missing, repeated, notItsOwn, otherNumber, outOfOrder, misplaced, DoesTheWork, NoneBelow, Lowest, Says}

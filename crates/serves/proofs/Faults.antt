@@ -18,10 +18,10 @@ use Rattle.records.specs.declared.command.Command.{Command}
 use Rattle.rules.specs.Kinds.{isRef, isData}
 use Rattle.rules.specs.Pattern.{onto}
 use Rattle.rules.specs.Verdict.{Legal}
-use Rattle.rules.proofs.TestLaws.{true-false, and-fst, and-snd, and-both}
-use Rattle.rules.proofs.Numbers.{from?}
-use Rattle.rules.proofs.Judged.{in-bank}
-use Rattle.rules.proofs.Fit.{AllFit}
+use Rattle.rules.proofs.laws.TestLaws.{true-false, and-fst, and-snd, and-both}
+use Rattle.rules.proofs.laws.Numbers.{from?}
+use Rattle.rules.proofs.history.Judged.{in-bank}
+use Rattle.rules.proofs.queues.Fit.{AllFit}
 use Rattle.serves.specs.Serves.{recordsOf, dueUnder, Stands, latestAct, AtFault, missing, repeated, notItsOwn, otherNumber, outOfOrder, misplaced}
 use Rattle.serves.specs.Check.{lastOf, refOf, mostBelow, another, inside, highOf, slotCount, dueOf, keyIn, placed, topOf, faulty, agrees, wrong}
 use Rattle.serves.proofs.Tests.{or-left, or-right, or-of}

@@ -17,8 +17,8 @@ use Rattle.records.specs.Transaction.{isWrite}
 use Rattle.rules.specs.Kinds.{isAct, isRef, isData}
 use Rattle.rules.specs.State.{addIf}
 use Rattle.rules.specs.Queues.{Due, actQueue, dataQueue}
-use Rattle.rules.proofs.Fit.{AllFit}
-use Rattle.rules.proofs.DataKinds.{is-data, no-act, no-ref}
+use Rattle.rules.proofs.queues.Fit.{AllFit}
+use Rattle.rules.proofs.laws.DataKinds.{is-data, no-act, no-ref}
 use Rattle.serves.specs.Serves.{isThe, recordsOf, duesOf, dueUnder, latestAct, PlacesLater}
 use Rattle.serves.proofs.Tests.{same-some, none-some}
 use Rattle.serves.proofs.Records.{In}

@@ -20,13 +20,13 @@ use Rattle.rules.specs.State.{breaksNone, fresh, after}
 use Rattle.rules.specs.Queues.{Due, dueAt, actQueue, dataQueue}
 use Rattle.rules.specs.CycleRule.{goes, push}
 use Rattle.rules.specs.Run.{steps}
-use Rattle.rules.proofs.TestLaws.{true-false, OnSome}
-use Rattle.rules.proofs.Ranges.{Ranges}
-use Rattle.rules.proofs.Legal.{goes-all}
-use Rattle.rules.proofs.Fit.{AllFit}
-use Rattle.rules.proofs.DataKinds.{act-queued}
-use Rattle.rules.proofs.Progress.{Progress, progress-fresh, steps-progress}
-use Rattle.rules.proofs.Exact.{steps-last}
+use Rattle.rules.proofs.laws.TestLaws.{true-false, OnSome}
+use Rattle.rules.proofs.laws.Ranges.{Ranges}
+use Rattle.rules.proofs.history.Legal.{goes-all}
+use Rattle.rules.proofs.queues.Fit.{AllFit}
+use Rattle.rules.proofs.laws.DataKinds.{act-queued}
+use Rattle.rules.proofs.bound.Progress.{Progress, progress-fresh, steps-progress}
+use Rattle.rules.proofs.history.Exact.{steps-last}
 use Rattle.serves.specs.Serves.{isThe, recordsOf, duesOf, dueUnder, Placed, PlacesLater}
 use Rattle.serves.proofs.Tests.{and-false}
 use Rattle.serves.proofs.Alike.{alike-of, of-alike, found-dues}

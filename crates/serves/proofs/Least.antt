@@ -12,8 +12,8 @@ use borrow.Author.Tests.{ltb-true, ltb-false, eqb-true, lt-ltb, eq-eqb}
 use Rattle.records.specs.declared.command.Command.{Command}
 use Rattle.records.specs.Tests.{pick}
 use Rattle.rules.specs.Kinds.{isRef}
-use Rattle.rules.proofs.TestLaws.{true-false, and-fst, and-snd}
-use Rattle.rules.proofs.Numbers.{from?}
+use Rattle.rules.proofs.laws.TestLaws.{true-false, and-fst, and-snd}
+use Rattle.rules.proofs.laws.Numbers.{from?}
 use Rattle.serves.specs.Check.{mostOf, lastOf, refOf, mostBelow, anyOutside, leastBy}
 use Rattle.serves.proofs.Records.{Somewhere, Has}
 

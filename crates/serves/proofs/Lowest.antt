@@ -16,9 +16,9 @@ use Rattle.records.specs.declared.command.Command.{Command}
 use Rattle.records.specs.Tests.{pick}
 use Rattle.rules.specs.Pattern.{onto}
 use Rattle.rules.specs.Verdict.{Legal}
-use Rattle.rules.proofs.TestLaws.{true-false}
-use Rattle.rules.proofs.Numbers.{from?}
-use Rattle.rules.proofs.Fit.{AllFit}
+use Rattle.rules.proofs.laws.TestLaws.{true-false}
+use Rattle.rules.proofs.laws.Numbers.{from?}
+use Rattle.rules.proofs.queues.Fit.{AllFit}
 use Rattle.serves.specs.declared.answer.Served.the-variants.{Serves, AtFault as Names}
 use Rattle.serves.specs.Serves.{NoneBelow, Says}
 use Rattle.serves.specs.Check.{faulty, wrong, leastBy, anyOutside, FirstAt, answerOf}

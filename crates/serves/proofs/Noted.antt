@@ -19,9 +19,9 @@ use Rattle.records.specs.declared.command.Command.{Command}
 use Rattle.records.specs.Tests.{pick, within}
 use Rattle.rules.specs.Kinds.{isAct, isRef, isData, isKnown}
 use Rattle.rules.specs.State.{addIf}
-use Rattle.rules.proofs.TestLaws.{true-false}
-use Rattle.rules.proofs.Numbers.{same?}
-use Rattle.rules.proofs.Judged.{in-known}
+use Rattle.rules.proofs.laws.TestLaws.{true-false}
+use Rattle.rules.proofs.laws.Numbers.{same?}
+use Rattle.rules.proofs.history.Judged.{in-known}
 use Rattle.serves.specs.declared.turn.Marks.{Marks}
 use Rattle.serves.specs.Serves.{kindCode, latestAct}
 use Rattle.serves.specs.Check.{slot, lastOf, refOf, another, highOf, slotCount, anyOutside, leastBy, dueOf, keyIn, topOf, faulty, faultyBy, marksAfter}

@@ -19,9 +19,9 @@ use Rattle.rules.specs.Kinds.{isAct, isData}
 use Rattle.rules.specs.History.{inTable, openAfter, openIn, dataRules, rulesBy, broken}
 use Rattle.rules.specs.Pattern.{onto}
 use Rattle.rules.specs.Verdict.{Legal}
-use Rattle.rules.proofs.TestLaws.{true-false}
-use Rattle.rules.proofs.Heads.{test-at}
-use Rattle.rules.proofs.Judged.{LegalHistory, holds, accepted-legal}
+use Rattle.rules.proofs.laws.TestLaws.{true-false}
+use Rattle.rules.proofs.queues.Heads.{test-at}
+use Rattle.rules.proofs.history.Judged.{LegalHistory, holds, accepted-legal}
 use Rattle.serves.specs.Serves.{Stands, latestAct}
 use Rattle.serves.proofs.Records.{Somewhere, before-at}
 

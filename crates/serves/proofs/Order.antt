@@ -18,11 +18,11 @@ use Rattle.records.specs.Tests.{pick}
 use Rattle.records.specs.Transaction.{isWrite}
 use Rattle.rules.specs.Kinds.{isData}
 use Rattle.rules.specs.Queues.{Due, dataKind, actQueue, dataQueue}
-use Rattle.rules.proofs.TestLaws.{true-false, and-fst, and-snd}
-use Rattle.rules.proofs.Numbers.{from?}
-use Rattle.rules.proofs.Queue.{Place, actPlace, actDue, act-head}
-use Rattle.rules.proofs.Fit.{AllFit, bank-lt}
-use Rattle.rules.proofs.DataKinds.{is-data, act-no-data}
+use Rattle.rules.proofs.laws.TestLaws.{true-false, and-fst, and-snd}
+use Rattle.rules.proofs.laws.Numbers.{from?}
+use Rattle.rules.proofs.queues.Queue.{Place, actPlace, actDue, act-head}
+use Rattle.rules.proofs.queues.Fit.{AllFit, bank-lt}
+use Rattle.rules.proofs.laws.DataKinds.{is-data, act-no-data}
 use Rattle.serves.specs.Serves.{kindCode, isThe, duesOf, dueUnder, Placed, PlacesLater}
 use Rattle.serves.specs.Check.{indexOf, keyOf, dueOf, keyIn, placed}
 use Rattle.serves.proofs.Tests.{same-some}

@@ -18,8 +18,8 @@ use Rattle.records.specs.Command.{commandAt, commandsIn}
 use Rattle.rules.specs.Pattern.{onto}
 use Rattle.rules.specs.Verdict.{Legal}
 use Rattle.rules.specs.State.{addIf}
-use Rattle.rules.proofs.Ranges.{ranges}
-use Rattle.rules.proofs.Judged.{in-known, in-bank}
+use Rattle.rules.proofs.laws.Ranges.{ranges}
+use Rattle.rules.proofs.history.Judged.{in-known, in-bank}
 use Rattle.heads.specs.Queue.{Listed}
 use Rattle.heads.proofs.Laws.{length-from, first-fits, few as few-listed}
 use Rattle.serves.specs.declared.turn.Marks.{Marks}

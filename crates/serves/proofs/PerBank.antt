@@ -10,7 +10,7 @@ use borrow.Author.Tests.{eq-eqb, ne-eqb}
 use Rattle.records.specs.Tests.{pick}
 use Rattle.rules.specs.State.{addIf}
 use Rattle.rules.specs.Queues.{dataKind}
-use Rattle.rules.proofs.Numbers.{same?}
+use Rattle.rules.proofs.laws.Numbers.{same?}
 use Rattle.serves.specs.Serves.{kindCode}
 use Rattle.serves.specs.Check.{perBank}
 use Rattle.serves.proofs.Totals.{total, total-none, total-all, total-last}

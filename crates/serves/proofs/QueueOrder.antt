@@ -20,10 +20,10 @@ use Rattle.records.specs.Command.{command}
 use Rattle.rules.specs.Kinds.{isData}
 use Rattle.rules.specs.State.{addIf}
 use Rattle.rules.specs.Queues.{Due, dueAt, actQueue, dataQueue}
-use Rattle.rules.proofs.TestLaws.{true-false}
-use Rattle.rules.proofs.Numbers.{from?}
-use Rattle.rules.proofs.Fit.{AllFit}
-use Rattle.rules.proofs.Built.{each-fits}
+use Rattle.rules.proofs.laws.TestLaws.{true-false}
+use Rattle.rules.proofs.laws.Numbers.{from?}
+use Rattle.rules.proofs.queues.Fit.{AllFit}
+use Rattle.rules.proofs.shown.Built.{each-fits}
 use Rattle.serves.specs.Serves.{isThe, recordsOf, duesOf, dueUnder, Stands, Placed, EachDue, InOrder, DoesTheWork, dataRecords, queued, AreTheQueue, DataOnce}
 use Rattle.serves.specs.Check.{keyIn}
 use Rattle.serves.proofs.Tests.{same-some, none-some}

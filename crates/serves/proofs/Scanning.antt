@@ -8,7 +8,7 @@ use mathlib.Core.Bool.{Bool, true, false, not, _&&_, _||_}
 use lib.Dec.{ltb}
 use Rattle.records.specs.declared.transaction.Transaction.{Transaction}
 use Rattle.records.specs.Tests.{everyBelow}
-use Rattle.rules.proofs.Numbers.{from?}
+use Rattle.rules.proofs.laws.Numbers.{from?}
 use Rattle.serves.specs.Check.{agrees, mostBelow, wrongBy, FirstAt}
 
 -- a bank more

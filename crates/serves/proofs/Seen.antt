@@ -15,8 +15,8 @@ use Rattle.records.specs.Transaction.{laterAt, laterFrom}
 use Rattle.records.specs.Command.{kindOf, commandAt, commandsFrom, commandsIn}
 use Rattle.rules.specs.Pattern.{onto}
 use Rattle.rules.specs.Verdict.{Legal}
-use Rattle.rules.proofs.Numbers.{from?}
-use Rattle.rules.proofs.Judged.{LegalHistory}
+use Rattle.rules.proofs.laws.Numbers.{from?}
+use Rattle.rules.proofs.history.Judged.{LegalHistory}
 use Rattle.serves.specs.Serves.{kindCode}
 use Rattle.serves.specs.Check.{seen}
 use Rattle.serves.proofs.Opened.{Lawful, lawful}

@@ -7,7 +7,7 @@ use mathlib.Core.Logic.{_⊎_, inl, inr}
 use mathlib.Core.Bool.{Bool, true, false, _&&_, _||_}
 use mathlib.Core.Option.{Option, none, some}
 use Rattle.records.specs.Tests.{everyBelow}
-use Rattle.rules.proofs.TestLaws.{true-false}
+use Rattle.rules.proofs.laws.TestLaws.{true-false}
 
 pub and-true : (c : Bool) → (c && true) ≡ c
 and-true true = refl

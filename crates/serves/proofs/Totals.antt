@@ -13,7 +13,7 @@ use Rattle.records.specs.declared.transaction.Transaction.{Transaction}
 use Rattle.records.specs.declared.command.Kind.{Kind}
 use Rattle.rules.specs.State.{addIf}
 use Rattle.rules.specs.Queues.{Due, numbered, joined, actCount, queueFrom}
-use Rattle.rules.proofs.Numbers.{same?, from?}
+use Rattle.rules.proofs.laws.Numbers.{same?, from?}
 use Rattle.serves.specs.Serves.{kindCode, isThe, duesOf}
 use Rattle.serves.proofs.Tests.{same-some, none-some}
 use Rattle.serves.proofs.Alike.{the-at, the-bank, the-number}

@@ -21,9 +21,9 @@ use Rattle.rules.specs.Verdict.{Legal}
 use Rattle.rules.specs.Queues.{dataQueue}
 use Rattle.rules.specs.Worked.{read, tableR, refreshed, one, twelve, All}
 use Rattle.rules.specs.WorkedGroups.{hiddenAct}
-use Rattle.rules.proofs.Numbers.{from?}
-use Rattle.rules.proofs.Ranges.{ranges}
-use Rattle.rules.proofs.Built.{each-fits}
+use Rattle.rules.proofs.laws.Numbers.{from?}
+use Rattle.rules.proofs.laws.Ranges.{ranges}
+use Rattle.rules.proofs.shown.Built.{each-fits}
 use Rattle.serves.specs.declared.answer.Served.{Served}
 use Rattle.serves.specs.Serves.{Says}
 use Rattle.serves.specs.Check.{faulty, leastBy, wrong, anyOutside, FirstAt, answerOf}

@@ -15,7 +15,7 @@ use Rattle.records.specs.declared.command.Command.{Command}
 use Rattle.records.specs.Command.{commandsFrom, bytesOfAll}
 use Rattle.records.proofs.Laws.{passes}
 use Rattle.records.proofs.Written.{read-back}
-use Rattle.rules.proofs.TestLaws.{and-snd, and-at}
+use Rattle.rules.proofs.laws.TestLaws.{and-snd, and-at}
 use Rattle.shortest.specs.Shortest.{Shortest}
 use Rattle.shortest.specs.declared.answer.ShortestAnswer.the-variants.{Pattern}
 use Rattle.shortest.specs.Answer.{isAsked, shortestRefusal, Stands, LeavesShortest}

@@ -21,8 +21,8 @@ use Rattle.rules.specs.Kinds.{isAct, isWr, isRef, isKnown, firstBroken, rulesIn
 use Rattle.rules.specs.Square.{groupOf}
 use Rattle.rules.specs.State.{testsBy, note, Held}
 use Rattle.rules.specs.History.{inTable, isFine}
-use Rattle.rules.proofs.TestLaws.{true-false}
-use Rattle.rules.proofs.Judged.{is-fine, in-known, in-bank}
+use Rattle.rules.proofs.laws.TestLaws.{true-false}
+use Rattle.rules.proofs.history.Judged.{is-fine, in-known, in-bank}
 use Rattle.timing.specs.declared.kept.Kept.{Kept}
 use Rattle.timing.specs.Kept.{isClosing, stampOf, toldBank, toldGroup, told, shutKept, keptFresh}
 use Rattle.timing.proofs.Telling.{told-fresh, told-at, actKept, told-act, dataKept, told-data}

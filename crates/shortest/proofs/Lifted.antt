@@ -18,11 +18,11 @@ use Rattle.rules.specs.declared.verdict.Found.the-variants.{Fine}
 use Rattle.rules.specs.State.{fresh, note, Held}
 use Rattle.rules.specs.History.{broken}
 use Rattle.rules.specs.Pattern.{moved, endToEnd, onto, EveryNumberLegal}
-use Rattle.rules.proofs.Judged.{LegalHistory, legal-older, accepted-legal}
-use Rattle.rules.proofs.JudgeState.{judging-fresh, judging-broken, judging-note}
-use Rattle.rules.proofs.Alike.{recordLater}
-use Rattle.rules.proofs.Copies.{afterCopies, moved-append}
-use Rattle.rules.proofs.Pattern.{onto-append, end-history}
+use Rattle.rules.proofs.history.Judged.{LegalHistory, legal-older, accepted-legal}
+use Rattle.rules.proofs.history.JudgeState.{judging-fresh, judging-broken, judging-note}
+use Rattle.rules.proofs.patterns.Moved.{recordLater}
+use Rattle.rules.proofs.patterns.Copies.{afterCopies, moved-append}
+use Rattle.rules.proofs.patterns.FiveDecide.{onto-append, end-history}
 use Rattle.broken.specs.ByState.{foundBy}
 use Rattle.shortest.specs.Shortest.{IsPattern}
 use Rattle.shortest.specs.Search.{nil, nth, Below, Under, Capped}

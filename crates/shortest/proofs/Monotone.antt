@@ -19,9 +19,9 @@ use Rattle.rules.specs.Kinds.{isAct, isRd, isWr, isRef}
 use Rattle.rules.specs.Square.{groupOf, rrdOf, fromRd, fromWr, writeTail}
 use Rattle.rules.specs.State.{past}
 use Rattle.rules.specs.History.{later, openIn, actIn, greater, prechargeAfter, prechargeIn, actBack, fourthAct, far, farAct, farData, farRefresh, atRestIn, allAtRest, actRules, refreshRules, dataRules, rulesBy, rules, broken, isFine}
-use Rattle.rules.proofs.TestLaws.{and-both, and-fst, and-snd}
-use Rattle.rules.proofs.Below.{below-all, below-each}
-use Rattle.rules.proofs.Judged.{fine-rules, is-fine}
+use Rattle.rules.proofs.laws.TestLaws.{and-both, and-fst, and-snd}
+use Rattle.rules.proofs.laws.Below.{below-all, below-each}
+use Rattle.rules.proofs.history.Judged.{fine-rules, is-fine}
 use Rattle.shortest.specs.Search.{Below}
 use Rattle.shortest.specs.Lifting.{Lower}
 

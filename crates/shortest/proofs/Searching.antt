@@ -13,7 +13,7 @@ use Rattle.records.specs.declared.command.Kind.{Kind}
 use Rattle.records.specs.declared.command.Command.{Command}
 use Rattle.records.specs.Command.{command}
 use Rattle.rules.specs.Pattern.{EveryNumberLegal}
-use Rattle.rules.proofs.TestLaws.{true-false, and-both, and-fst, and-snd}
+use Rattle.rules.proofs.laws.TestLaws.{true-false, and-both, and-fst, and-snd}
 use Rattle.shortest.specs.Shortest.{kindAt}
 use Rattle.shortest.specs.Search.{tally, class, choice, Shaped, Tried, Nothing, Best, Hopeless, Searched}
 use Rattle.shortest.proofs.Steps.{tried-start, tried-skip, tried-hopeless, tried-nothing, best-here, nothing-now, best-later, nothing-left}

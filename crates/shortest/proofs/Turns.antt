@@ -18,7 +18,7 @@ use Rattle.rules.specs.Kinds.{isRef, isKnown}
 use Rattle.rules.specs.State.{addIf}
 use Rattle.rules.specs.History.{inTable}
 use Rattle.rules.specs.Queues.{dataKind}
-use Rattle.rules.proofs.TestLaws.{true-false, and-both}
+use Rattle.rules.proofs.laws.TestLaws.{true-false, and-both}
 use Rattle.shortest.specs.Shortest.{kindAt}
 use Rattle.shortest.specs.Search.{nil, nth, tally, CanStand, Placeable, Shaped}
 

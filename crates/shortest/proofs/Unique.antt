@@ -14,7 +14,7 @@ use Rattle.records.specs.declared.table.Table.{Table}
 use Rattle.records.specs.declared.command.Kind.{Kind}
 use Rattle.records.specs.declared.command.Command.{Command}
 use Rattle.records.specs.Command.{command, kindNumber, bytesOfAll}
-use Rattle.rules.proofs.TestLaws.{and-fst, and-snd, either}
+use Rattle.rules.proofs.laws.TestLaws.{and-fst, and-snd, either}
 use Rattle.shortest.specs.declared.answer.ShortestAnswer.{ShortestAnswer}
 use Rattle.shortest.specs.declared.answer.ShortestAnswer.the-variants.{Pattern, Refused}
 use Rattle.shortest.specs.Shortest.{earlier, Alike, NoLater, IsPattern, Shortest}

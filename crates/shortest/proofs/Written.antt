@@ -16,8 +16,8 @@ use Rattle.records.proofs.Written.{written-more, length-written, Each, Readable
 use Rattle.rules.specs.declared.verdict.PatternVerdict.{PatternVerdict}
 use Rattle.rules.specs.declared.verdict.PatternVerdict.the-variants.{Accepted, Refused}
 use Rattle.rules.specs.Pattern.{EveryNumberLegal, copies}
-use Rattle.rules.proofs.TestLaws.{true-false}
-use Rattle.rules.proofs.Pattern.{five-legal}
+use Rattle.rules.proofs.laws.TestLaws.{true-false}
+use Rattle.rules.proofs.patterns.FiveDecide.{five-legal}
 use Rattle.shortest.specs.Shortest.{IsPattern}
 use Rattle.shortest.specs.Search.{nil, nth, tally, Shaped, allPassed}
 use Rattle.shortest.proofs.Shape.{pattern-within, pattern-kind}

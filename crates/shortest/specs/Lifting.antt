@@ -16,8 +16,8 @@ use Rattle.rules.specs.declared.state.State.{State}
 use Rattle.rules.specs.declared.verdict.Found.{Found}
 use Rattle.rules.specs.declared.verdict.Found.the-variants.{Fine}
 use Rattle.rules.specs.Pattern.{moved, onto}
-use Rattle.rules.proofs.JudgeState.{Judging}
-use Rattle.rules.proofs.Copies.{afterCopies}
+use Rattle.rules.proofs.history.JudgeState.{Judging}
+use Rattle.rules.proofs.patterns.Copies.{afterCopies}
 use Rattle.broken.specs.ByState.{groupsFar, foundOn}
 use Rattle.shortest.specs.Shortest.{IsPattern}
 use Rattle.shortest.specs.Search.{Below, Under, Capped, Hopeless}

@@ -17,9 +17,9 @@ use Rattle.records.specs.declared.transaction.Transaction.{Transaction}
 use Rattle.records.specs.declared.command.Kind.{Kind}
 use Rattle.records.specs.Transaction.{isWrite, laterAt}
 use Rattle.rules.specs.Queues.{Due, bankAt, dataKind, dataQueue, headAfter}
-use Rattle.rules.proofs.Numbers.{from?}
-use Rattle.rules.proofs.Queue.{placeOf, dataDue}
-use Rattle.rules.proofs.Fit.{Fit, data-fit}
+use Rattle.rules.proofs.laws.Numbers.{from?}
+use Rattle.rules.proofs.queues.Queue.{placeOf, dataDue}
+use Rattle.rules.proofs.queues.Fit.{Fit, data-fit}
 use Rattle.heads.specs.declared.head.Head.{Head}
 use Rattle.heads.specs.declared.queue.Place.{Place}
 use Rattle.heads.specs.declared.queue.Queue.{Queue}

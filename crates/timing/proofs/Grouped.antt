@@ -15,7 +15,7 @@ use Rattle.rules.specs.declared.state.Bank.{Bank}
 use Rattle.rules.specs.declared.state.Group.{Group}
 use Rattle.rules.specs.Square.{rrdOf, square}
 use Rattle.rules.specs.State.{past, isOpen, quiet, charged, actsFar, farBy, dataFar, actTestsOf, dataTestsOf}
-use Rattle.rules.proofs.Below.{below-not, below-same}
+use Rattle.rules.proofs.laws.Below.{below-not, below-same}
 use Rattle.timing.specs.declared.kept.KeptGroup.{KeptGroup}
 use Rattle.timing.specs.Kept.{stampOf, toldGroup, quietKept}
 

@@ -16,8 +16,8 @@ use Rattle.rules.specs.declared.state.Bank.{Bank}
 use Rattle.rules.specs.Kinds.{isAct, isWr, isRef, isKnown}
 use Rattle.rules.specs.Square.{groupOf, writeTail}
 use Rattle.rules.specs.State.{past, isOpen, shut, bankOf, quiet, groupAt, charged, atRest, rule11, actTestsOf, dataTestsOf, fresh, note}
-use Rattle.rules.proofs.TestLaws.{true-false}
-use Rattle.rules.proofs.Below.{below-same}
+use Rattle.rules.proofs.laws.TestLaws.{true-false}
+use Rattle.rules.proofs.laws.Below.{below-same}
 use Rattle.timing.specs.declared.kept.Kept.{Kept}
 use Rattle.timing.specs.Kept.{isClosing, stampOf, toldBank, toldGroup, told, shutKept, quietKept, keptFresh, keptOpened, keptAfter, groupOpened, groupMoved}
 use Rattle.records.specs.Tests.{allOf, everyBelow}

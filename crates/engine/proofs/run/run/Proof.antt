@@ -15,7 +15,7 @@ use Rattle.rules.specs.Kinds.{isAct, isRef, isData}
 use Rattle.rules.specs.State.{dataFar, Held}
 use Rattle.rules.specs.CycleRule.{goes}
 use Rattle.rules.specs.Run.{stops}
-use Rattle.rules.proofs.Ranges.{held, ranges}
+use Rattle.rules.proofs.laws.Ranges.{held, ranges}
 use Rattle.heads.proofs.Laws.{first}
 use Rattle.timing.specs.Kept.{toldGroup, told}
 use Rattle.choices.specs.Choose.{commandOf}

@@ -4,7 +4,7 @@ use Prim.Native.Nat.{_+_, _-_, _≤_}
 use mathlib.Core.Path.{_≡_, sym, _∙_}
 use mathlib.Core.Bool.{true, false}
 use Rattle.rules.specs.Queues.{actCount}
-use Rattle.rules.proofs.Queue.{dataCount, sum, act-length, data-length}
+use Rattle.rules.proofs.queues.Queue.{dataCount, sum, act-length, data-length}
 use Rattle.heads.proofs.Laws.{first, few, acts-few, datas-few, sum-none, count-on}
 use Rattle.heads.proofs.due.due.Statement.{statement}
 use Rattle.heads.proofs.due.due.Tie as tie

@@ -1,6 +1,6 @@
 use borrow.Author.Needs.{needs}
 use native.Mathlib.Omega.{arith}
-use Rattle.rules.proofs.Ranges.{ranges}
+use Rattle.rules.proofs.laws.Ranges.{ranges}
 use Rattle.heads.proofs.Standing.{fit-bank, bank-on, bank-round}
 use Rattle.heads.proofs.head.bank_at.Statement.{statement}
 use Rattle.heads.proofs.head.bank_at.Tie as tie

@@ -6,7 +6,7 @@ use denote.Ref.{now}
 use Rattle.records.specs.declared.command.Command.{Command}
 use Rattle.records.specs.Command.{commandsIn}
 use Rattle.rules.specs.Verdict.{judgeFrom}
-use Rattle.rules.proofs.JudgeState.{judging-fresh}
+use Rattle.rules.proofs.history.JudgeState.{judging-fresh}
 use Rattle.timing.proofs.Telling.{told-fresh}
 use Rattle.copies.proofs.Seen.{moved-none}
 use Rattle.judge.proofs.schedule.verdict_on.Statement.{statement}

@@ -10,8 +10,8 @@ use Rattle.records.specs.Told.{putAt}
 use Rattle.records.specs.declared.command.Command.{Command}
 use Rattle.records.specs.Command.{bytesOf}
 use Rattle.rules.specs.State.{Held}
-use Rattle.rules.proofs.TestLaws.{true-false}
-use Rattle.rules.proofs.Ranges.{held, ranges}
+use Rattle.rules.proofs.laws.TestLaws.{true-false}
+use Rattle.rules.proofs.laws.Ranges.{held, ranges}
 use Rattle.heads.proofs.Laws.{few as few-listed}
 use Rattle.timing.specs.Kept.{told}
 use Rattle.engine.proofs.Going.{Going, starts, same-size, room-for, few, act-asked}

@@ -1,6 +1,6 @@
 use borrow.Author.Needs.{needs}
 use denote.Ref.{now}
-use Rattle.rules.proofs.Ranges.{held, ranges}
+use Rattle.rules.proofs.laws.Ranges.{held, ranges}
 use Rattle.timing.specs.Kept.{told}
 use Rattle.heads.proofs.Laws.{length-from}
 use Rattle.refusals.specs.Refused.{runRefusal, sound}

@@ -1,6 +1,6 @@
 use borrow.Author.Needs.{needs}
 use mathlib.Core.Path.{sym, _∙_}
-use Rattle.rules.proofs.Ranges.{ranges, held}
+use Rattle.rules.proofs.laws.Ranges.{ranges, held}
 use Rattle.serves.proofs.schedule.serves.Statement.{statement}
 use Rattle.serves.proofs.schedule.serves.Tie as tie
 

@@ -8,7 +8,7 @@ use mathlib.Core.Path.{_≡_, refl, sym, ap, _∙_, subst}
 use lib.ListN.{set, length as lengthOf}
 use Rattle.records.specs.declared.command.Kind.{Kind}
 use Rattle.records.specs.Command.{command}
-use Rattle.rules.proofs.TestLaws.{true-false}
+use Rattle.rules.proofs.laws.TestLaws.{true-false}
 use Rattle.shortest.specs.Search.{Placeable, Hopeless}
 use Rattle.shortest.proofs.Turns.{placeable-put}
 use Rattle.shortest.proofs.Orders.{Ordering, order-start, order-full, order-next, order-end}

@@ -3,7 +3,7 @@ use native.Mathlib.Omega.{arith}
 use Prim.Native.Nat.{_-_, _≤_, _<_}
 use mathlib.Core.Bool.{true}
 use mathlib.Core.Path.{refl, sym, _∙_}
-use Rattle.rules.proofs.TestLaws.{true-false}
+use Rattle.rules.proofs.laws.TestLaws.{true-false}
 use Rattle.shortest.proofs.LiftTurn.{Turn, turn-start, turn-known, turn-ref, turn-bank, turn-lost, turn-act, turn-data}
 use Rattle.shortest.proofs.lift.lift.Statement.{statement}
 use Rattle.shortest.proofs.lift.lift.Tie as tie

@@ -1,7 +1,7 @@
 use borrow.Author.Needs.{needs}
 use native.Mathlib.Omega.{arith}
 use mathlib.Core.Path.{refl}
-use Rattle.rules.proofs.TestLaws.{true-false}
+use Rattle.rules.proofs.laws.TestLaws.{true-false}
 use Rattle.shortest.proofs.lift.limit_of.Statement.{statement}
 use Rattle.shortest.proofs.lift.limit_of.Tie as tie
 

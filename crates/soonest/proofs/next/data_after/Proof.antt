@@ -5,7 +5,7 @@ use Prim.Native.Nat.{ℕ, _-_, _*_}
 use mathlib.Core.Path.{refl, subst}
 use denote.Ref.{now}
 use Rattle.records.specs.Transaction.{laterAt}
-use Rattle.rules.proofs.TestLaws.{true-false}
+use Rattle.rules.proofs.laws.TestLaws.{true-false}
 use Rattle.heads.proofs.Laws.{fits-at}
 use Rattle.soonest.specs.Next.{Stood}
 use Rattle.soonest.proofs.Bursts.{in-list, act-is, fit, before-few, offset-few, k-few, ends-few, to-same, next-in, to-next, closes-last}

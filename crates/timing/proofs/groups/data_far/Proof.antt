@@ -6,7 +6,7 @@ use mathlib.Core.Path.{_≡_, refl, sym, _∙_}
 use mathlib.Core.Bool.{true}
 use native.Mathlib.Numerals.{add-one}
 use Rattle.records.specs.Tests.{everyBelow}
-use Rattle.rules.proofs.Below.{below-not}
+use Rattle.rules.proofs.laws.Below.{below-not}
 use Rattle.timing.proofs.Grouped.{dataAt, data-told}
 use Rattle.timing.proofs.groups.data_far.Statement.{statement}
 use Rattle.timing.proofs.groups.data_far.Tie as tie

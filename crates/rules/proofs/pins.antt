@@ -1,0 +1,4 @@
+-- The data pins.
+pub mod Bursts
+pub mod Pins
+pub mod PinShare
