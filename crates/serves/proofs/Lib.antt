@@ -21,8 +21,4 @@ pub mod Gone
 pub mod BuiltServes
 pub mod Sorted
 pub mod QueueOrder
-pub mod Scanning
-pub mod Noted
-pub mod Seen
-pub mod Passing
 pub mod Worked

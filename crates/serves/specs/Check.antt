@@ -15,7 +15,6 @@ use Rattle.rules.specs.Kinds.{isRef, isData}
 use Rattle.rules.specs.State.{addIf}
 use Rattle.serves.specs.declared.answer.Served.{Served}
 use Rattle.serves.specs.declared.answer.Served.the-variants.{Serves, AtFault as Names}
-use Rattle.serves.specs.declared.turn.Marks.{Marks}
 use Rattle.serves.specs.Serves.{kindCode, latestAct}
 
 -- ---- what is due under one transaction, by the number c of a kind
@@ -161,17 +160,6 @@ seen s (suc j) = commandAt s (8 * j) ∷ seen s j
 abbrev pub faultyBy : ℕ → ℕ → ℕ → ℕ → ℕ → ℕ → ℕ → Bool
 faultyBy due c held y key top high =
     eqb due 0 || ((within 1 4 c && (not (eqb held y) || ltb key top)) || (eqb c 5 && ltb (y + 1) high))
-
--- the marks after a record of the list, of kind c, to bank b, under number y, which is transaction x
-abbrev pub marksAfter : ℕ → Transaction → ℕ → ℕ → ℕ → ℕ → Marks → Marks
-marksAfter banks x c b y held m =
-    let due = dueCount banks x c b in
-    let key = keyOf banks (x .start) y c b in
-    record {
-      top = pick (within 1 4 c && not (eqb due 0)) (max key (m .top)) (m .top);
-      high = max (y + 1) (m .high);
-      least = pick (faultyBy due c held y key (m .top) (m .high)) (min y (m .least)) (m .least);
-    }
 
 -- what a pass over the first m records finds: the lowest transaction at fault, n where none is, and whether a record is outside the list
 pub record Finds (banks n : ℕ) (at : ℕ → Transaction) (h : List Command) (i : ℕ) (outside : Bool) : Type 0 where

@@ -1,7 +1,2 @@
-// Document 02, request 10: does a schedule serve a list? The judge's verdict comes first, then what one pass over the records finds.
+// Document 02, request 10: what it is for a schedule to serve a list, and the theorems about it. No code: `faults` and `pass` decide it.
 pub mod answer;
-pub mod due;
-pub mod pass;
-pub mod scan;
-pub mod schedule;
-pub mod turn;

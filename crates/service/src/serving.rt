@@ -7,7 +7,7 @@ use lists::packed::widen;
 use records::table::Table;
 use records::table::TableRead;
 use serves::answer::ServesAnswer;
-use serves::schedule::serves_schedule;
+use pass::schedule::serves_schedule;
 ghost use Prim.Native.Nat.{_/_};
 ghost use mathlib.Core.Path.{_≡_};
 ghost use lib.ListN.{length};

@@ -1,0 +1,4 @@
+// Does a schedule serve a list? The judge's verdict comes first, then what one pass over the records finds.
+pub mod pass;
+pub mod scan;
+pub mod schedule;

@@ -1,7 +1,0 @@
-use borrow.Author.Needs.{needs}
-use native.Mathlib.Omega.{arith}
-use Rattle.serves.proofs.turn.higher_if.Statement.{statement}
-use Rattle.serves.proofs.turn.higher_if.Tie as tie
-
-pub higher-if-spec : {M : Type 1} → statement M
-higher-if-spec = tie.close (tie.spec (λ c. rw (c .before .if1 .taken) (omega arith)) (λ c. rw (c .before .if1 .taken) (omega (arith, c .if2 .left))) (λ c. search needs))
