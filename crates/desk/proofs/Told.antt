@@ -1,7 +1,6 @@
 -- Each call's definition, by what `admit` answered: a, of the expected edition w and the table's bytes s.
 -- Assumes nothing.
 use Prim.Native.Nat.{ℕ}
-use mathlib.Core.Bool.{Bool}
 use mathlib.Core.Path.{_≡_, refl}
 use mathlib.Core.List.{List}
 use lib.ListN.{replicate}
@@ -24,9 +23,6 @@ use Rattle.shortest.specs.Answer.{LeavesShortest}
 use Rattle.builder.specs.declared.bound.BoundAnswer.{BoundAnswer}
 use Rattle.builder.specs.declared.bound.BoundAnswer.the-variants.{Refused as NoBound}
 use Rattle.builder.specs.Bound.{boundTold}
-use Rattle.lists.specs.declared.decode.Decoded.the-variants.{Refused as NotDone}
-use Rattle.lists.specs.declared.decode.Plan.{Plan}
-use Rattle.lists.specs.Decode.{plan}
 use Rattle.controller.specs.declared.controller.Controller.{Controller}
 use Rattle.controller.specs.Controller.{freshController}
 use Rattle.desk.specs.declared.running.StartAnswer.the-variants.{Started, Refused as NotStarted}
@@ -35,7 +31,6 @@ use Rattle.desk.specs.Judging.{judging, PatternTold}
 use Rattle.desk.specs.Tracing.{capturing}
 use Rattle.desk.specs.Patterns.{ShortestTold}
 use Rattle.desk.specs.Bounds.{bounding}
-use Rattle.desk.specs.Transactions.{readingPlan}
 use Rattle.desk.specs.Running.{starting}
 use Rattle.admission.proofs.Laws.{by-admitted}
 
@@ -62,10 +57,6 @@ module _ (w : ℕ) (s : List ℕ) (a : TableRead) (e : a ≡ admitted w s) where
     unfolding bounding
     bound-read bi bc r h = by-admitted (λ (z : TableRead). r ≡ bounding z bi bc) w s a (Read τ) e t h
 
-    pub plan-read : (later : Bool) (b : List ℕ) (places : ℕ) (r : Plan) → r ≡ plan later τ b places → r ≡ readingPlan later (admitted w s) b places
-    unfolding readingPlan
-    plan-read later b places r h = by-admitted (λ (z : TableRead). r ≡ readingPlan later z b places) w s a (Read τ) e t h
-
     pub start-read : (c : Controller) → c ≡ freshController τ → record { controller = c; answer = Started (τ .edition) } ≡ starting (admitted w s)
     unfolding starting
     start-read c h = by-admitted (λ (z : TableRead). record { controller = c; answer = Started (τ .edition) } ≡ starting z) w s a (Read τ) e t (rw h refl)
@@ -90,10 +81,6 @@ module _ (w : ℕ) (s : List ℕ) (a : TableRead) (e : a ≡ admitted w s) where
     pub bound-refused : (bi bc : ℕ) → NoBound x ≡ bounding (admitted w s) bi bc
     unfolding bounding
     bound-refused bi bc = by-admitted (λ (z : TableRead). NoBound x ≡ bounding z bi bc) w s a (Refused x) e t refl
-
-    pub plan-refused : (later : Bool) (b : List ℕ) (places : ℕ) → record { n = 0; answer = NotDone x } ≡ readingPlan later (admitted w s) b places
-    unfolding readingPlan
-    plan-refused later b places = by-admitted (λ (z : TableRead). record { n = 0; answer = NotDone x } ≡ readingPlan later z b places) w s a (Refused x) e t refl
 
     pub start-refused : (c : Controller) (n : Table) → n ≡ tableOf (replicate 16 0) → c ≡ freshController n → record { controller = c; answer = NotStarted x } ≡ starting (admitted w s)
     unfolding starting

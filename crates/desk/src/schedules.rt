@@ -1,13 +1,9 @@
 // The schedule of the cycle rule, with a finishing cycle for each transaction.
-use admission::admit::admit_lent;
 use builder::build::BuildAnswer;
-use lists::packed::gather;
-use records::transaction::Transaction;
-use scheduler::schedules::schedule_held;
 use scheduler::schedules::schedule_records;
 ghost use mathlib.Core.Bool.{true, false};
 ghost use Rattle.records.specs.Transaction.{transactionsIn, laterIn};
-ghost use Rattle.lists.specs.Check.{checkList, checkBytes};
+ghost use Rattle.lists.specs.Check.{checkBytes};
 ghost use Rattle.desk.specs.Admit.{admitted};
 ghost use Rattle.desk.specs.Schedules.{Schedules};
 
@@ -35,19 +31,4 @@ pub fn schedule_later_bytes(
     ensures { λ r. ⌜ Schedules (λ τ. checkBytes true τ (now (list .entry))) (admitted expected (now (table .entry))) (laterIn (now (list .entry))) (now (commands .entry)) (now (commands .exit)) (now (finishes .entry)) (now (finishes .exit)) r ⌝ }
 {
     schedule_records(expected, table, true, list, commands, finishes, false)
-}
-
-// Numbers 1, 2, 10, 3 to 6; then the schedule of a lent run of records.
-pub fn schedule(
-    expected: u16,
-    table: &[u8],
-    list: &[Transaction],
-    commands: &mut [u8],
-    finishes: &mut [u32],
-) -> BuildAnswer
-    ensures { λ r. ⌜ Schedules (λ τ. checkList τ (now (list .entry))) (admitted expected (now (table .entry))) (now (list .entry)) (now (commands .entry)) (now (commands .exit)) (now (finishes .entry)) (now (finishes .exit)) r ⌝ }
-{
-    let w = admit_lent(expected, table, list.len());
-    let bytes = gather(list, w.n);
-    schedule_held(w, bytes, commands, finishes, false)
 }

@@ -1,8 +1,8 @@
 // Transactions decoded into a lent run of records.
 use answers::answer::Answer;
 use answers::answer::of_read;
-use desk::reading::read_later_transactions;
-use desk::reading::read_transactions;
+use desk::read_later_transactions;
+use desk::read_transactions;
 use records::transaction::Transaction;
 ghost use mathlib.Core.Bool.{true, false};
 ghost use Rattle.desk.specs.Admit.{admitted};

@@ -6,7 +6,7 @@ use answers::answer::of_run;
 use answers::answer::run_of;
 use answers::answer::start_of;
 use controller::controller::Controller;
-use desk::running::run;
+use desk::run;
 use desk::running::run_bytes;
 use desk::running::run_later_bytes;
 use desk::running::start;

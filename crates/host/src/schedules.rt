@@ -1,7 +1,7 @@
 // The schedule of the cycle rule, with a finishing cycle for each transaction.
 use answers::answer::Answer;
 use answers::answer::of_build;
-use desk::schedules::schedule;
+use desk::schedule;
 use desk::schedules::schedule_bytes;
 use desk::schedules::schedule_later_bytes;
 use records::transaction::Transaction;

@@ -1,7 +1,7 @@
 // Does a schedule serve a list?
 use answers::verdict::ServesAnswer;
 use answers::verdict::serves_of;
-use desk::serving::serves;
+use desk::serves;
 use desk::serving::serves_bytes;
 use desk::serving::serves_later_bytes;
 use records::transaction::Transaction;

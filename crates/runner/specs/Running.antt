@@ -2,6 +2,7 @@
 use Prim.Native.Nat.{ℕ}
 use mathlib.Core.Bool.{Bool, true, false}
 use mathlib.Core.List.{List}
+use mathlib.Core.Path.{_≡_}
 use Rattle.records.specs.declared.table.Table.{Table}
 use Rattle.records.specs.declared.table.TableRead.{TableRead}
 use Rattle.records.specs.declared.table.TableRead.the-variants.{Read, Refused}
@@ -32,3 +33,7 @@ running check (Refused x) c l count b = nothingRun x c b
 abbrev pub hasRun : RunAnswer → Bool
 hasRun (Ran x) = true
 hasRun (NotRun x) = false
+
+-- the promise of a run where the controller lies: r is its answer, c the controller and b the buffer as it returns
+abbrev pub Runs : RunLeft → RunAnswer → Controller → List ℕ → Type 0
+Runs w r c b = (r ≡ w .told .answer) × (c ≡ w .told .controller) × (b ≡ w .buffer)

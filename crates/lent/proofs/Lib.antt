@@ -1,0 +1,3 @@
+-- Laws for the walks by hand.
+pub mod Lent
+pub mod Gathering
