@@ -25,7 +25,8 @@ use Rattle.rules.proofs.laws.TestLaws.{and-fst}
 use Rattle.rules.proofs.history.Judged.{in-bank}
 use Rattle.rules.proofs.history.Link.{Sums}
 use Rattle.timing.specs.declared.kept.Kept.{Kept}
-use Rattle.timing.specs.Kept.{isClosing, stampOf, toldBank, toldGroup, told, shutKept, quietKept}
+use Rattle.rules.specs.Kinds.{isClosing}
+use Rattle.timing.specs.Kept.{stampOf, toldBank, toldGroup, told, shutKept, quietKept}
 use Rattle.timing.proofs.Telling.{told-at, actKept, told-act, dataKept, told-data, refKept, told-ref}
 use Rattle.broken.specs.ByState.{foundBy, groupsFar, ownFar, foundOn, foundRef}
 use Rattle.broken.proofs.Laws.{one-far, found-range, found-parts, found-refresh}

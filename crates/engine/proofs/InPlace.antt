@@ -29,7 +29,8 @@ use Rattle.heads.proofs.Laws.{first}
 use Rattle.timing.specs.declared.kept.KeptBank.{KeptBank}
 use Rattle.timing.specs.declared.kept.KeptGroup.{KeptGroup}
 use Rattle.timing.specs.declared.kept.Kept.{Kept}
-use Rattle.timing.specs.Kept.{isClosing, stampOf, toldBank, toldGroup, told, shutKept, quietKept, keptOpened, keptAfter, groupOpened, groupMoved}
+use Rattle.rules.specs.Kinds.{isClosing}
+use Rattle.timing.specs.Kept.{stampOf, toldBank, toldGroup, told, shutKept, quietKept, keptOpened, keptAfter, groupOpened, groupMoved}
 use Rattle.timing.proofs.Telling.{told-at, told-group, actKept, told-act, dataKept, told-data, refKept, told-ref}
 use Rattle.choices.specs.Choose.{commandOf, seenAt, dataFree, actFree}
 use Rattle.engine.proofs.Laws.{all-data, all-act, goes-data, data-head-kind, goes-act, act-head-kind, goes-ref}

@@ -5,7 +5,7 @@ use records::tests::both_of;
 use records::tests::either_of;
 use records::tests::is_within;
 use records::tests::not_of;
-use timing::square::greater;
+use distances::square::greater;
 ghost use mathlib.Core.Path.{_≡_};
 ghost use Prim.Native.Nat.{_+_, _*_, _<_, min, max};
 ghost use Rattle.records.specs.Tests.{pick};

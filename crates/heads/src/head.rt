@@ -2,7 +2,7 @@
 use records::command::Kind;
 use records::table::Table;
 use records::transaction::Transaction;
-use timing::kinds::data_kind;
+use distances::kinds::data_kind;
 ghost use mathlib.Core.Path.{_≡_};
 ghost use mathlib.Core.Bool.{true};
 ghost use Prim.Native.Nat.{_+_, _*_, _<_, _≤_};

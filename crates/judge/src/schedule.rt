@@ -6,7 +6,7 @@ use records::refusal::refuse;
 use records::table::Table;
 use rules::verdict::Verdict;
 use timing::kept::kept_fresh;
-use timing::square::distances;
+use distances::square::distances;
 ghost use mathlib.Core.Path.{_≡_};
 ghost use Prim.Native.Nat.{_≤_};
 ghost use Rattle.records.specs.Command.{commandsIn};

@@ -28,7 +28,8 @@ use Rattle.heads.proofs.Standing.{by-itself, recount}
 use Rattle.timing.specs.declared.kept.KeptBank.{KeptBank}
 use Rattle.timing.specs.declared.kept.KeptGroup.{KeptGroup}
 use Rattle.timing.specs.declared.kept.Kept.{Kept}
-use Rattle.timing.specs.Kept.{isClosing, stampOf, toldBank, toldGroup, told, shutKept, quietKept, keptAfter, groupOpened, groupMoved}
+use Rattle.rules.specs.Kinds.{isClosing}
+use Rattle.timing.specs.Kept.{stampOf, toldBank, toldGroup, told, shutKept, quietKept, keptAfter, groupOpened, groupMoved}
 use Rattle.timing.proofs.Telling.{refKept}
 use Rattle.choices.specs.Choose.{commandOf}
 use Rattle.engine.specs.Run.{Ready}

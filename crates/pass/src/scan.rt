@@ -4,7 +4,7 @@ use records::tests::both_of;
 use records::tests::either_of;
 use records::tests::not_of;
 use records::transaction::Transaction;
-use timing::square::greater;
+use distances::square::greater;
 use transactions::later::later_at;
 ghost use mathlib.Core.Path.{_≡_};
 ghost use Prim.Native.Nat.{_*_, _≤_, _<_};

@@ -35,6 +35,16 @@ isWr Wra = true
 isWr Ref = false
 isWr (Other n) = false
 
+-- with auto precharge
+abbrev pub isClosing : Kind → Bool
+isClosing Act = false
+isClosing Rd = false
+isClosing Rda = true
+isClosing Wr = false
+isClosing Wra = true
+isClosing Ref = false
+isClosing (Other n) = false
+
 abbrev pub isRef : Kind → Bool
 isRef Act = false
 isRef Rd = false

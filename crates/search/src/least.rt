@@ -5,7 +5,7 @@ use records::command::Kind;
 use records::table::Table;
 use shortest::hope::hope;
 use shortest::place::records_of;
-use timing::square::distances;
+use distances::square::distances;
 ghost use Prim.Native.Nat.{suc, _*_, _≤_, _<_};
 ghost use Rattle.rules.specs.State.{Held};
 ghost use Rattle.shortest.specs.Search.{FoundLeast};

@@ -24,7 +24,8 @@ use Rattle.rules.specs.History.{inTable, isFine}
 use Rattle.rules.proofs.laws.TestLaws.{true-false}
 use Rattle.rules.proofs.history.Judged.{is-fine, in-known, in-bank}
 use Rattle.timing.specs.declared.kept.Kept.{Kept}
-use Rattle.timing.specs.Kept.{isClosing, stampOf, toldBank, toldGroup, told, shutKept, keptFresh}
+use Rattle.rules.specs.Kinds.{isClosing}
+use Rattle.timing.specs.Kept.{stampOf, toldBank, toldGroup, told, shutKept, keptFresh}
 use Rattle.timing.proofs.Telling.{told-fresh, told-at, actKept, told-act, dataKept, told-data}
 use Rattle.broken.specs.ByState.{foundBy, groupsFar, foundOn}
 use Rattle.broken.proofs.Laws.{found-parts}

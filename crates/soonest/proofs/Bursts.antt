@@ -27,7 +27,7 @@ use Rattle.heads.specs.Head.{headOf}
 use Rattle.heads.specs.Queue.{Listed, leftAt, Found}
 use Rattle.heads.proofs.Laws.{here, first, fits-at, fit-at, head-here, head-past}
 use Rattle.heads.proofs.Standing.{in-bank, asked, stands-here, by-itself, stands}
-use Rattle.timing.specs.Kept.{isClosing}
+use Rattle.rules.specs.Kinds.{isClosing}
 use Rattle.soonest.specs.Next.{Stood}
 
 -- ---- numbers

@@ -7,7 +7,7 @@ use Rattle.records.specs.declared.table.Table.{Table}
 use Rattle.heads.specs.declared.head.Head.{Head}
 use Rattle.heads.specs.declared.queue.Queue.{Queue}
 use Rattle.heads.specs.Queue.{Found, Stands}
-use Rattle.timing.specs.Kept.{isClosing}
+use Rattle.rules.specs.Kinds.{isClosing}
 
 -- a data queue that `count` commands have left, at a place inside the transaction that it names or past the last
 pub record Stood (τ : Table) (bs : List ℕ) (n count : ℕ) (q : Queue) : Type 0 where

@@ -7,7 +7,7 @@ use heads::queue::Queue;
 use heads::queue::head_at;
 use heads::queue::seek;
 use records::table::Table;
-use timing::kinds::data_kind;
+use distances::kinds::data_kind;
 use transactions::later::later_at;
 ghost use mathlib.Core.Path.{_≡_};
 ghost use mathlib.Core.Bool.{true};

@@ -11,7 +11,7 @@ use records::table::Table;
 use timing::kept::Kept;
 use timing::kept::KeptBank;
 use timing::kept::KeptGroup;
-use timing::square::wide;
+use distances::square::wide;
 ghost use mathlib.Core.Path.{_≡_};
 ghost use Prim.Native.Nat.{_≤_};
 ghost use Rattle.records.specs.Tests.{pick};

@@ -19,7 +19,8 @@ use Rattle.rules.specs.State.{past, isOpen, shut, bankOf, quiet, groupAt, charg
 use Rattle.rules.proofs.laws.TestLaws.{true-false}
 use Rattle.rules.proofs.laws.Below.{below-same}
 use Rattle.timing.specs.declared.kept.Kept.{Kept}
-use Rattle.timing.specs.Kept.{isClosing, stampOf, toldBank, toldGroup, told, shutKept, quietKept, keptFresh, keptOpened, keptAfter, groupOpened, groupMoved}
+use Rattle.rules.specs.Kinds.{isClosing}
+use Rattle.timing.specs.Kept.{stampOf, toldBank, toldGroup, told, shutKept, quietKept, keptFresh, keptOpened, keptAfter, groupOpened, groupMoved}
 use Rattle.records.specs.Tests.{allOf, everyBelow}
 
 -- a number that is not 0

@@ -15,16 +15,6 @@ use Rattle.timing.specs.declared.kept.KeptBank.{KeptBank}
 use Rattle.timing.specs.declared.kept.KeptGroup.{KeptGroup}
 use Rattle.timing.specs.declared.kept.Kept.{Kept}
 
--- with auto precharge
-abbrev pub isClosing : Kind → Bool
-isClosing Act = false
-isClosing Rd = false
-isClosing Rda = true
-isClosing Wr = false
-isClosing Wra = true
-isClosing Ref = false
-isClosing (Other n) = false
-
 -- 0 is "never", and every other number is one more than the cycle
 abbrev pub stampOf : ℕ → Stamp
 stampOf zero = Never

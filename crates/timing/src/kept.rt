@@ -1,10 +1,10 @@
 // The running state in plain numbers, for a loop that keeps it in a local and changes it in place: numbers and elements are stored to, and the
 // tests are handed numbers and one bank. What it tells is `told`, of which a loop's invariant speaks.
-use crate::square::cell_of;
-use crate::square::side_of;
-use crate::square::sum_2;
-use crate::square::sum_4;
-use crate::square::wide;
+use distances::square::cell_of;
+use distances::square::side_of;
+use distances::square::sum_2;
+use distances::square::sum_4;
+use distances::square::wide;
 use records::table::Table;
 use records::tests::not_of;
 ghost use mathlib.Core.Path.{_≡_};

@@ -1,5 +1,3 @@
-// The timing rules in code: the distances, the rules read off a state, and the state after a command.
+// The timing rules in code: the running state in plain numbers, the rules read off it, and the state after a command.
 pub mod groups;
 pub mod kept;
-pub mod kinds;
-pub mod square;

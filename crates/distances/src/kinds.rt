@@ -1,9 +1,8 @@
 // Kinds of commands, for judge and engine.
 use records::command::Kind;
 ghost use mathlib.Core.Path.{_≡_};
-ghost use Rattle.rules.specs.Kinds.{isAct, isWr, isRef, isData, inActQueue, canEnd, isKnown};
+ghost use Rattle.rules.specs.Kinds.{isAct, isWr, isRef, isData, inActQueue, canEnd, isKnown, isClosing};
 ghost use Rattle.rules.specs.Queues.{dataKind};
-ghost use Rattle.timing.specs.Kept.{isClosing};
 
 pub fn is_act(k: Kind) -> bool
     ensures { λ r. ⌜ r ≡ isAct k ⌝ }

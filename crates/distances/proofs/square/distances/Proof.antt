@@ -1,6 +1,6 @@
 use borrow.Author.Needs.{needs}
-use Rattle.timing.proofs.square.distances.Statement.{statement}
-use Rattle.timing.proofs.square.distances.Tie as tie
+use Rattle.distances.proofs.square.distances.Statement.{statement}
+use Rattle.distances.proofs.square.distances.Tie as tie
 
 returns : tie.Need-returns
 returns c = rw (c .wr-to-rd .ensures, c .before .rd-to-wr .ensures, c .before .before .wide .ensures, c .before .before .before .ccd-of .ensures)
