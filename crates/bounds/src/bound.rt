@@ -1,6 +1,5 @@
 // "The bound for (BI, BC), n = BI × BC." "In the bound CCD, RRD and WTR are the long ones" (document 02, request 7). Nothing here reaches 2 to the 32,
 // whatever the table's numbers are.
-use records::table::Table;
 use distances::square::greater;
 use distances::square::less;
 use distances::square::rd_to_wr;
@@ -8,6 +7,7 @@ use distances::square::sum_2;
 use distances::square::sum_4;
 use distances::square::wide;
 use distances::square::wr_to_rd;
+use records::table::Table;
 ghost use mathlib.Core.Path.{_≡_};
 ghost use Prim.Native.Nat.{_+_, _-_, _*_, _≤_};
 ghost use Rattle.rules.specs.Bound.{boundS, boundD, boundX, bound};

@@ -1,2 +1,2 @@
-// The bound in code.
+// The bound's value, off an accepted table; its refusals are `builder`'s.
 pub mod bound;

@@ -2,6 +2,8 @@
 use crate::back::keeps_distance;
 use crate::found::act_found;
 use crate::found::data_found;
+use distances::kinds::is_act;
+use distances::square::wide;
 use records::command::Kind;
 use records::table::Table;
 use rules::verdict::Found;
@@ -9,8 +11,6 @@ use rules::verdict::Rule;
 use timing::kept::KeptBank;
 use timing::kept::KeptGroup;
 use timing::kept::since;
-use distances::kinds::is_act;
-use distances::square::wide;
 ghost use mathlib.Core.Path.{_≡_};
 ghost use mathlib.Core.Bool.{true, false};
 ghost use Rattle.rules.specs.Kinds.{isRef, isKnown};

@@ -1,6 +1,8 @@
 // The first rule that a record breaks, by a table of several groups.
 use crate::found::act_found;
 use crate::found::data_found;
+use distances::kinds::is_act;
+use distances::kinds::is_wr;
 use records::command::Kind;
 use records::table::Table;
 use rules::verdict::Found;
@@ -9,8 +11,6 @@ use timing::groups::acts_far;
 use timing::groups::data_far;
 use timing::kept::KeptBank;
 use timing::kept::KeptGroup;
-use distances::kinds::is_act;
-use distances::kinds::is_wr;
 ghost use mathlib.Core.Path.{_≡_};
 ghost use mathlib.Core.Bool.{true, false};
 ghost use mathlib.Core.List.{map};

@@ -1,7 +1,7 @@
 // Rule 9 by the latest RD and WR of a group alone.
+use distances::kinds::is_wr;
 use records::command::Kind;
 use timing::kept::kept_far;
-use distances::kinds::is_wr;
 ghost use mathlib.Core.Path.{_≡_};
 ghost use Rattle.rules.specs.Kinds.{isWr};
 ghost use Rattle.rules.specs.State.{farBy};

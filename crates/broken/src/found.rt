@@ -1,4 +1,7 @@
 // The first rule that a record breaks, by the state.
+use distances::kinds::is_known;
+use distances::kinds::is_ref;
+use distances::square::wide;
 use records::command::Kind;
 use records::table::Table;
 use records::tests::both_of;
@@ -10,9 +13,6 @@ use timing::kept::KeptBank;
 use timing::kept::kept_charged;
 use timing::kept::kept_open;
 use timing::kept::since;
-use distances::kinds::is_known;
-use distances::kinds::is_ref;
-use distances::square::wide;
 ghost use mathlib.Core.Path.{_≡_};
 ghost use mathlib.Core.Bool.{true, not, _&&_, _||_};
 ghost use mathlib.Core.List.{_∷_};

@@ -1,4 +1,4 @@
-// The first rule that a record breaks, by the state.
+// The first rule that a record breaks, by the state; the state is not changed here.
 pub mod alone;
 pub mod among;
 pub mod back;

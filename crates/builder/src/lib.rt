@@ -1,3 +1,3 @@
-// Building a schedule and telling the bound, with the refusals of both.
+// Building a schedule by the plain engine, with 5 and 6, and telling the bound, with 4; the table was admitted and the list checked before.
 pub mod bound;
 pub mod build;

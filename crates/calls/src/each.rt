@@ -18,7 +18,6 @@ use crate::serving::asked_built;
 use crate::straight::straight_byte_schedules;
 use crate::straight::straight_later_schedules;
 use crate::straight::straight_schedules;
-use crate::told::text;
 use crate::whole::bounded;
 use crate::whole::byte_schedules;
 use crate::whole::host_schedules;
@@ -26,6 +25,7 @@ use crate::whole::later_schedules;
 use crate::whole::runs;
 use crate::whole::schedules;
 use crate::whole::starts;
+use prints::text;
 use records::transaction::Transaction;
 use tables::house::table_a;
 

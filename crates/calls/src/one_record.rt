@@ -1,9 +1,6 @@
 // The host's readers and writers of one record.
-use crate::told::hex;
-use crate::told::number;
+use crate::told::buffer;
 use crate::told::numbers;
-use crate::told::small;
-use crate::told::text;
 use answers::reader::CommandAnswer;
 use answers::reader::TableAnswer;
 use answers::reader::TransactionAnswer;
@@ -18,18 +15,21 @@ use host::one_record::skv_write_group_table;
 use host::one_record::skv_write_later;
 use host::one_record::skv_write_table;
 use host::one_record::skv_write_transaction;
+use prints::long;
+use prints::number;
+use prints::text;
 use records::transaction::Transaction;
 
 pub(crate) fn table_written(n: [u16; 16], table: &mut [u8]) {
     text(b"skv_write_table");
     numbers(skv_write_table(Numbers { numbers: n }, table));
-    hex(table);
+    buffer(table);
 }
 
 pub(crate) fn group_table_written(n: [u16; 20], table: &mut [u8]) {
     text(b"skv_write_group_table");
     numbers(skv_write_group_table(GroupNumbers { numbers: n }, table));
-    hex(table);
+    buffer(table);
 }
 
 pub(crate) fn records_read(table: &[u8], bytes: &[u8]) {
@@ -43,9 +43,9 @@ pub(crate) fn records_read(table: &[u8], bytes: &[u8]) {
 
 fn table_read(a: TableAnswer) {
     text(b"skv_read_table");
-    number(a.refused);
-    number(a.position);
-    number(a.edition);
+    long(a.refused);
+    long(a.position);
+    long(a.edition);
     let n = a.numbers;
     twenty(n);
     text(b"\n");
@@ -54,32 +54,32 @@ fn table_read(a: TableAnswer) {
 fn twenty(n: [u16; 20]) {
     let mut k: usize = 0;
     while k < 20 {
-        small(n[k]);
+        number(n[k]);
         k += 1;
     }
 }
 
 fn transaction_read(a: TransactionAnswer) {
-    number(a.refused);
-    number(a.position);
-    number(a.edition);
-    number(a.kind as u32);
-    number(a.start as u32);
-    number(a.bi as u32);
-    number(a.bc as u32);
-    number(a.arrival);
+    long(a.refused);
+    long(a.position);
+    long(a.edition);
+    long(a.kind as u32);
+    long(a.start as u32);
+    long(a.bi as u32);
+    long(a.bc as u32);
+    long(a.arrival);
     text(b"\n");
 }
 
 fn command_read(a: CommandAnswer) {
     text(b"skv_read_command");
-    number(a.refused);
-    number(a.position);
-    number(a.edition);
-    number(a.cycle);
-    number(a.kind as u32);
-    number(a.bank as u32);
-    small(a.number);
+    long(a.refused);
+    long(a.position);
+    long(a.edition);
+    long(a.cycle);
+    long(a.kind as u32);
+    long(a.bank as u32);
+    number(a.number);
     text(b"\n");
 }
 
@@ -88,7 +88,7 @@ pub(crate) fn transaction_written(x: Transaction) {
     let mut bytes = [255u8; 4];
     let room = &mut bytes[..];
     numbers(skv_write_transaction(x.kind, x.start, x.bi, x.bc, room));
-    hex(room);
+    buffer(room);
 }
 
 pub(crate) fn later_written(x: Transaction) {
@@ -96,7 +96,7 @@ pub(crate) fn later_written(x: Transaction) {
     let mut bytes = [255u8; 8];
     let room = &mut bytes[..];
     numbers(skv_write_later(x.kind, x.start, x.bi, x.bc, x.arrival, room));
-    hex(room);
+    buffer(room);
 }
 
 // The values are a transaction's, for want of others.
@@ -105,5 +105,5 @@ pub(crate) fn command_written(cycle: u32, x: Transaction) {
     let mut bytes = [255u8; 9];
     let room = &mut bytes[..];
     numbers(skv_write_command(cycle, x.kind, x.start, x.bi as u16, room));
-    hex(room);
+    buffer(room);
 }

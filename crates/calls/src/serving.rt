@@ -3,14 +3,14 @@ use crate::lent::lent_schedule;
 use crate::lent::lent_serves;
 use crate::lent_host::host_serves;
 use crate::told::built;
-use crate::told::number;
 use crate::told::refused;
-use crate::told::small;
-use crate::told::text;
 use answers::verdict::ServesAnswer;
 use desk::numbers::rule_number;
 use host::serving::skv_serves_bytes;
 use host::serving::skv_serves_later_bytes;
+use prints::long;
+use prints::number;
+use prints::text;
 use records::transaction::Transaction;
 use serves::answer::Served;
 
@@ -52,7 +52,7 @@ pub(crate) fn asked_built(
 fn told(a: serves::answer::ServesAnswer) {
     match a {
         serves::answer::ServesAnswer::Told(edition, said) => {
-            small(edition);
+            number(edition);
             served(said);
         }
         serves::answer::ServesAnswer::Refused(r) => {
@@ -66,24 +66,24 @@ fn served(a: Served) {
     match a {
         Served::Serves => text(b"\n"),
         Served::Refused(x, i) => {
-            number(rule_number(x));
-            number(i);
+            long(rule_number(x));
+            long(i);
             text(b"\n");
         }
         Served::AtFault(x) => {
-            number(x);
+            long(x);
             text(b"\n");
         }
     }
 }
 
 fn host_told(a: ServesAnswer) {
-    number(a.refused);
-    number(a.position);
-    number(a.edition);
-    number(a.serves);
-    number(a.rule);
-    number(a.record);
-    number(a.transaction);
+    long(a.refused);
+    long(a.position);
+    long(a.edition);
+    long(a.serves);
+    long(a.rule);
+    long(a.record);
+    long(a.transaction);
     text(b"\n");
 }

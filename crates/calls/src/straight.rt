@@ -2,16 +2,16 @@
 use crate::lent_straight::host_run_straight;
 use crate::lent_straight::host_schedule_straight;
 use crate::lent_straight::host_step_straight;
-use crate::told::hex;
+use crate::told::buffer;
 use crate::told::longs;
 use crate::told::numbers;
-use crate::told::text;
 use crate::whole::host_ran;
 use controller::controller::Controller;
 use host::second::skv_run_straight_bytes;
 use host::second::skv_run_straight_later_bytes;
 use host::second::skv_schedule_straight_bytes;
 use host::second::skv_schedule_straight_later_bytes;
+use prints::text;
 use records::transaction::Transaction;
 
 pub(crate) fn straight_schedules(expected: u16, table: &[u8], list: [Transaction; 3]) {
@@ -22,7 +22,7 @@ pub(crate) fn straight_schedules(expected: u16, table: &[u8], list: [Transaction
     let finishes = &mut places[..];
     numbers(host_schedule_straight(expected, table, list, commands, finishes));
     longs(finishes);
-    hex(commands);
+    buffer(commands);
 }
 
 pub(crate) fn straight_byte_schedules(expected: u16, table: &[u8], bytes: &[u8]) {
@@ -33,7 +33,7 @@ pub(crate) fn straight_byte_schedules(expected: u16, table: &[u8], bytes: &[u8])
     let finishes = &mut places[..];
     numbers(skv_schedule_straight_bytes(expected, table, bytes, commands, finishes));
     longs(finishes);
-    hex(commands);
+    buffer(commands);
 }
 
 pub(crate) fn straight_later_schedules(expected: u16, table: &[u8], bytes: &[u8]) {
@@ -44,7 +44,7 @@ pub(crate) fn straight_later_schedules(expected: u16, table: &[u8], bytes: &[u8]
     let finishes = &mut places[..];
     numbers(skv_schedule_straight_later_bytes(expected, table, bytes, commands, finishes));
     longs(finishes);
-    hex(commands);
+    buffer(commands);
 }
 
 pub(crate) fn straight_runs_of(
@@ -58,7 +58,7 @@ pub(crate) fn straight_runs_of(
     let mut bytes = [0u8; 96];
     let room = &mut bytes[..];
     host_ran(host_run_straight(c, expected, table, list, count, room));
-    hex(room);
+    buffer(room);
 }
 
 pub(crate) fn straight_steps_of(
@@ -71,7 +71,7 @@ pub(crate) fn straight_steps_of(
     let mut bytes = [0u8; 9];
     let room = &mut bytes[..];
     host_ran(host_step_straight(c, expected, table, list, room));
-    hex(room);
+    buffer(room);
 }
 
 pub(crate) fn straight_byte_runs_of(
@@ -85,7 +85,7 @@ pub(crate) fn straight_byte_runs_of(
     let mut bytes = [0u8; 96];
     let room = &mut bytes[..];
     host_ran(skv_run_straight_bytes(c, expected, table, list, count, room));
-    hex(room);
+    buffer(room);
 }
 
 pub(crate) fn straight_later_runs_of(
@@ -99,5 +99,5 @@ pub(crate) fn straight_later_runs_of(
     let mut bytes = [0u8; 96];
     let room = &mut bytes[..];
     host_ran(skv_run_straight_later_bytes(c, expected, table, list, count, room));
-    hex(room);
+    buffer(room);
 }

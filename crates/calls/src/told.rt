@@ -9,16 +9,20 @@ use controller::run::RunAnswer;
 use controller::run::RunTold;
 use desk::running::StartAnswer;
 use desk::running::StartTold;
-use libc::STDOUT_FILENO;
 use lists::decode::Decoded;
+use prints::count;
+use prints::hex;
+use prints::long;
+use prints::number;
+use prints::text;
 use records::refusal::Refusal;
 use records::transaction::Transaction;
 
 pub(crate) fn decoded(answer: Decoded, list: [Transaction; 3]) {
     match answer {
         Decoded::Done(edition, n) => {
-            small(edition);
-            number(n);
+            number(edition);
+            long(n);
         }
         Decoded::Refused(r) => refused(r),
     }
@@ -42,19 +46,18 @@ fn transactions(list: [Transaction; 3]) {
 
 fn transaction(x: Transaction) {
     text(b" ,");
-    number(x.kind as u32);
-    number(x.start as u32);
-    number(x.bi as u32);
-    number(x.bc as u32);
-    number(x.arrival);
+    long(x.kind as u32);
+    long(x.start as u32);
+    long(x.bi as u32);
+    long(x.bc as u32);
+    long(x.arrival);
 }
 
 pub(crate) fn built(answer: BuildAnswer) {
     match answer {
         BuildAnswer::Built(edition, commands) => {
-            small(edition);
-            text(b" ");
-            io::print_decimal(STDOUT_FILENO, commands as u64);
+            number(edition);
+            count(commands);
         }
         BuildAnswer::Refused(r) => refused(r),
     }
@@ -64,7 +67,7 @@ pub(crate) fn started(told: StartTold) {
     let answer = told.answer;
     let c = told.controller;
     match answer {
-        StartAnswer::Started(edition) => small(edition),
+        StartAnswer::Started(edition) => number(edition),
         StartAnswer::Refused(r) => refused(r),
     }
     controller(c);
@@ -75,9 +78,9 @@ pub(crate) fn ran(told: RunTold) {
     let c = told.controller;
     match answer {
         RunAnswer::Ran(report) => {
-            small(report.edition);
-            number(report.commands);
-            number(report.cycles);
+            number(report.edition);
+            long(report.commands);
+            long(report.cycles);
         }
         RunAnswer::Refused(r) => refused(r),
     }
@@ -85,48 +88,48 @@ pub(crate) fn ran(told: RunTold) {
 }
 
 pub(crate) fn numbers(a: Answer) {
-    number(a.refused);
-    number(a.position);
-    number(a.edition);
-    number(a.count);
-    number(a.cycles);
+    long(a.refused);
+    long(a.position);
+    long(a.edition);
+    long(a.count);
+    long(a.cycles);
 }
 
 pub(crate) fn verdict(a: VerdictAnswer) {
-    number(a.refused);
-    number(a.position);
-    number(a.edition);
-    number(a.rule);
-    number(a.copy);
-    number(a.record);
+    long(a.refused);
+    long(a.position);
+    long(a.edition);
+    long(a.rule);
+    long(a.copy);
+    long(a.record);
     text(b"\n");
 }
 
 pub(crate) fn refused(r: Refusal) {
     text(b" refused");
-    number(r.number as u32);
-    number(r.position);
-    small(r.edition);
+    long(r.number as u32);
+    long(r.position);
+    number(r.edition);
 }
 
 pub(crate) fn controller(c: Controller) {
     let banks = c.banks;
     let groups = c.groups;
     text(b" ,");
-    number(c.edition);
-    number(c.cycle);
-    number(c.acts);
-    number(c.datas);
+    long(c.edition);
+    long(c.cycle);
+    long(c.acts);
+    long(c.datas);
     all_banks(banks);
     text(b" ,");
-    number(c.last[0]);
-    number(c.last[1]);
-    number(c.last[2]);
-    number(c.last[3]);
+    long(c.last[0]);
+    long(c.last[1]);
+    long(c.last[2]);
+    long(c.last[3]);
     all_groups(groups);
     text(b" ,");
-    number(c.refresh);
-    number(c.lent);
+    long(c.refresh);
+    long(c.lent);
 }
 
 fn all_banks(banks: [HostBank; 16]) {
@@ -139,10 +142,10 @@ fn all_banks(banks: [HostBank; 16]) {
 
 fn one_bank(bank: HostBank) {
     text(b" ,");
-    number(bank.opened);
-    number(bank.act);
-    number(bank.rd);
-    number(bank.wr);
+    long(bank.opened);
+    long(bank.act);
+    long(bank.rd);
+    long(bank.wr);
 }
 
 fn all_groups(groups: [HostGroup; 8]) {
@@ -155,47 +158,22 @@ fn all_groups(groups: [HostGroup; 8]) {
 
 fn one_group(group: HostGroup) {
     text(b" ,");
-    number(group.act);
-    number(group.rd);
-    number(group.wr);
+    long(group.act);
+    long(group.rd);
+    long(group.wr);
 }
 
 // A buffer, and the line's end.
-pub(crate) fn hex(room: &[u8]) {
+pub(crate) fn buffer(room: &[u8]) {
     text(b" ");
-    pairs(room);
+    hex(room);
     text(b"\n");
-}
-
-fn pairs(room: &[u8]) {
-    let mut i = 0;
-    while i < room.len() {
-        byte(room[i]);
-        i += 1;
-    }
-}
-
-fn byte(b: u8) {
-    io::print_hex(STDOUT_FILENO, b as u64, 2);
 }
 
 pub(crate) fn longs(s: &[u32]) {
     let mut i = 0;
     while i < s.len() {
-        number(s[i]);
+        long(s[i]);
         i += 1;
     }
-}
-
-pub(crate) fn small(n: u16) {
-    number(n as u32);
-}
-
-pub(crate) fn number(n: u32) {
-    text(b" ");
-    io::print_decimal(STDOUT_FILENO, n as u64);
-}
-
-pub(crate) fn text(s: &[u8]) {
-    io::write_all(STDOUT_FILENO, s);
 }

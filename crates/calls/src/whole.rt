@@ -9,14 +9,13 @@ use crate::straight::straight_byte_runs_of;
 use crate::straight::straight_later_runs_of;
 use crate::straight::straight_runs_of;
 use crate::straight::straight_steps_of;
+use crate::told::buffer;
 use crate::told::built;
 use crate::told::controller;
-use crate::told::hex;
 use crate::told::longs;
 use crate::told::numbers;
 use crate::told::ran;
 use crate::told::started;
-use crate::told::text;
 use crate::told::verdict;
 use answers::answer::RunAnswer;
 use answers::answer::StartAnswer;
@@ -30,6 +29,7 @@ use host::running::skv_run_later_bytes;
 use host::running::skv_start;
 use host::schedules::skv_schedule_bytes;
 use host::schedules::skv_schedule_later_bytes;
+use prints::text;
 use records::transaction::Transaction;
 
 // The schedule of the list is judged, with all that lies beyond it in the room.
@@ -41,7 +41,7 @@ pub(crate) fn schedules(expected: u16, table: &[u8], list: [Transaction; 3], len
     let finishes = &mut places[..];
     built(lent_schedule(expected, table, list, commands, finishes));
     longs(finishes);
-    hex(commands);
+    buffer(commands);
     text(b"skv_judge");
     verdict(skv_judge(expected, table, commands));
     text(b"skv_judge_pattern");
@@ -56,7 +56,7 @@ pub(crate) fn host_schedules(expected: u16, table: &[u8], list: [Transaction; 3]
     let finishes = &mut places[..];
     numbers(host_schedule(expected, table, list, commands, finishes));
     longs(finishes);
-    hex(commands);
+    buffer(commands);
 }
 
 pub(crate) fn byte_schedules(expected: u16, table: &[u8], bytes: &[u8]) {
@@ -67,7 +67,7 @@ pub(crate) fn byte_schedules(expected: u16, table: &[u8], bytes: &[u8]) {
     let finishes = &mut places[..];
     numbers(skv_schedule_bytes(expected, table, bytes, commands, finishes));
     longs(finishes);
-    hex(commands);
+    buffer(commands);
 }
 
 pub(crate) fn later_schedules(expected: u16, table: &[u8], bytes: &[u8]) {
@@ -78,7 +78,7 @@ pub(crate) fn later_schedules(expected: u16, table: &[u8], bytes: &[u8]) {
     let finishes = &mut places[..];
     numbers(skv_schedule_later_bytes(expected, table, bytes, commands, finishes));
     longs(finishes);
-    hex(commands);
+    buffer(commands);
 }
 
 pub(crate) fn bounded(expected: u16, table: &[u8], x: Transaction) {
@@ -131,7 +131,7 @@ fn runs_of(c: Controller, expected: u16, table: &[u8], list: [Transaction; 3], c
     let mut bytes = [0u8; 96];
     let room = &mut bytes[..];
     ran(lent_run(c, expected, table, list, count, room));
-    hex(room);
+    buffer(room);
 }
 
 fn steps_of(c: Controller, expected: u16, table: &[u8], list: [Transaction; 3]) {
@@ -139,7 +139,7 @@ fn steps_of(c: Controller, expected: u16, table: &[u8], list: [Transaction; 3]) 
     let mut bytes = [0u8; 9];
     let room = &mut bytes[..];
     ran(lent_step(c, expected, table, list, room));
-    hex(room);
+    buffer(room);
 }
 
 fn host_runs_of(c: Controller, expected: u16, table: &[u8], list: [Transaction; 3], count: u32) {
@@ -147,7 +147,7 @@ fn host_runs_of(c: Controller, expected: u16, table: &[u8], list: [Transaction; 
     let mut bytes = [0u8; 96];
     let room = &mut bytes[..];
     host_ran(host_run(c, expected, table, list, count, room));
-    hex(room);
+    buffer(room);
 }
 
 fn host_steps_of(c: Controller, expected: u16, table: &[u8], list: [Transaction; 3]) {
@@ -155,7 +155,7 @@ fn host_steps_of(c: Controller, expected: u16, table: &[u8], list: [Transaction;
     let mut bytes = [0u8; 9];
     let room = &mut bytes[..];
     host_ran(host_step(c, expected, table, list, room));
-    hex(room);
+    buffer(room);
 }
 
 fn byte_runs_of(c: Controller, expected: u16, table: &[u8], list: &[u8], count: u32) {
@@ -163,7 +163,7 @@ fn byte_runs_of(c: Controller, expected: u16, table: &[u8], list: &[u8], count: 
     let mut bytes = [0u8; 96];
     let room = &mut bytes[..];
     host_ran(skv_run_bytes(c, expected, table, list, count, room));
-    hex(room);
+    buffer(room);
 }
 
 fn later_runs_of(c: Controller, expected: u16, table: &[u8], list: &[u8], count: u32) {
@@ -171,7 +171,7 @@ fn later_runs_of(c: Controller, expected: u16, table: &[u8], list: &[u8], count:
     let mut bytes = [0u8; 96];
     let room = &mut bytes[..];
     host_ran(skv_run_later_bytes(c, expected, table, list, count, room));
-    hex(room);
+    buffer(room);
 }
 
 pub(crate) fn host_ran(a: RunAnswer) {

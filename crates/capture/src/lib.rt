@@ -1,4 +1,5 @@
-// The analyser trace: a capture is read, written as commands, and judged.
+// The analyser trace: a capture record read and written, a capture checked (7, 11, 5), written as commands and judged; the table was admitted
+// before.
 pub mod answer;
 pub mod one_record;
 pub mod scan;

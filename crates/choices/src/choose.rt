@@ -1,5 +1,7 @@
 // What goes at a cycle. The tests take the two heads, their banks, their banks' groups and the stamps that the rules read, never the whole
 // state. Of the groups they ask the head's own: the others are asked after it, where all else lets the command go.
+use distances::kinds::is_wr;
+use distances::square::wide;
 use heads::head::Head;
 use records::command::Command;
 use records::table::Table;
@@ -9,8 +11,6 @@ use timing::kept::KeptGroup;
 use timing::kept::kept_act_free;
 use timing::kept::kept_data_free;
 use timing::kept::since;
-use distances::kinds::is_wr;
-use distances::square::wide;
 ghost use mathlib.Core.Path.{_≡_};
 ghost use mathlib.Core.Bool.{true, _&&_};
 ghost use Prim.Native.Nat.{_<_};

@@ -1,2 +1,2 @@
-// What goes at a cycle, asked of the head of each queue.
+// What goes at a cycle, asked of the head of each queue; nothing is changed here.
 pub mod choose;

@@ -1,2 +1,2 @@
-// A command is read and written exactly.
+// A command is read and written exactly; no rule is asked.
 pub mod command;

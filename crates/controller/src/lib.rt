@@ -1,3 +1,3 @@
-// The host's running controller: what it tells, and the run by value.
+// The host's running controller: what its numbers tell, and its run by value by the plain engine; where it lies is the affair of `lent`.
 pub mod controller;
 pub mod run;

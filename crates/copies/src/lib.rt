@@ -1,2 +1,2 @@
-// What the loops over one copy of a schedule share.
+// What the judge's loops over one copy of a schedule share; no loop stands here.
 pub mod copy;

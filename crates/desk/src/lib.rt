@@ -1,5 +1,5 @@
-// The desk: what the customer calls. Any bytes may be handed in; a call refuses what it cannot take, with the number, the position and the
-// edition of document 01, and then changes nothing.
+// The desk: what the customer calls. Any bytes may be handed in; a call refuses what it cannot take, with the number, the position and the edition
+// of document 01, and then changes nothing. No call has a `requires`.
 pub mod bounding;
 pub mod judging;
 pub mod numbers;
@@ -17,25 +17,25 @@ pub use commands::command::read_command;
 pub use commands::command::write_command;
 pub use judging::judge;
 pub use judging::judge_pattern;
+pub use lent::running::run;
+pub use lent::running::run_straight;
+pub use lent::running::step;
+pub use lent::running::step_straight;
+pub use lent::schedules::schedule;
+pub use lent::schedules::schedule_straight;
+pub use lent::serving::serves;
 pub use patterns::shortest_pattern;
 pub use reading::reading::read_later_transactions;
 pub use reading::reading::read_transactions;
-pub use lent::running::run;
 pub use running::run_bytes;
 pub use running::run_later_bytes;
 pub use running::start;
-pub use lent::running::step;
-pub use lent::schedules::schedule;
 pub use schedules::schedule_bytes;
 pub use schedules::schedule_later_bytes;
-pub use lent::running::run_straight;
 pub use second::run_straight_bytes;
 pub use second::run_straight_later_bytes;
-pub use lent::schedules::schedule_straight;
 pub use second::schedule_straight_bytes;
 pub use second::schedule_straight_later_bytes;
-pub use lent::running::step_straight;
-pub use lent::serving::serves;
 pub use serving::serves_bytes;
 pub use serving::serves_later_bytes;
 pub use tables::group_table::write_group_table;

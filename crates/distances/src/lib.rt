@@ -1,3 +1,3 @@
-// Kinds of commands and the distances between them, in code: what judge and engine share of them. No state.
+// Kinds of commands and the distances between them, in code; no state is read here.
 pub mod kinds;
 pub mod square;

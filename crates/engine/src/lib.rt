@@ -1,3 +1,3 @@
-// The cycle rule at work: a run of a few cycles, and the built schedule with its finishing cycles.
+// The plain engine: the cycle rule cycle by cycle, a run and the built schedule with its finishing cycles; it refuses nothing.
 pub mod build;
 pub mod run;

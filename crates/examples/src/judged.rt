@@ -2,10 +2,10 @@
 use crate::told::built;
 use crate::told::judged;
 use crate::told::repeated;
-use crate::told::text;
 use desk::judge;
 use desk::judge_pattern;
 use desk::schedule_bytes;
+use prints::text;
 
 // Example 1 as pattern, of two lengths.
 pub(crate) fn one_as_pattern(table: &[u8], longer: u32, shorter: u32) {

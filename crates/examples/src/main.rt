@@ -12,6 +12,7 @@ use judged::example_9;
 use judged::example_11;
 use judged::one_as_pattern;
 use judged::table_t_judged;
+use prints::text;
 use tables::house::table_a;
 use tables::house::table_b;
 use tables::house::table_c;
@@ -19,7 +20,6 @@ use tables::house::table_t;
 use told::bounded;
 use told::built;
 use told::read;
-use told::text;
 use told::written;
 
 fn main() {

@@ -4,7 +4,8 @@ use builder::build::BuildAnswer;
 use desk::numbers::rule_number;
 use judge::answer::Judged;
 use judge::answer::PatternJudged;
-use libc::STDOUT_FILENO;
+use prints::first;
+use prints::text;
 use records::refusal::Refusal;
 use records::refusal::Written;
 use records::table::TableRead;
@@ -38,7 +39,7 @@ pub(crate) fn bounded(answer: BoundAnswer) {
         BoundAnswer::Bound(e, cycles) => {
             edition(e);
             text(b" bound ");
-            number(cycles as u64);
+            first(cycles);
             text(b"\n");
         }
         BoundAnswer::Refused(r) => refused(r),
@@ -50,7 +51,7 @@ pub(crate) fn built(answer: BuildAnswer) {
         BuildAnswer::Built(e, commands) => {
             edition(e);
             text(b" commands ");
-            number(commands as u64);
+            first(commands as u32);
             text(b"\n");
         }
         BuildAnswer::Refused(r) => refused(r),
@@ -89,7 +90,7 @@ fn pattern_verdict(v: PatternVerdict) {
         PatternVerdict::Accepted => text(b" accepted\n"),
         PatternVerdict::Refused(x, copy, record) => {
             text(b" copy ");
-            number(copy as u64);
+            first(copy);
             broken(record, x);
         }
     }
@@ -97,18 +98,17 @@ fn pattern_verdict(v: PatternVerdict) {
 
 fn broken(record: u32, x: Rule) {
     text(b" record ");
-    number(record as u64);
+    first(record);
     text(b" rule ");
-    let r = rule_number(x);
-    number(r as u64);
+    first(rule_number(x));
     text(b"\n");
 }
 
 fn refused(r: Refusal) {
     text(b"refused ");
-    number(r.number as u64);
+    first(r.number as u32);
     text(b" at ");
-    number(r.position as u64);
+    first(r.position);
     text(b" ");
     edition(r.edition);
     text(b"\n");
@@ -116,13 +116,5 @@ fn refused(r: Refusal) {
 
 fn edition(e: u16) {
     text(b"edition ");
-    number(e as u64);
-}
-
-fn number(n: u64) {
-    io::print_decimal(STDOUT_FILENO, n);
-}
-
-pub(crate) fn text(s: &[u8]) {
-    io::write_all(STDOUT_FILENO, s);
+    first(e as u32);
 }

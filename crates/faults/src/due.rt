@@ -1,7 +1,7 @@
 // What is due under a transaction, by the number of a kind and by the bank, and where the data queue places it.
+use distances::square::less;
 use records::tests::both_of;
 use records::tests::either_of;
-use distances::square::less;
 ghost use mathlib.Core.Path.{_≡_};
 ghost use Prim.Native.Nat.{_+_, _*_};
 ghost use Rattle.records.specs.Tests.{pick};

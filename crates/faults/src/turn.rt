@@ -1,11 +1,11 @@
 // What one record of the list leaves, by plain numbers.
 use crate::due::due_count;
 use crate::due::key_of;
+use distances::square::greater;
 use records::tests::both_of;
 use records::tests::either_of;
 use records::tests::is_within;
 use records::tests::not_of;
-use distances::square::greater;
 ghost use mathlib.Core.Path.{_≡_};
 ghost use Prim.Native.Nat.{_+_, _*_, _<_, min, max};
 ghost use Rattle.records.specs.Tests.{pick};

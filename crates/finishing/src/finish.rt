@@ -1,7 +1,7 @@
 // The finishing cycles: a pass over the commands for each transaction's last command, and one over the transactions for where it finishes.
 use commands::command::command_at;
-use records::table::Table;
 use distances::kinds::can_end;
+use records::table::Table;
 use transactions::later::later_at;
 ghost use mathlib.Core.Path.{_≡_};
 ghost use mathlib.Core.Bool.{true};

@@ -1,2 +1,2 @@
-// The finishing cycles of a schedule.
+// The finishing cycles, off the written commands; no command is chosen here.
 pub mod finish;

@@ -1,8 +1,8 @@
 // The command at the head of a queue.
+use distances::kinds::data_kind;
 use records::command::Kind;
 use records::table::Table;
 use records::transaction::Transaction;
-use distances::kinds::data_kind;
 ghost use mathlib.Core.Path.{_≡_};
 ghost use mathlib.Core.Bool.{true};
 ghost use Prim.Native.Nat.{_+_, _*_, _<_, _≤_};

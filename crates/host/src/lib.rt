@@ -1,4 +1,5 @@
-// What the host links: every call of the desk, with slices, plain numbers and structs of plain numbers. Any bytes may be handed in.
+// What the host links: every call of the desk, with slices, plain numbers and structs of plain numbers. Any bytes may be handed in; nothing is
+// decided here.
 pub mod bounding;
 pub mod judging;
 pub mod one_record;

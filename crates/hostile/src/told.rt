@@ -1,8 +1,12 @@
 // What the calls answer, as numbers, and the buffers, as bytes.
 use commands::command::kind_number;
-use libc::STDOUT_FILENO;
+use prints::hex;
+use prints::long;
+use prints::number;
+use prints::refused;
+use prints::small;
+use prints::text;
 use records::command::Command;
-use records::refusal::Refusal;
 use records::refusal::Written;
 use records::table::Table;
 use records::transaction::Transaction;
@@ -51,15 +55,6 @@ pub(crate) fn command(c: Command) {
     number(c.number);
 }
 
-pub(crate) fn refused(r: Refusal) {
-    text(b" refused");
-    small(r.number);
-    text(b" at");
-    long(r.position);
-    text(b" edition");
-    number(r.edition);
-}
-
 // The end of a writer's line, with all of the buffer it was lent.
 pub(crate) fn written(answer: Written, room: &[u8]) {
     match answer {
@@ -75,34 +70,4 @@ pub(crate) fn written(answer: Written, room: &[u8]) {
     }
     hex(room);
     text(b"\n");
-}
-
-fn hex(room: &[u8]) {
-    let mut i = 0;
-    while i < room.len() {
-        byte(room[i]);
-        i += 1;
-    }
-}
-
-fn byte(b: u8) {
-    io::print_hex(STDOUT_FILENO, b as u64, 2);
-}
-
-// A number after a space, of each width.
-fn small(n: u8) {
-    long(n as u32);
-}
-
-fn number(n: u16) {
-    long(n as u32);
-}
-
-fn long(n: u32) {
-    text(b" ");
-    io::print_decimal(STDOUT_FILENO, n as u64);
-}
-
-pub(crate) fn text(s: &[u8]) {
-    io::write_all(STDOUT_FILENO, s);
 }

@@ -2,12 +2,12 @@
 use crate::answer::PatternJudged;
 use crate::answer::pattern_refusal;
 use crate::copy::judge_copy;
+use distances::square::distances;
 use records::refusal::refuse;
 use records::table::Table;
 use rules::verdict::PatternVerdict;
 use rules::verdict::Verdict;
 use timing::kept::kept_fresh;
-use distances::square::distances;
 ghost use mathlib.Core.Path.{_≡_};
 ghost use Prim.Native.Nat.{_≤_};
 ghost use Rattle.records.specs.Command.{commandsIn};

@@ -1,6 +1,10 @@
 // A run of a few cycles, which goes straight to the next cycle at which a command leaves and writes it there, or to the run's end.
 use choices::choose::command_of;
 use commands::command::put_command;
+use distances::kinds::is_closing;
+use distances::kinds::is_ref;
+use distances::kinds::is_wr;
+use distances::square::distances;
 use engine::run::Ran;
 use heads::due::Counts;
 use heads::queue::advance;
@@ -27,10 +31,6 @@ use timing::kept::Kept;
 use timing::kept::KeptBank;
 use timing::kept::either_64;
 use timing::kept::kept_after;
-use distances::kinds::is_closing;
-use distances::kinds::is_ref;
-use distances::kinds::is_wr;
-use distances::square::distances;
 ghost use mathlib.Core.List.{[]};
 ghost use Prim.Native.Nat.{_≤_};
 ghost use lib.ListN.{length};

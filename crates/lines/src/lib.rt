@@ -1,4 +1,4 @@
-// The lines of the listing and of the trace as text in a lent buffer: one line each, the lines of all commands and finishes, the text of an answer.
+// The lines of the listing, of the trace and of a pattern as text in a lent buffer; what is printed is decided above.
 pub mod answer;
 pub mod line;
 pub mod many;

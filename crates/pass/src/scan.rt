@@ -1,10 +1,10 @@
 // After the pass: the first transaction whose REF is before an earlier one's command, or whose commands are not as many as are due.
+use distances::square::greater;
 use faults::counts::bank_agrees;
 use records::tests::both_of;
 use records::tests::either_of;
 use records::tests::not_of;
 use records::transaction::Transaction;
-use distances::square::greater;
 use transactions::later::later_at;
 ghost use mathlib.Core.Path.{_≡_};
 ghost use Prim.Native.Nat.{_*_, _≤_, _<_};

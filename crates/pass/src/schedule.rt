@@ -1,12 +1,12 @@
 // Does a schedule serve a list?
-use serves::answer::Served;
-use serves::answer::ServesAnswer;
 use crate::pass::pass;
 use judge::answer::schedule_refusal;
 use judge::schedule::verdict_on;
 use records::refusal::refuse;
 use records::table::Table;
 use rules::verdict::Verdict;
+use serves::answer::Served;
+use serves::answer::ServesAnswer;
 ghost use mathlib.Core.Path.{_≡_};
 ghost use Prim.Native.Nat.{_≤_};
 ghost use Rattle.records.specs.Transaction.{laterFrom};

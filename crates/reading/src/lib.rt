@@ -1,2 +1,2 @@
-// Transactions decoded into a lent run of records. The desk hands these calls on; beside them it holds no `&mut [Transaction]`.
+// The public calls that decode transactions into a lent run of records; the desk hands them on.
 pub mod reading;

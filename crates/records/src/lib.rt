@@ -1,4 +1,5 @@
-// The records of document 01: a timing table, a transaction, a command. They are read and written in `tables`, `transactions` and `commands`.
+// The records of document 01, as types and definitions, with numbers in bytes and tests on them; the readers and writers stand in `tables`,
+// `transactions` and `commands`, and nothing here knows of time.
 pub mod command;
 pub mod little;
 pub mod refusal;

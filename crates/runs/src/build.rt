@@ -1,15 +1,15 @@
 // The lines of a build.
 use crate::told::command_lines;
-use crate::told::count;
-use crate::told::long;
 use crate::told::name;
-use crate::told::number;
-use crate::told::refused;
+use crate::told::refused_line;
 use crate::told::room_in;
-use crate::told::text;
 use builder::build::BuildAnswer;
 use desk::schedule_bytes;
 use desk::schedule_later_bytes;
+use prints::count;
+use prints::long;
+use prints::number;
+use prints::text;
 ghost use mathlib.Core.Path.{_≡_};
 ghost use Prim.Native.Nat.{_*_, _≤_};
 ghost use lib.ListN.{length};
@@ -32,7 +32,7 @@ pub(crate) fn lines(later: bool, expected: u16, table: &[u8], room: u16, slots: 
     let answer = schedule_of(expected, table, later, list, commands, finishes);
     match answer {
         BuildAnswer::Built(edition, written) => built(edition, commands, written, finishes, n),
-        BuildAnswer::Refused(r) => refused(r),
+        BuildAnswer::Refused(r) => refused_line(r),
     }
 }
 

@@ -13,13 +13,13 @@ mod told;
 use builder::bound::BoundAnswer;
 use desk::bound;
 use libc::STDIN_FILENO;
+use prints::long;
+use prints::number;
+use prints::text;
 use records::little::num_at;
 use state::controller_at;
 use state::long_at;
-use told::long;
-use told::number;
-use told::refused;
-use told::text;
+use told::refused_line;
 ghost use Prim.Native.Nat.{_≤_, _<_};
 ghost use lib.ListN.{length};
 
@@ -148,6 +148,6 @@ fn bound_told(answer: BoundAnswer) {
             long(bound);
             text(b"\n");
         }
-        BoundAnswer::Refused(r) => refused(r),
+        BoundAnswer::Refused(r) => refused_line(r),
     }
 }

@@ -1,18 +1,18 @@
 // The lines of a run.
 use crate::state::state_line;
 use crate::told::command_lines;
-use crate::told::long;
 use crate::told::name;
-use crate::told::number;
-use crate::told::refused;
+use crate::told::refused_line;
 use crate::told::room_in;
-use crate::told::text;
 use controller::controller::Controller;
 use controller::run::RunAnswer;
 use controller::run::RunReport;
 use controller::run::RunTold;
 use desk::run_bytes;
 use desk::run_later_bytes;
+use prints::long;
+use prints::number;
+use prints::text;
 ghost use Prim.Native.Nat.{_*_, _≤_};
 ghost use lib.ListN.{length};
 ghost use Rattle.records.specs.Transaction.{listOf};
@@ -40,7 +40,7 @@ pub(crate) fn lines(
     let after = told.controller;
     match answer {
         RunAnswer::Ran(report) => ran(report, after, commands),
-        RunAnswer::Refused(r) => refused(r),
+        RunAnswer::Refused(r) => refused_line(r),
     }
 }
 

@@ -1,10 +1,10 @@
 // The 342 bytes of a state, and its line.
-use crate::told::first;
-use crate::told::long;
-use crate::told::text;
 use controller::controller::Controller;
 use controller::controller::HostBank;
 use controller::controller::HostGroup;
+use prints::first;
+use prints::long;
+use prints::text;
 use records::little::from_le32;
 ghost use Prim.Native.Nat.{_+_, _≤_};
 ghost use lib.ListN.{length};

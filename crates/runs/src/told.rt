@@ -1,6 +1,10 @@
 // What more than one call's lines have.
 use commands::command::command_at;
-use libc::STDOUT_FILENO;
+use prints::first;
+use prints::number;
+use prints::refused;
+use prints::small;
+use prints::text;
 use records::command::Command;
 use records::command::Kind;
 use records::refusal::Refusal;
@@ -57,40 +61,7 @@ fn kind_name(k: Kind) {
     }
 }
 
-pub(crate) fn refused(r: Refusal) {
-    text(b" refused");
-    small(r.number);
-    text(b" at");
-    long(r.position);
-    text(b" edition");
-    number(r.edition);
+pub(crate) fn refused_line(r: Refusal) {
+    refused(r);
     text(b"\n");
-}
-
-// A line's first number.
-pub(crate) fn first(n: u32) {
-    io::print_decimal(STDOUT_FILENO, n as u64);
-}
-
-// A number after a space, of each width.
-pub(crate) fn small(n: u8) {
-    long(n as u32);
-}
-
-pub(crate) fn number(n: u16) {
-    long(n as u32);
-}
-
-pub(crate) fn long(n: u32) {
-    text(b" ");
-    first(n);
-}
-
-pub(crate) fn count(n: usize) {
-    text(b" ");
-    io::print_decimal(STDOUT_FILENO, n as u64);
-}
-
-pub(crate) fn text(s: &[u8]) {
-    io::write_all(STDOUT_FILENO, s);
 }

@@ -1,2 +1,2 @@
-// The schedules behind the desk's calls.
+// The schedules behind the desk's calls, by either engine: what is refused after the table, in order; nothing is lent decoded here.
 pub mod schedules;

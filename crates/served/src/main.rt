@@ -7,7 +7,10 @@ use desk::numbers::rule_number;
 use desk::serves_bytes;
 use desk::serves_later_bytes;
 use libc::STDIN_FILENO;
-use libc::STDOUT_FILENO;
+use prints::long;
+use prints::number;
+use prints::refusal;
+use prints::text;
 use records::little::num_at;
 use records::refusal::Refusal;
 use serves::answer::Served;
@@ -81,7 +84,10 @@ fn told(answer: ServesAnswer) {
             number(edition);
             served(a);
         }
-        ServesAnswer::Refused(r) => refused(r),
+        ServesAnswer::Refused(r) => {
+            text(b"refused");
+            refusal(r);
+        }
     }
 }
 
@@ -99,31 +105,4 @@ fn served(a: Served) {
             long(x);
         }
     }
-}
-
-fn refused(r: Refusal) {
-    text(b"refused");
-    small(r.number);
-    text(b" at");
-    long(r.position);
-    text(b" edition");
-    number(r.edition);
-}
-
-// A number after a space, of each width.
-fn small(n: u8) {
-    long(n as u32);
-}
-
-fn number(n: u16) {
-    long(n as u32);
-}
-
-fn long(n: u32) {
-    text(b" ");
-    io::print_decimal(STDOUT_FILENO, n as u64);
-}
-
-fn text(s: &[u8]) {
-    io::write_all(STDOUT_FILENO, s);
 }

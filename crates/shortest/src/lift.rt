@@ -1,5 +1,8 @@
 // Lower bounds of a pattern's cycles, for one order of its commands.
 use broken::among::found_among;
+use distances::kinds::is_act;
+use distances::kinds::is_closing;
+use distances::kinds::is_wr;
 use records::command::Command;
 use records::command::Kind;
 use records::table::Table;
@@ -11,9 +14,6 @@ use timing::kept::KeptBank;
 use timing::kept::KeptGroup;
 use timing::kept::kept_after;
 use timing::kept::kept_fresh;
-use distances::kinds::is_act;
-use distances::kinds::is_closing;
-use distances::kinds::is_wr;
 ghost use mathlib.Core.Path.{_≡_};
 ghost use mathlib.Core.Bool.{true, false};
 ghost use mathlib.Core.List.{map};

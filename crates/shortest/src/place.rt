@@ -1,7 +1,7 @@
 // The records that are placed so far, and what comes next to a bank.
+use distances::kinds::data_kind;
 use records::command::Command;
 use records::command::Kind;
-use distances::kinds::data_kind;
 ghost use mathlib.Core.Path.{_≡_};
 ghost use Prim.Native.Nat.{suc, _*_, _≤_, _<_};
 ghost use lib.ListN.{set};

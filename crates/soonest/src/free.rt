@@ -1,15 +1,15 @@
 // The cycle from which on a head is free, while nothing goes. As the tests of `timing`, these take a bank and the numbers that the rules read, never the
 // whole state.
-use heads::head::Head;
-use records::table::Table;
-use records::tests::not_of;
-use timing::kept::KeptBank;
-use timing::kept::kept_open;
 use distances::square::cell_of;
 use distances::square::side_of;
 use distances::square::sum_2;
 use distances::square::sum_4;
 use distances::square::wide;
+use heads::head::Head;
+use records::table::Table;
+use records::tests::not_of;
+use timing::kept::KeptBank;
+use timing::kept::kept_open;
 ghost use mathlib.Core.Path.{_≡_};
 ghost use Prim.Native.Nat.{_+_, min, max};
 ghost use Rattle.records.specs.Tests.{pick};

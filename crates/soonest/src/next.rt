@@ -1,5 +1,6 @@
 // The data queue: found by how many commands have left it, and moved on without a division, since its head tells to which of the transaction's banks it
 // goes.
+use distances::kinds::data_kind;
 use heads::head::Head;
 use heads::head::bank_at;
 use heads::queue::Place;
@@ -7,7 +8,6 @@ use heads::queue::Queue;
 use heads::queue::head_at;
 use heads::queue::seek;
 use records::table::Table;
-use distances::kinds::data_kind;
 use transactions::later::later_at;
 ghost use mathlib.Core.Path.{_≡_};
 ghost use mathlib.Core.Bool.{true};

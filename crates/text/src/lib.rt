@@ -1,4 +1,5 @@
-// Text in a lent buffer: a byte, a word, a number in decimal, each put at a place. Each answers the place behind it.
+// Text in a lent buffer: a byte, a word, a number in decimal, each put at a place; each answers the place behind it. No word of the desk stands
+// here.
 ghost use mathlib.Core.Path.{_≡_};
 ghost use Prim.Native.Nat.{_+_, _<_, _≤_};
 ghost use lib.ListN.{length};

@@ -1,3 +1,4 @@
-// The timing rules in code: the running state in plain numbers, the rules read off it, and the state after a command.
+// The running state in plain numbers, the rules read off it, and the state after a command; judge and engines share it, and it knows neither queues
+// nor bytes.
 pub mod groups;
 pub mod kept;

@@ -9,7 +9,10 @@ use desk::numbers::rule_number;
 use judge::answer::Judged;
 use judge::answer::PatternJudged;
 use libc::STDIN_FILENO;
-use libc::STDOUT_FILENO;
+use prints::long;
+use prints::number;
+use prints::refused;
+use prints::text;
 use records::little::from_le32;
 use records::little::num_at;
 use records::refusal::Refusal;
@@ -140,31 +143,4 @@ fn pattern_verdict(v: PatternVerdict) {
 fn rule(x: Rule) {
     text(b" rule");
     long(rule_number(x));
-}
-
-fn refused(r: Refusal) {
-    text(b" refused");
-    small(r.number);
-    text(b" at");
-    long(r.position);
-    text(b" edition");
-    number(r.edition);
-}
-
-// A number after a space, of each width.
-fn small(n: u8) {
-    long(n as u32);
-}
-
-fn number(n: u16) {
-    long(n as u32);
-}
-
-fn long(n: u32) {
-    text(b" ");
-    io::print_decimal(STDOUT_FILENO, n as u64);
-}
-
-fn text(s: &[u8]) {
-    io::write_all(STDOUT_FILENO, s);
 }
