@@ -1,8 +1,8 @@
 use native.Mathlib.Omega.{arith}
 use Prim.Native.Nat.{_≤_, _-_}
 use lib.ListN.{length}
-use Rattle.hostile.proofs.told.hex.Statement.{statement}
-use Rattle.hostile.proofs.told.hex.Tie as tie
+use Rattle.prints.proofs.hex.Statement.{statement}
+use Rattle.prints.proofs.hex.Tie as tie
 
 abbrev Inv-loop : tie.InvT-loop
 Inv-loop room i₀ i = i ≤ length room
