@@ -66,13 +66,16 @@ impl Place {
         }
     }
 
+    /// Without the mark that some programs put before UTF-8.
     pub fn read_text(&self) -> Result<String, Bad> {
-        String::from_utf8(self.read()?).map_err(|e| {
+        let text = String::from_utf8(self.read()?).map_err(|e| {
             let good = &e.as_bytes()[..e.utf8_error().valid_up_to()];
             let line = 1 + good.iter().filter(|b| **b == b'\n').count();
             let what = "expected text in UTF-8; a file of records has a name that ends in .bin, or `bytes:` before it";
             Bad::line(self.name(), line, what)
-        })
+        })?;
+        let unmarked = text.strip_prefix('\u{feff}').map(str::to_string);
+        Ok(unmarked.unwrap_or(text))
     }
 
     pub fn write(&self, bytes: &[u8]) -> Result<(), Bad> {

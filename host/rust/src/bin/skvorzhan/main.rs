@@ -27,6 +27,9 @@ mod table_text;
 mod text;
 mod wrote;
 
+#[cfg(test)]
+mod tests;
+
 use answer::{Answer, Status};
 use arguments::Given;
 use bad::{shown, Bad};

@@ -33,12 +33,17 @@ pub fn why(table: &Table, commands: &[Command], rule: u32, record: usize) -> Why
         Some(c) if rule != OPEN_AT_THE_END => *c,
         _ => return left_open(table, commands),
     };
+    // Only the distances count, so all may stand earlier; that makes room behind them.
+    let first = before.first().map_or(0, |c| c.cycle.min(broken.cycle));
+    let earlier = |c: &Command| Command {
+        cycle: c.cycle - first,
+        ..*c
+    };
     let asked = Asked {
         table,
-        before,
-        broken,
+        before: before.iter().map(earlier).collect(),
+        broken: earlier(&broken),
     };
-    let legal = asked.least(|found| found.is_none());
     let kept = asked.least(|found| found != Some(rule));
     let why = match (rule, kept) {
         (OPEN_OR_CLOSED, _) => Why {
@@ -52,13 +57,15 @@ pub fn why(table: &Table, commands: &[Command], rule: u32, record: usize) -> Why
         },
         (_, None) => Why::default(),
     };
+    let legal = asked.least(|found| found.is_none());
+    let legal = legal.and_then(|cycle| cycle.checked_add(first));
     Why { legal, ..why }
 }
 
 struct Asked<'a> {
     table: &'a Table,
     /// Legal, but for banks that may be open at its end.
-    before: &'a [Command],
+    before: Vec<Command>,
     broken: Command,
 }
 
@@ -68,7 +75,7 @@ impl<'a> Asked<'a> {
             cycle,
             ..self.broken
         };
-        let mut all = self.before.to_vec();
+        let mut all = self.before.clone();
         all.push(broken);
         all
     }
@@ -103,12 +110,7 @@ impl<'a> Asked<'a> {
 
     /// The latest record before which a pause leaves the rule broken by the record at that cycle: a pause after it lets the rule be kept.
     fn held_up_by(&self, rule: u32, cycle: u32) -> Option<usize> {
-        let mut all = self.at(cycle);
-        // Only the distances count, so the first may stand at cycle 0; that makes room for the pause.
-        let first = all[0].cycle;
-        for c in &mut all {
-            c.cycle = c.cycle.checked_sub(first)?;
-        }
+        let all = self.at(cycle);
         all.last()?.cycle.checked_add(PAUSE)?;
         let broken_after_pause = |place: usize| {
             let mut paused = all.clone();
