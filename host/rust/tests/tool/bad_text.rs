@@ -1,16 +1,18 @@
 //! Bad text is refused with the file, the line and what was expected there.
 
-use crate::{Folder, TABLE_A};
+use crate::{Folder, Told, TABLE_A};
 
+/// Of a line that is run with edition 7 and table A.
 #[track_caller]
 fn bad(folder: &Folder, line: &str, told: &str) {
-    let found = folder.by_a(line);
+    bad_use(folder.by_a(line), told);
+}
+
+#[track_caller]
+fn bad_use(found: Told, told: &str) {
     assert_eq!((found.status, found.out.as_str()), (3, ""), "{}", found.err);
-    assert!(
-        found.err.starts_with(&format!("skvorzhan: {told}")),
-        "{}",
-        found.err
-    );
+    let told = format!("skvorzhan: {told}");
+    assert!(found.err.starts_with(&told), "{}", found.err);
 }
 
 #[test]
@@ -148,13 +150,7 @@ fn of_a_table() {
     ];
     for (text, told) in cases {
         folder.put("t.table", &text);
-        let found = folder.run("judge --edition 7 --table t.table s.txt");
-        assert_eq!((found.status, found.out.as_str()), (3, ""), "{}", found.err);
-        assert!(
-            found.err.starts_with(&format!("skvorzhan: {told}")),
-            "{}",
-            found.err
-        );
+        bad_use(folder.run("judge --edition 7 --table t.table s.txt"), told);
     }
 }
 

@@ -73,12 +73,7 @@ fn ticks_are_put_in_where_a_gap_would_reach_65536() {
     let told = folder.by_a("trace c.csv -o out.txt");
     assert_eq!(told.status, 0, "{}{}", told.out, told.err);
     // Four up to 300,000, and one.
-    assert!(
-        told.out
-            .contains("the capture has 6 commands and 5 ticks\n"),
-        "{}",
-        told.out
-    );
+    told.says("the capture has 6 commands and 5 ticks\n");
     let out = String::from_utf8(folder.get("out.txt")).expect("text");
     let cycles: Vec<&str> = out
         .lines()

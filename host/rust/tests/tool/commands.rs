@@ -78,17 +78,13 @@ fn bounds_are_the_papers() {
         assert_eq!(told.status, 0);
         assert!(told.out.starts_with(&line), "{}", told.out);
         let read = bound + 14;
-        assert!(told.out.contains(&format!(
+        told.says(&format!(
             "a read has finished at most {read} cycles after it"
-        )));
+        ));
     }
     let told = folder.by_a("bound --bi 1 --bc 1 --from 10");
-    assert!(told
-        .out
-        .contains("by cycle 54, and a write has then finished\n"));
-    assert!(told
-        .out
-        .contains("a read has finished by cycle 68: RL + B is 14\n"));
+    told.says("by cycle 54, and a write has then finished\n");
+    told.says("a read has finished by cycle 68: RL + B is 14\n");
 }
 
 #[test]
@@ -147,15 +143,8 @@ fn patterns_are_the_papers() {
         "{}",
         told.out
     );
-    assert!(
-        told.out
-            .contains("too near to copy 1, where it stands at cycle 0, record 0"),
-        "{}",
-        told.out
-    );
-    assert!(told
-        .out
-        .contains("the least cycle at which it would have been legal is 38\n"));
+    told.says("too near to copy 1, where it stands at cycle 0, record 0");
+    told.says("the least cycle at which it would have been legal is 38\n");
     let by_b = |length: u32| {
         folder.run(&format!(
             "pattern --edition 7 --table b.table --length {length} 1.txt"
@@ -164,20 +153,9 @@ fn patterns_are_the_papers() {
     assert_eq!(by_b(39).status, 0);
     let told = by_b(38);
     assert_eq!(told.status, 1);
-    assert!(
-        told.out.contains("copy 5, record 0 breaks rule 7\n"),
-        "{}",
-        told.out
-    );
-    assert!(
-        told.out
-            .contains("too near to copy 1, where it stands at cycle 0, record 0"),
-        "{}",
-        told.out
-    );
-    assert!(told
-        .out
-        .contains("the least cycle at which it would have been legal is 155\n"));
+    told.says("copy 5, record 0 breaks rule 7\n");
+    told.says("too near to copy 1, where it stands at cycle 0, record 0");
+    told.says("the least cycle at which it would have been legal is 155\n");
 }
 
 #[test]
@@ -216,11 +194,7 @@ fn standard_input_is_a_file_named_by_a_dash() {
     assert_eq!(told.status, 0, "{}", told.err);
     let words = ["judge", "--edition", "7", "--table", "a.table", "bytes:-"];
     let told = folder.run_with(&words, &[0; 8]);
-    assert!(
-        told.out.contains("record 1 breaks rule 10\n"),
-        "{}",
-        told.out
-    );
+    told.says("record 1 breaks rule 10\n");
     let words = ["judge", "--edition", "7", "--table", "-", "text:-"];
     assert_eq!(folder.run_with(&words, b"").status, 3);
 }

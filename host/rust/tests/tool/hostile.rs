@@ -1,62 +1,13 @@
 //! Hostile text through the whole tool: whatever a file holds, and whatever the arguments are, it ends with a status of its own and never panics
 //! (`Folder::run_with` looks at both). The readers alone are tried with a million lines in the tool's own tests.
 
+use crate::random::pieces;
 use crate::{emulator, Folder, Random, TABLE_A};
-
-const WORDS: [&str; 44] = [
-    "0",
-    "1",
-    "7",
-    "10",
-    "24",
-    "38",
-    "255",
-    "256",
-    "65535",
-    "65536",
-    "4294967295",
-    "4294967296",
-    "99999999999999999999",
-    "-1",
-    "+1",
-    "0x1",
-    "ACT",
-    "RD",
-    "RDA",
-    "WR",
-    "WRA",
-    "REF",
-    "act",
-    "TICK",
-    "read",
-    "write",
-    "refresh",
-    "at",
-    "edition",
-    "commands",
-    "finish",
-    "accepted",
-    "record",
-    "=",
-    "RCD",
-    "long",
-    "CCD",
-    "#",
-    "\"",
-    ",",
-    ";",
-    "\u{0}",
-    "\u{1f980}",
-    "",
-];
 
 fn line(random: &mut Random) -> String {
     let count = random.below(8);
-    let words: Vec<&str> = (0..count)
-        .map(|_| WORDS[random.below(WORDS.len() as u64) as usize])
-        .collect();
-    let between = [" ", ",", "\t", "  "][random.below(4) as usize];
-    words.join(between)
+    let words: Vec<&str> = (0..count).map(|_| random.one(&pieces())).collect();
+    words.join(random.one(&[" ", ",", "\t", "  "]))
 }
 
 /// A line that could stand in such a file.
@@ -91,10 +42,10 @@ fn file(random: &mut Random) -> Vec<u8> {
         TABLE_A,
         "edition 7 commands 3\n",
     ];
-    let mut text = heads[random.below(5) as usize].to_string();
+    let mut text = random.one(&heads).to_string();
     for _ in 0..count {
         text.push_str(&likely(random));
-        text.push_str(["\n", "\r\n", "\r", ""][random.below(4) as usize]);
+        text.push_str(random.one(&["\n", "\r\n", "\r", ""]));
     }
     let mut bytes = text.into_bytes();
     for _ in 0..random.below(3) {
@@ -126,11 +77,11 @@ fn no_file_makes_it_panic() {
     for _ in 0..runs {
         folder.put("x", file(&mut random));
         folder.put("y", file(&mut random));
-        let command = commands[random.below(commands.len() as u64) as usize];
+        let command = random.one(&commands);
         seen[folder.by_a(command).status as usize] += 1;
         if random.below(4) == 0 {
-            let what = ["table", "list", "schedule", "capture"][random.below(4) as usize];
-            let form = ["", "bytes:"][random.below(2) as usize];
+            let what = random.one(&["table", "list", "schedule", "capture"]);
+            let form = random.one(&["", "bytes:"]);
             seen[folder.run(&format!("convert {what} {form}x")).status as usize] += 1;
             let told = folder.run(&format!("bound --edition 7 --table {form}x --bi 1 --bc 1"));
             seen[told.status as usize] += 1;
@@ -145,61 +96,16 @@ fn no_arguments_make_it_panic() {
     let folder = Folder::new();
     folder.put("x", "0 ACT 0 0\n10 RDA 0 0\n");
     let mut random = Random(0x5eed_0004);
-    let words = [
-        "judge",
-        "pattern",
-        "schedule",
-        "bound",
-        "trace",
-        "serves",
-        "shortest",
-        "picture",
-        "explain",
-        "convert",
-        "help",
-        "--edition",
-        "7",
-        "--table",
-        "a.table",
-        "--json",
-        "--length",
-        "38",
-        "--bi",
-        "1",
-        "--bc",
-        "--from",
-        "--read",
-        "--write",
-        "--up-to",
-        "--list",
-        "--later",
-        "--time",
-        "--command",
-        "--bank",
-        "--stamps",
-        "--cycles",
-        "--separator",
-        "--",
-        "-",
-        "x",
-        "rule",
-        "table",
-        "list",
-        "=",
-        "--edition=7",
-        "--table=a.table",
-        "\u{1f980}",
-        "",
-        "bytes:",
-        "text:",
-    ];
+    let words = "judge pattern schedule bound trace serves shortest picture explain convert help --edition 7 --table a.table --json --length 38 --bi 1 --bc \
+                 --from --read --write --up-to --list --later --time --command --bank --stamps --cycles --separator -- - x rule table list = --edition=7 \
+                 --table=a.table \u{1f980} bytes: text:";
+    let mut words: Vec<&str> = words.split(' ').collect();
+    words.push("");
     for _ in 0..runs {
         let count = 1 + random.below(8);
-        let mut all: Vec<&str> = (0..count)
-            .map(|_| words[random.below(words.len() as u64) as usize])
-            .collect();
+        let mut all: Vec<&str> = (0..count).map(|_| random.one(&words)).collect();
         if random.below(2) == 0 {
-            all.insert(0, words[random.below(11) as usize]);
+            all.insert(0, random.one(&words[..11]));
         }
         folder.run_with(&all, b"0 ACT 0 0\n");
     }

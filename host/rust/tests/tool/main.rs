@@ -10,10 +10,13 @@ mod hostile;
 mod json;
 mod papers;
 mod pictures;
+#[path = "../../src/bin/skvorzhan/tests/random.rs"]
+mod random;
 mod refusals;
 mod serving;
 mod xml;
 
+use random::Random;
 use std::fs;
 use std::io::Write;
 use std::path::{Path, PathBuf};
@@ -37,6 +40,13 @@ struct Told {
     status: i32,
     out: String,
     err: String,
+}
+
+impl Told {
+    #[track_caller]
+    fn says(&self, words: &str) {
+        assert!(self.out.contains(words), "{}", self.out);
+    }
 }
 
 impl Folder {
@@ -123,24 +133,4 @@ fn root() -> PathBuf {
 fn paper(name: &str) -> String {
     let file = root().join(name);
     fs::read_to_string(&file).unwrap_or_else(|e| panic!("{}: {e}", file.display()))
-}
-
-/// Numbers that look random, the same each time.
-struct Random(u64);
-
-impl Random {
-    fn next(&mut self) -> u64 {
-        self.0 ^= self.0 << 13;
-        self.0 ^= self.0 >> 7;
-        self.0 ^= self.0 << 17;
-        self.0
-    }
-
-    fn below(&mut self, most: u64) -> u64 {
-        self.next() % most
-    }
-
-    fn bytes(&mut self, count: usize) -> Vec<u8> {
-        (0..count).map(|_| self.next() as u8).collect()
-    }
 }

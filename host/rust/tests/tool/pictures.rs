@@ -42,11 +42,7 @@ fn of_a_broken_one() {
     );
     let told = folder.by_a("picture s.txt -o s.svg");
     assert_eq!(told.status, 1);
-    assert!(
-        told.out.contains("\nrecord 4 breaks rule 7\n"),
-        "{}",
-        told.out
-    );
+    told.says("\nrecord 4 breaks rule 7\n");
     assert!(
         told.out.ends_with("\nthe picture is in s.svg\n"),
         "{}",

@@ -3,8 +3,10 @@
 mod hostile;
 mod near;
 mod promise;
+mod random;
 
 use crate::desk::Table;
+use random::Random;
 use skvorzhan::Command;
 
 /// House table A, in twenty numbers.
@@ -22,20 +24,4 @@ fn commands(text: &str) -> Vec<Command> {
     let lines = text.replace(", ", "\n");
     let read = crate::command_text::read("", &lines);
     read.expect("a schedule").commands
-}
-
-/// Numbers that look random, the same each time.
-struct Random(u64);
-
-impl Random {
-    fn next(&mut self) -> u64 {
-        self.0 ^= self.0 << 13;
-        self.0 ^= self.0 >> 7;
-        self.0 ^= self.0 << 17;
-        self.0
-    }
-
-    fn below(&mut self, most: u64) -> u64 {
-        self.next() % most
-    }
 }

@@ -1,67 +1,12 @@
 //! A million random lines through each of the readers of text: none panics, each bad one is refused at a line that there is, and what is read
 //! is read again from what is written of it.
 
-use super::Random;
+use super::random::{pieces, Random};
 use crate::bad::Bad;
 use crate::capture_text::{self, Columns};
 use crate::{command_text, desk, list_text, table_text};
 
-const PIECES: [&str; 52] = [
-    "0",
-    "1",
-    "7",
-    "9",
-    "10",
-    "24",
-    "255",
-    "256",
-    "65535",
-    "65536",
-    "4294967295",
-    "4294967296",
-    "00",
-    "-",
-    "+",
-    "0x",
-    "ACT",
-    "RD",
-    "RDA",
-    "wra",
-    "REF",
-    "TICK",
-    "read",
-    "write",
-    "refresh",
-    "at",
-    "edition",
-    "commands",
-    "length",
-    "finish",
-    "accepted",
-    "record",
-    "breaks",
-    "rule",
-    "=",
-    "RCD",
-    "RFC",
-    "long CCD",
-    "banks",
-    "#",
-    "\"",
-    "\"\"",
-    ",",
-    ";",
-    "\t",
-    "\r",
-    "\u{0}",
-    "\u{a0}",
-    "\u{2028}",
-    "\u{1f980}",
-    "\u{feff}",
-    "\u{301}",
-];
-
-fn line(random: &mut Random) -> String {
+fn line(random: &mut Random, pieces: &[&str]) -> String {
     let likely = match random.below(6) {
         0 => format!(
             "{} {} {} {}",
@@ -86,7 +31,7 @@ fn line(random: &mut Random) -> String {
         ),
         3 => format!(
             "{} = {}",
-            table_text::NAMES[random.below(20) as usize],
+            random.one(&table_text::NAMES),
             random.below(70_000)
         ),
         _ => String::new(),
@@ -97,7 +42,7 @@ fn line(random: &mut Random) -> String {
         while !line.is_char_boundary(place) {
             place -= 1;
         }
-        let piece = PIECES[random.below(PIECES.len() as u64) as usize];
+        let piece = random.one(pieces);
         line.insert_str(place, piece);
         if random.below(2) == 0 {
             line.insert(place, ' ');
@@ -158,10 +103,11 @@ fn through_all(text: &str, read: &mut [u32; 4]) {
 
 #[test]
 fn a_million_lines() {
+    let pieces = pieces();
     let mut random = Random(0x5eed_0031);
     let mut read = [0; 4];
     for _ in 0..1_000_000 {
-        through_all(&line(&mut random), &mut read);
+        through_all(&line(&mut random, &pieces), &mut read);
     }
     assert!(read.iter().all(|count| *count > 1000), "{read:?}");
 }
@@ -169,11 +115,12 @@ fn a_million_lines() {
 /// The same in files of many lines, where one line stands after another.
 #[test]
 fn files_of_lines() {
+    let pieces = pieces();
     let mut random = Random(0x5eed_0032);
     let mut read = [0; 4];
     for _ in 0..20_000 {
         let count = random.below(6);
-        let lines: Vec<String> = (0..count).map(|_| line(&mut random)).collect();
+        let lines: Vec<String> = (0..count).map(|_| line(&mut random, &pieces)).collect();
         through_all(&lines.join("\n"), &mut read);
     }
 }
@@ -184,7 +131,7 @@ fn any_records() {
     let mut random = Random(0x5eed_0033);
     for _ in 0..20_000 {
         let count = random.below(9) as usize;
-        let bytes: Vec<u8> = (0..8 * count).map(|_| random.next() as u8).collect();
+        let bytes = random.bytes(8 * count);
         let commands = desk::commands_of(&bytes);
         let text = command_text::write(&commands);
         let again = command_text::read("f", &text).expect("what was written");
