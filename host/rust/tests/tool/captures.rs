@@ -57,6 +57,14 @@ fn columns_may_have_any_names_and_any_place() {
     ];
     let told = folder.run_with(&words, b"");
     assert_eq!(told.status, 0, "{}{}", told.out, told.err);
+    folder.put(
+        "t.csv",
+        "note\tcycle\tcommand\tbank\n\t0\t\"ACT\"\t0\n\t10\tRDA\t0\n",
+    );
+    let words = "trace --edition 7 --table a.table t.csv --separator";
+    let words: Vec<&str> = words.split(' ').chain(["\t"]).collect();
+    let told = folder.run_with(&words, b"");
+    assert_eq!(told.status, 0, "{}{}", told.out, told.err);
     folder.put("s.csv", "when,command,bank\n65530,ACT,0\n4,RDA,0\n");
     let told = folder.by_a("trace --time when --stamps s.csv");
     assert_eq!(told.status, 0, "{}{}", told.out, told.err);

@@ -33,7 +33,7 @@ pub fn why_in_copy(
         let told = table.judge(&all).ok()?.1;
         let place = (broken.copy - first) as usize * pattern.len() + broken.record;
         let same = matches!(told, Verdict::Broken { rule, record, .. } if rule == broken.rule && record as usize == place);
-        same.then(|| (first, all, place))
+        same.then_some((first, all, place))
     });
     let (first, all, place) = laid_out?;
     let Why { near, legal, open } = why(table, &all, broken.rule, place);

@@ -30,7 +30,7 @@ fn fields(line: &str, separator: char) -> Result<Vec<String>, String> {
     let mut all = Vec::new();
     let mut rest = line;
     loop {
-        let start = rest.trim_start_matches([' ', '\t']);
+        let start = rest.trim_start_matches(|c| is_blank(c, separator));
         let (field, after) = match start.strip_prefix('"') {
             Some(inside) => quoted(inside, separator)?,
             None => bare(start, separator),
@@ -41,6 +41,11 @@ fn fields(line: &str, separator: char) -> Result<Vec<String>, String> {
             None => return Ok(all),
         }
     }
+}
+
+/// A separator may be a blank itself.
+fn is_blank(c: char, separator: char) -> bool {
+    c != separator && (c == ' ' || c == '\t' || c == '\r')
 }
 
 /// A field, and what stands behind the separator after it, if one does.
@@ -67,7 +72,7 @@ fn quoted(inside: &str, separator: char) -> Result<Field<'_>, String> {
                 rest = more;
             }
             None => {
-                rest = after.trim_start();
+                rest = after.trim_start_matches(|c| is_blank(c, separator));
                 break;
             }
         }
