@@ -57,7 +57,7 @@ fn file(random: &mut Random) -> Vec<u8> {
 
 #[test]
 fn no_file_makes_it_panic() {
-    let runs = if emulator().is_some() { 150 } else { 1500 };
+    let runs = if emulator().is_some() { 240 } else { 2400 };
     let folder = Folder::new();
     let mut random = Random(0x5eed_0003);
     let commands = [

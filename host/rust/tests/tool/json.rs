@@ -146,7 +146,7 @@ fn a_verdict() {
     }
     folder.put("s.txt", "0 ACT 0 0\n10 RDA 0 0\n");
     let x = told(&folder, &format!("judge {BY_A} s.txt"));
-    assert_eq!((x.text("answer"), x.text("commands")), ("accepted", "2"));
+    assert_eq!((x.text("answer"), x.text("count")), ("accepted", "2"));
     let x = told(&folder, &format!("pattern --length 37 {BY_A} s.txt"));
     let facts = [
         ("edition", "7"),

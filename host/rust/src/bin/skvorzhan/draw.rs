@@ -20,10 +20,10 @@ use skvorzhan::{Command, Refusal, Verdict};
 pub fn picture(given: &Given) -> Result<Told, Bad> {
     let [place] = given.places(&["SCHEDULE"])?;
     let table = given.table()?;
-    let (read, bytes) = desk::commands(&place)?;
     let later = given.flag("--later");
     let list = given.place("--list").map(|place| desk::list(&place, later));
     let list = list.transpose()?;
+    let (read, bytes) = desk::commands(&place)?;
     let told = table
         .judge_bytes(&bytes)
         .and_then(|told| Ok((told, table.numbers()?)));

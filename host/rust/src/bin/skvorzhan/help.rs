@@ -131,6 +131,22 @@ The table's edition is told first, always. The status is 0 for yes, 1 for a verd
 none of these, a file that cannot be read or written, text that holds something else than was expected.
 ";
 
+const EXAMPLES: &str = "\
+Examples
+
+  skvorzhan judge    --edition 7 --table board.table schedule.txt
+  skvorzhan pattern  --edition 7 --table board.table --length 39 pattern.txt
+  skvorzhan schedule --edition 7 --table board.table list.txt
+  skvorzhan bound    --edition 7 --table board.table --bi 4 --bc 2
+  skvorzhan trace    --edition 7 --table board.table capture.csv
+  skvorzhan serves   --edition 7 --table board.table list.txt schedule.txt
+  skvorzhan shortest --edition 7 --table board.table --write --bi 2 --bc 2 --up-to 128
+  skvorzhan picture  --edition 7 --table board.table --list list.txt schedule.txt -o schedule.svg
+  skvorzhan explain  4
+  skvorzhan explain  rule 7
+  skvorzhan convert  table board.table -o board.bin
+";
+
 const FILES: &str = "\
 Files. One whose name ends in .bin holds records, any other text; bytes:FILE and text:FILE say it outright. `-` is standard input or output.
 In text `#` begins a comment, and blank lines say nothing. A capture's text is CSV.
@@ -196,7 +212,7 @@ pub fn of_all() -> String {
     });
     let commands: String = commands.collect();
     let options = options(|_| true);
-    format!("{HEAD}\nCommands\n\n{commands}\nOptions\n\n{options}\n{FILES}")
+    format!("{HEAD}\n{EXAMPLES}\nCommands\n\n{commands}\nOptions\n\n{options}\n{FILES}")
 }
 
 pub fn of(command: &Command) -> String {

@@ -61,7 +61,7 @@ pub fn pattern(given: &Given) -> Result<Answer, Bad> {
             let count = say::commands(read.commands.len());
             let words = format!("accepted: every number of copies of the {count}, {length} cycles apart, is a legal schedule");
             answer.add("answer", "accepted", words);
-            answer.add_silent("commands", read.commands.len());
+            answer.add_silent("count", read.commands.len());
             answer
         }
         Ok((edition, Verdict::Broken { rule, copy, record })) => {

@@ -75,7 +75,7 @@ pub fn accepted(edition: u32, count: usize) -> Answer {
         commands(count)
     );
     answer.add("answer", "accepted", words);
-    answer.add_silent("commands", count);
+    answer.add_silent("count", count);
     answer
 }
 
