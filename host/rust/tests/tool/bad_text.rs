@@ -178,7 +178,7 @@ fn of_a_capture() {
             "cycle,command,bank\n5,ACT\n",
             "c.csv:2: expected a bank in column 3; the row has 2",
         ),
-        ("cycle,command,bank\n5,NOP,0\n", "c.csv:2: expected a kind"),
+        ("cycle,command,bank\n5,PRE,0\n", "c.csv:2: expected a kind"),
         (
             "cycle,command,bank\n5,ACT,x\n",
             "c.csv:2: expected a bank, 0 to 255, not `x`",

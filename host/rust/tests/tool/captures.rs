@@ -91,6 +91,14 @@ fn ticks_are_put_in_where_a_gap_would_reach_65536() {
         cycles,
         ["300000", "300010", "365545", "365555", "431091", "431101"]
     );
+    // Cycles without a command are none, whatever their bank.
+    folder.put(
+        "n.csv",
+        "cycle,command,bank\n0,NOP,x\n1,ACT,0\n2,des,7\n11,RDA,0\n",
+    );
+    let told = folder.by_a("trace n.csv");
+    assert_eq!(told.status, 0, "{}{}", told.out, told.err);
+    told.says("the capture has 2 commands and 0 ticks\n");
     // A REF needs no bank.
     folder.put(
         "r.csv",

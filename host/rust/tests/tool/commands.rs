@@ -103,6 +103,16 @@ fn a_broken_schedule_is_told_with_what_it_is_too_near_to() {
 }
 
 #[test]
+fn a_rule_may_be_kept_before_it_is_legal() {
+    let folder = Folder::new();
+    folder.put("s.txt", "0 ACT 0 0\n10 RDA 0 0\n20 ACT 0 0\n");
+    folder.put("c.table", TABLE_A.replace("RC = 38", "RC = 60"));
+    let told = folder.run("judge --edition 7 --table c.table s.txt");
+    told.says("\nrule 4 would be kept from cycle 38 on, and another then broken\n");
+    told.says("\nthe least cycle at which it would have been legal is 60\n");
+}
+
+#[test]
 fn what_no_cycle_makes_legal_is_said_so() {
     let folder = Folder::new();
     let told = |text: &str| {

@@ -1,5 +1,5 @@
 //! An analyser's capture as CSV: a first row of column names, then a row for each record. The time is a 16-bit stamp, which goes into the capture as it
-//! is, or a cycle, of which stamp and ticks are made. `TICK` is a record without a command.
+//! is, or a cycle, of which stamp and ticks are made. `TICK`, `NOP` and `DES` are records without a command.
 
 use crate::bad::{shown, Bad};
 use crate::csv::{rows, Row};
@@ -12,6 +12,9 @@ const TICK: CaptureRecord = CaptureRecord {
     bank: 0,
 };
 const REF: u8 = 5;
+
+/// What analysers call a cycle without a command; whatever stands in its column of the bank is none.
+const IDLE: [&str; 2] = ["NOP", "DES"];
 
 /// The greatest step from a record to the next: a gap must not reach 65,536.
 const STEP: u64 = 65_535;
@@ -167,6 +170,9 @@ fn time(row: &Row, places: &Places, name: &str, most: u32) -> Result<u32, String
 /// The kind and the bank; the bank of a REF and of a tick may be left out.
 fn command(row: &Row, places: &Places) -> Result<(u8, u8), String> {
     let name = field(row, places.command, "a command")?;
+    if IDLE.iter().any(|idle| name.eq_ignore_ascii_case(idle)) {
+        return Ok((TICK.kind, TICK.bank));
+    }
     let tick = name.eq_ignore_ascii_case("TICK");
     let kind = if tick { TICK.kind } else { kind(name)? };
     let bank = match field(row, places.bank, "a bank") {

@@ -1,7 +1,7 @@
 //! A pattern's broken record: the copies up to it laid out as one schedule, so that the judge of schedules can be asked about it.
 
 use crate::desk::{Table, MOST_RECORDS};
-use crate::near::{why, Why};
+use crate::near::why;
 use skvorzhan::{Command, Verdict};
 
 /// Where the verdict on a pattern stands. Copies count from 1.
@@ -12,10 +12,11 @@ pub struct Broken {
     pub record: usize,
 }
 
-/// The same of `near` as copy and record, and of `legal` in cycles from the first copy's cycle 0.
+/// The same of `near` as copy and record, and of `kept` and `legal` in cycles from the first copy's cycle 0.
 #[derive(Debug, Clone)]
 pub struct WhyInCopy {
     pub near: Option<(u32, usize)>,
+    pub kept: Option<u64>,
     pub legal: Option<u64>,
     pub open: Vec<u8>,
 }
@@ -36,16 +37,18 @@ pub fn why_in_copy(
         same.then_some((first, all, place))
     });
     let (first, all, place) = laid_out?;
-    let Why { near, legal, open } = why(table, &all, broken.rule, place);
+    let why = why(table, &all, broken.rule, place);
     let copy_of = |place: usize| {
         let copy = first + (place / pattern.len()) as u32;
         (copy, place % pattern.len())
     };
     let left_out = u64::from(length) * u64::from(first - 1);
+    let in_copies = |cycle: u32| left_out + u64::from(cycle);
     Some(WhyInCopy {
-        near: near.map(copy_of),
-        legal: legal.map(|cycle| left_out + u64::from(cycle)),
-        open,
+        near: why.near.map(copy_of),
+        kept: why.kept.map(in_copies),
+        legal: why.legal.map(in_copies),
+        open: why.open,
     })
 }
 

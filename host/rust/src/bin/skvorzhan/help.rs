@@ -157,8 +157,8 @@ In text `#` begins a comment, and blank lines say nothing. A capture's text is C
   schedule   the listing's lines, `CYCLE KIND BANK TRANSACTION`, as `10 RDA 0 0`; the kinds are ACT, RD, RDA, WR, WRA, REF. A whole
              listing will do, with its first line and its finishes
   pattern    as a schedule
-  capture    a row of column names, then a row each: the cycle or the 16-bit stamp, the command (a name, a number, or TICK for a record
-             without one), the bank
+  capture    a row of column names, then a row each: the cycle or the 16-bit stamp, the command (a name, a number, or TICK, NOP or
+             DES for a record without one), the bank
 ";
 
 pub fn find(name: &str) -> Option<&'static Command> {

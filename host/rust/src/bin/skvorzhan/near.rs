@@ -20,7 +20,9 @@ pub struct Why {
     /// The earlier record that it is too near to: of those that hold it up under the broken rule the one that does so longest, and of several the
     /// latest. Of a bank that is open or closed when it should not be, the bank's latest record.
     pub near: Option<usize>,
-    /// The least cycle at which the record, after those before it, breaks no rule; none where no cycle helps.
+    /// The least cycle at which the record, after those before it, keeps the rule; another may hold it up for longer.
+    pub kept: Option<u32>,
+    /// The least cycle at which it breaks no rule; none where no cycle helps.
     pub legal: Option<u32>,
     /// The banks that are open, where that is what is wrong.
     pub open: Vec<u8>,
@@ -58,8 +60,12 @@ pub fn why(table: &Table, commands: &[Command], rule: u32, record: usize) -> Why
         (_, None) => Why::default(),
     };
     let legal = asked.least(|found| found.is_none());
-    let legal = legal.and_then(|cycle| cycle.checked_add(first));
-    Why { legal, ..why }
+    let as_given = |cycle: u32| cycle.checked_add(first);
+    Why {
+        kept: kept.and_then(as_given),
+        legal: legal.and_then(as_given),
+        ..why
+    }
 }
 
 struct Asked<'a> {

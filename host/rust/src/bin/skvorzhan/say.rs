@@ -109,7 +109,12 @@ pub fn broken(edition: u32, read: &Commands, rule: u32, record: usize, why: &Why
         );
         answer.add("near", command_value(near, line(near), c), words);
     }
-    least_legal(&mut answer, rule, why.legal.map(u64::from));
+    least_legal(
+        &mut answer,
+        rule,
+        why.kept.map(u64::from),
+        why.legal.map(u64::from),
+    );
     answer
 }
 
@@ -166,7 +171,7 @@ pub fn broken_copy(
             format!("{} {words}", near_word(rule, &why.open)),
         );
     }
-    least_legal(&mut answer, rule, why.legal);
+    least_legal(&mut answer, rule, why.kept, why.legal);
     answer
 }
 
@@ -195,7 +200,12 @@ fn open_banks(answer: &mut Answer, open: &[u8]) {
     answer.add("open", values, words);
 }
 
-fn least_legal(answer: &mut Answer, rule: u32, legal: Option<u64>) {
+fn least_legal(answer: &mut Answer, rule: u32, kept: Option<u64>, legal: Option<u64>) {
+    if let Some(cycle) = kept.filter(|_| kept != legal) {
+        let words =
+            format!("rule {rule} would be kept from cycle {cycle} on, and another then broken");
+        answer.add("rule_kept", cycle, words);
+    }
     let words = match legal {
         Some(cycle) => format!("the least cycle at which it would have been legal is {cycle}"),
         None if rule == 10 => return,

@@ -66,13 +66,14 @@ fn of_one_bank() {
         Some(60),
     );
     // Rule 4 until 38, and rule 5 after it.
-    told(
+    let both = told(
         &long_row,
         "0 ACT 0 0, 10 RDA 0 0, 20 ACT 0 0",
         4,
         Some(0),
         Some(60),
     );
+    assert_eq!(both.kept, Some(38));
     told(&a, "0 ACT 0 0, 9 RD 0 0", 8, Some(0), Some(10));
 }
 
@@ -156,8 +157,8 @@ fn that_no_cycle_makes_legal() {
     let found = why(&a, &all, 10, 3);
     let left = Why {
         near: Some(0),
-        legal: None,
         open: vec![0],
+        ..Why::default()
     };
     assert_eq!(found, left);
 }
