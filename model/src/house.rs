@@ -54,6 +54,10 @@ pub const ODD: [Table; 12] = [
 /// Table A with an edition of its own, and a refresh.
 pub const REFRESHED: Table = [70, 8, 4, 4, 10, 10, 28, 38, 6, 32, 10, 8, 6, 12, 6, 50];
 
+/// A read and a write of bank 0, as bytes.
+pub const READ: [u8; 4] = [0, 0, 1, 1];
+pub const WRITE: [u8; 4] = [1, 0, 1, 1];
+
 /// A refresh, as bytes.
 pub const REFRESH_BYTES: [u8; 4] = [REFRESH, 0, 0, 0];
 
@@ -132,11 +136,6 @@ pub fn command(cycle: u32, kind: u8, bank: u8, transaction: u16) -> [u8; 8] {
 pub fn loose(order: &[(u8, u8, u16)]) -> Vec<u8> {
     let at = |(&(kind, bank, number), i): (_, u32)| command(60 * i, kind, bank, number);
     order.iter().zip(0..).flat_map(at).collect()
-}
-
-/// The first so many bytes and the others, unless there are fewer.
-pub fn split(bytes: &[u8], n: usize) -> Option<(&[u8], &[u8])> {
-    (n <= bytes.len()).then(|| bytes.split_at(n))
 }
 
 /// A record of 8 bytes.

@@ -5,7 +5,8 @@ use std::fs;
 use std::io;
 use std::path::Path;
 
-use crate::house::{bytes_of, split};
+use crate::house::bytes_of;
+use crate::stored::read;
 
 /// The cases so far, and the place of each group's first.
 #[derive(Default)]
@@ -76,18 +77,10 @@ pub fn stored(inputs: &[Vec<u8>]) -> Vec<u8> {
 
 /// The text of each, behind a line `case`.
 pub fn texts(stored: &[u8], program: fn(&[u8]) -> String) -> String {
-    let mut out = String::new();
-    let mut rest = stored;
-    while let Some((input, after)) = first(rest) {
-        out.push_str("case\n");
-        out.push_str(&program(input));
-        rest = after;
-    }
-    out
-}
-
-/// The first input and what follows it, unless it is cut short.
-fn first(stored: &[u8]) -> Option<(&[u8], &[u8])> {
-    let (size, rest) = split(stored, 2)?;
-    split(rest, u16::from_le_bytes([size[0], size[1]]).into())
+    let (inputs, _) = read(stored, |rest| {
+        let size = rest.u16()?;
+        rest.take(size.into())
+    });
+    let text = |&input: &&[u8]| format!("case\n{}", program(input));
+    inputs.iter().map(text).collect()
 }

@@ -11,8 +11,6 @@ const RCD: usize = 4;
 const RP: usize = 5;
 const RAS: usize = 6;
 
-const READ: [u8; 4] = [0, 0, 1, 1];
-const WRITE: [u8; 4] = [1, 0, 1, 1];
 const REFRESH: [u8; 4] = REFRESH_BYTES;
 
 /// Numbers about the powers of ten, which have one digit more or less than their neighbours.

@@ -1,11 +1,9 @@
 //! "If they differ it's refused as number 10 .. straight after number 2": what goes before it, and what after.
 
-use super::cases::Cases;
-use super::*;
+use super::put::Cases;
+use crate::desk::Controller;
 use crate::house::*;
 use crate::records::{BANKS, CCD, EDITION, RFC};
-
-const READ: [u8; 4] = [0, 0, 1, 1];
 
 /// A run's case is long, so it's tried with so many of the pairs.
 const RUNS: usize = 3;

@@ -1,7 +1,8 @@
 //! Cases, one behind the other.
 
-use super::states::bytes_of_state;
-use super::*;
+use super::controller;
+use super::told::{BOUND, BUILD, BUILD_LATER, RUN, RUN_LATER};
+use crate::desk::Controller;
 use crate::house::{bytes_of, room_for};
 use crate::records::EDITION;
 
@@ -67,7 +68,7 @@ impl Cases {
         self.0.extend(count.to_le_bytes());
         self.0.extend((room as u16).to_le_bytes());
         self.0.extend(size_of(list));
-        self.0.extend(bytes_of_state(state));
+        self.0.extend(controller::bytes_of(state));
         self.0.extend(bytes_of(table));
         self.0.extend_from_slice(list);
     }

@@ -5,10 +5,10 @@ use std::collections::BTreeMap;
 
 use crate::desk::Transaction;
 use crate::house::*;
-use crate::records::whole;
+use crate::records::{commands_of, whole};
 use crate::rules::{judge, Verdict, ACT, REF, WRA};
 use crate::scheduler::{dues, Due};
-use crate::serves::{commands_of, Cause, Work};
+use crate::serves::{Cause, Work};
 
 pub struct Fault {
     pub list: &'static [[u8; 4]],
@@ -70,7 +70,7 @@ pub fn faults() -> Vec<Fault> {
         if judge(&table, &schedule) != Ok(Verdict::Accepted) {
             continue;
         }
-        let records = commands_of(&schedule).expect("they are whole records");
+        let records = commands_of(&schedule);
         let found = Work::of(&table, &transactions, &records).faults();
         for w in shown(&found) {
             let size = |f: &[(usize, Vec<Cause>)], o: &[Due]| {

@@ -1,7 +1,7 @@
 //! As many transactions as there may be, and as many commands of one.
 
-use super::cases::Cases;
 use super::faults::visits_of;
+use super::put::Cases;
 use crate::desk::Transaction;
 use crate::house::*;
 use crate::records::whole;

@@ -1,7 +1,7 @@
 //! "If they differ it's refused as number 10 .. straight after number 2": what goes before it, and what after.
 
-use super::cases::{Cases, EXAMPLE_1};
-use super::{JUDGE, JUDGE_PATTERN};
+use super::put::{Cases, EXAMPLE_1};
+use super::told::{JUDGE, JUDGE_PATTERN};
 use crate::house::*;
 use crate::records::{BANKS, CCD, EDITION, RFC};
 use crate::rules::{ACT, RDA};

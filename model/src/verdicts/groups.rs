@@ -1,15 +1,12 @@
 //! Schedules and patterns under tables of 40 bytes: "Rules 6 and 9 take the long number within a group and the short across, over all earlier
 //! commands, since a neighbour in another group hides an older one."
 
-use super::cases::{Cases, EXAMPLE_1};
+use super::put::{Cases, One, EXAMPLE_1};
 use super::search::{bytes_of_records, hidden};
-use super::JUDGE;
+use super::told::JUDGE;
 use crate::house::*;
 use crate::records::{BANKS, CCD, LONG_CCD, LONG_RRD, LONG_WTR, RRD, WTR};
 use crate::rules::*;
-
-/// Cycle, kind and bank.
-type One = (u32, u8, u8);
 
 pub fn groups(cases: &mut Cases) {
     sizes(cases);
