@@ -5,7 +5,7 @@ mod engines;
 mod told;
 
 use crate::desk::*;
-use crate::house::{with, RFC, TABLE_A};
+use crate::house::{transactions, with, RFC, TABLE_A};
 use cases::{cases, Case, ASKED, BUILT, BUILT_FOR, CAPTURES};
 use told::*;
 
@@ -191,13 +191,16 @@ impl Lines {
         let mut table = [0; 32];
         let written = write_table(numbers, &mut table);
         self.written("skv_write_table", written, &table);
-        let of = |list: &[[u8; 4]]| -> Vec<Transaction> {
-            list.iter().map(|x| Transaction::of(x)).collect()
-        };
         let (mut room, mut finishes) = ([0; 40], [0; 3]);
-        let answer = schedule(expected, &table, &of(&BUILT_FOR), &mut room, &mut finishes);
+        let answer = schedule(
+            expected,
+            &table,
+            &transactions(&BUILT_FOR),
+            &mut room,
+            &mut finishes,
+        );
         let answer = answer.map(|s| (s.edition, s.commands, 0));
         self.line("schedule", &[desk(answer, 2)]);
-        self.serves(expected, &table, &of(list), bytes, &room);
+        self.serves(expected, &table, &transactions(list), bytes, &room);
     }
 }

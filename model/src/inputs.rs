@@ -6,7 +6,8 @@ use std::io;
 use std::path::Path;
 
 use crate::house::bytes_of;
-use crate::stored::read;
+use crate::records::EDITION;
+use crate::stored::{read, size_of};
 
 /// The cases so far, and the place of each group's first.
 #[derive(Default)]
@@ -63,12 +64,26 @@ impl Cases {
     }
 }
 
+/// An input as the programs read it: the expected edition, the table, and transactions, the records of a capture or what is asked.
+pub fn input(expected: u16, table: &[u16], rest: &[[u8; 4]]) -> Vec<u8> {
+    [
+        &expected.to_le_bytes(),
+        &bytes_of(table)[..],
+        &rest.concat(),
+    ]
+    .concat()
+}
+
+/// With the table's own edition expected.
+pub fn own(table: &[u16], rest: &[[u8; 4]]) -> Vec<u8> {
+    input(table[EDITION], table, rest)
+}
+
 /// Each input behind its length in two bytes; at the end one that is cut short.
 pub fn stored(inputs: &[Vec<u8>]) -> Vec<u8> {
     let mut out = Vec::new();
     for input in inputs {
-        let size = u16::try_from(input.len()).expect("a case is short");
-        out.extend(size.to_le_bytes());
+        out.extend(size_of(input));
         out.extend(input);
     }
     out.extend([4, 0, 7]);

@@ -5,6 +5,7 @@ use std::fmt::Write;
 
 use crate::desk::{schedule_bytes, schedule_later_bytes, Command, Refusal};
 use crate::records::{commands_of, refused, PLAIN};
+use crate::rules::NAMES;
 use crate::scheduler::MOST_TRANSACTIONS;
 
 /// "64 KiB of command room", in bytes.
@@ -59,7 +60,7 @@ pub fn schedule_lines(
 /// One line for each of the first so many commands of the room: `CYCLE KIND BANK TRANSACTION`. A kind without a name is its number.
 pub fn command_lines(room: &[u8], count: u32) -> String {
     let line = |c: &Command| {
-        let kind = match ["ACT", "RD", "RDA", "WR", "WRA", "REF"].get(usize::from(c.kind)) {
+        let kind = match NAMES.get(usize::from(c.kind)) {
             Some(name) => name.to_string(),
             None => c.kind.to_string(),
         };

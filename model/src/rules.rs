@@ -13,6 +13,9 @@ pub const WR: u8 = 3;
 pub const WRA: u8 = 4;
 pub const REF: u8 = 5;
 
+/// Each by its number.
+pub const NAMES: [&str; 6] = ["ACT", "RD", "RDA", "WR", "WRA", "REF"];
+
 /// "Over 69,632 records."
 pub const MOST_RECORDS: usize = 69_632;
 

@@ -28,6 +28,12 @@ impl<'a> Bytes<'a> {
     }
 }
 
+/// How many bytes these are, as a case tells it.
+pub fn size_of(bytes: &[u8]) -> [u8; 2] {
+    let n: u16 = bytes.len().try_into().expect("a case has 16-bit sizes");
+    n.to_le_bytes()
+}
+
 /// The cases of an input, each read by `first`, and what is left from where that reads none: a case that is cut short, or nothing.
 pub fn read<'a, C>(input: &'a [u8], first: fn(&mut Bytes<'a>) -> Option<C>) -> (Vec<C>, &'a [u8]) {
     let mut cases = Vec::new();

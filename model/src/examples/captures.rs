@@ -4,6 +4,7 @@ use std::fmt::Write;
 
 use super::text::{printed_text, Head};
 use crate::capture::{read_capture_record, true_cycles};
+use crate::rules::NAMES;
 use crate::sent::{record, tick_record as tick};
 use crate::trace::trace;
 
@@ -79,8 +80,7 @@ impl Captured {
             "Bytes 34 to {end}, the capture, 4 bytes a record: {count}. A stamp has 16 bits, low byte first, and runs round from 65535 to 0.\n\n"
         );
         for (at, (r, cycle)) in records.iter().zip(cycles).enumerate() {
-            let names = ["ACT", "RD", "RDA", "WR", "WRA", "REF"];
-            let word = match names.get(usize::from(r.kind)) {
+            let word = match NAMES.get(usize::from(r.kind)) {
                 Some(name) => name,
                 None if r.is_tick() => "a tick",
                 None => "has no name",

@@ -5,6 +5,7 @@ use super::told::{BOUND, BUILD, BUILD_LATER, RUN, RUN_LATER};
 use crate::desk::Controller;
 use crate::house::{bytes_of, room_for};
 use crate::records::EDITION;
+use crate::stored::size_of;
 
 #[derive(Default)]
 pub struct Cases(pub Vec<u8>);
@@ -78,9 +79,4 @@ impl Cases {
         self.0.extend([bi, bc]);
         self.0.extend(bytes_of(table));
     }
-}
-
-fn size_of(list: &[u8]) -> [u8; 2] {
-    let n: u16 = list.len().try_into().expect("a list has a 16-bit size");
-    n.to_le_bytes()
 }

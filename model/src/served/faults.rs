@@ -3,7 +3,6 @@
 
 use std::collections::BTreeMap;
 
-use crate::desk::Transaction;
 use crate::house::*;
 use crate::records::{commands_of, whole};
 use crate::rules::{judge, Verdict, ACT, REF, WRA};
@@ -64,7 +63,7 @@ pub fn faults() -> Vec<Fault> {
     let table = whole(&REFRESHED);
     for turn in 0..300_000 {
         let list = LISTS[turn % LISTS.len()];
-        let transactions: Vec<Transaction> = list.iter().map(|x| Transaction::of(x)).collect();
+        let transactions = transactions(list);
         let order = edited(&dues(&table, &transactions), list.len(), &mut numbers);
         let schedule = loose(&order);
         if judge(&table, &schedule) != Ok(Verdict::Accepted) {

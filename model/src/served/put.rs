@@ -3,6 +3,7 @@
 use super::told::{LATER, PLAIN};
 use crate::house::bytes_of;
 use crate::records::EDITION;
+use crate::stored::size_of;
 
 #[derive(Default)]
 pub struct Cases(pub Vec<u8>);
@@ -12,10 +13,8 @@ impl Cases {
         self.0.push(call);
         self.0.extend(expected.to_le_bytes());
         self.0.push(table.len() as u8);
-        for bytes in [list, schedule] {
-            let n: u16 = bytes.len().try_into().expect("a case has 16-bit sizes");
-            self.0.extend(n.to_le_bytes());
-        }
+        self.0.extend(size_of(list));
+        self.0.extend(size_of(schedule));
         for bytes in [table, list, schedule] {
             self.0.extend_from_slice(bytes);
         }

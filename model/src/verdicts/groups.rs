@@ -5,7 +5,7 @@ use super::put::{Cases, One, EXAMPLE_1};
 use super::search::{bytes_of_records, hidden};
 use super::told::JUDGE;
 use crate::house::*;
-use crate::records::{BANKS, CCD, LONG_CCD, LONG_RRD, LONG_WTR, RRD, WTR};
+use crate::records::BANKS;
 use crate::rules::*;
 
 pub fn groups(cases: &mut Cases) {
@@ -50,7 +50,7 @@ fn ranges(cases: &mut Cases) {
         cases.schedule(&t, &EXAMPLE_1);
     }
     // The short number is out of range, its long one is not, and the other way round.
-    for (short, long) in [(CCD, LONG_CCD), (RRD, LONG_RRD), (WTR, LONG_WTR)] {
+    for (long, short) in LONGS {
         let mut t = TABLE_D;
         (t[short], t[long]) = (1024, 1024);
         cases.schedule(&t, &EXAMPLE_1);

@@ -4,6 +4,7 @@ use super::told::{JUDGE, JUDGE_PATTERN};
 use crate::house::{bytes_of, command};
 use crate::records::EDITION;
 use crate::rules::{ACT, RDA};
+use crate::stored::size_of;
 
 /// Cycle, kind and bank.
 pub type One = (u32, u8, u8);
@@ -20,8 +21,7 @@ impl Cases {
         self.0.extend(table[EDITION].to_le_bytes());
         self.0.extend(length.to_le_bytes());
         self.0.push(2 * table.len() as u8);
-        let n: u16 = bytes.len().try_into().expect("a case has a 16-bit size");
-        self.0.extend(n.to_le_bytes());
+        self.0.extend(size_of(bytes));
         self.0.extend(bytes_of(table));
         self.0.extend_from_slice(bytes);
     }

@@ -143,14 +143,6 @@ fn what_is_added_at_the_end_moves_nothing() {
     let mut numbers = Numbers(89);
     for round in 0..300 {
         let (table, list) = any(round, &mut numbers);
-        let (room, finishes) = built_later(&table, &list);
-        let whole = commands_of(&room);
-        for size in 0..list.len() {
-            let (room, of_start) = built_later(&table, &list[..size]);
-            let of_them = |c: &&Command| usize::from(c.transaction) < size;
-            let cut: Vec<Command> = whole.iter().filter(of_them).copied().collect();
-            assert_eq!(commands_of(&room), cut);
-            assert_eq!(of_start, finishes[..size]);
-        }
+        assert_moves_nothing(&list, |list| built_later(&table, list));
     }
 }

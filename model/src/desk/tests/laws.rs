@@ -81,7 +81,7 @@ pub struct Met {
 /// and no command goes before its transaction's arrival. The judge accepts what is built.
 pub fn laters_pass_and_meet_the_bound(table: &[u16], list: &[[u8; 8]]) -> Met {
     let (room, finishes) = built_later(table, list);
-    let list: Vec<Transaction> = list.iter().map(|x| Transaction::of(x)).collect();
+    let list = transactions(list);
     let times = Times::of(&whole(table));
     let (edition, table) = (table[EDITION], bytes_of(table));
     let (_, verdict) = judge(edition, &table, &room).expect("whole records");
@@ -163,15 +163,20 @@ fn finishing_cycles_fit() {
 #[test]
 fn what_is_added_at_the_end_moves_nothing() {
     for (table, list) in lists_and_tables() {
-        let (room, finishes) = built(&table, &list);
-        let whole = commands_of(&room);
-        for size in 0..list.len() {
-            let (room, of_start) = built(&table, &list[..size]);
-            let of_them = |c: &&Command| usize::from(c.transaction) < size;
-            let cut: Vec<Command> = whole.iter().filter(of_them).copied().collect();
-            assert_eq!(commands_of(&room), cut);
-            assert_eq!(of_start, finishes[..size]);
-        }
+        assert_moves_nothing(&list, |list| built(&table, list));
+    }
+}
+
+/// Each start of the list has the commands and the finishes that it has in the whole.
+pub fn assert_moves_nothing<T>(list: &[T], built: impl Fn(&[T]) -> (Vec<u8>, Vec<u32>)) {
+    let (room, finishes) = built(list);
+    let whole = commands_of(&room);
+    for size in 0..list.len() {
+        let (room, of_start) = built(&list[..size]);
+        let of_them = |c: &&Command| usize::from(c.transaction) < size;
+        let cut: Vec<Command> = whole.iter().filter(of_them).copied().collect();
+        assert_eq!(commands_of(&room), cut);
+        assert_eq!(of_start, finishes[..size]);
     }
 }
 

@@ -15,7 +15,7 @@ fn ran(
     let a = bytes_of(&TABLE_A);
     let lent = &mut room[..size];
     let answer = run_later_bytes(&mut left, 7, &a, &list.concat(), count, lent);
-    let transactions: Vec<Transaction> = list.iter().map(|x| Transaction::of(x)).collect();
+    let transactions = transactions(list);
     let (mut same, mut same_room) = (c.clone(), ROOM);
     let lent = &mut same_room[..size];
     let as_list = run(&mut same, 7, &a, &transactions, count, lent);
