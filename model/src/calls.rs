@@ -4,21 +4,19 @@ mod cases;
 mod engines;
 mod told;
 
-use std::fmt::{Display, Write};
-
 use crate::desk::*;
-use crate::house::{with, RFC, TABLE_A};
+use crate::house::{transactions, with, RFC, TABLE_A};
 use cases::{cases, Case, ASKED, BUILT, BUILT_FOR, CAPTURES};
 use told::*;
 
 pub fn lines() -> String {
-    let mut out = Lines(String::new());
+    let mut out = Lines::default();
     for case in cases() {
         out.records(&case);
         out.captures(&case);
         out.lists(&case);
         out.schedules(&case);
-        out.runs(&case);
+        engines::runs(&mut out, &case);
     }
     for (list, bytes) in BUILT {
         out.built(&list, bytes);
@@ -32,18 +30,10 @@ pub fn lines() -> String {
     out.0
 }
 
-struct Lines(String);
-
 impl Lines {
-    fn line<T: Display>(&mut self, name: &str, parts: &[T]) {
-        let parts: String = parts.iter().map(|p| format!(" {p}")).collect();
-        writeln!(self.0, "{name}{parts}").expect("a string takes it");
-    }
-
     fn records(&mut self, case: &Case) {
         let (name, written, table) = case.written();
-        let written = host(written.map(|e| (e, 0, 0)));
-        self.line(name, &[written, hex(&table)]);
+        self.written(name, written, &table);
         let read = flat(
             read_table(&table),
             |t| (t[0], t.map(u32::from).to_vec()),
@@ -63,16 +53,13 @@ impl Lines {
         let x = case.list[0];
         let mut room = [255; 4];
         let written = write_transaction(x.arriving(0), &mut room);
-        let written = host(written.map(|e| (e, 0, 0)));
-        self.line("skv_write_transaction", &[written, hex(&room)]);
+        self.written("skv_write_transaction", written, &room);
         let mut room = [255; 8];
         let written = write_later(x, &mut room);
-        let written = host(written.map(|e| (e, 0, 0)));
-        self.line("skv_write_later", &[written, hex(&room)]);
+        self.written("skv_write_later", written, &room);
         let mut room = [255; 9];
         let written = write_command(case.count, x.kind, x.start, x.bi.into(), &mut room);
-        let written = host(written.map(|e| (e, 0, 0)));
-        self.line("skv_write_command", &[written, hex(&room)]);
+        self.written("skv_write_command", written, &room);
     }
 
     fn captures(&mut self, case: &Case) {
@@ -82,8 +69,7 @@ impl Lines {
         let x = case.list[0];
         let mut room = [255; 5];
         let written = write_capture_record(case.expected, x.kind, x.start, &mut room);
-        let written = host(written.map(|e| (e, 0, 0)));
-        self.line("skv_write_capture_record", &[written, hex(&room)]);
+        self.written("skv_write_capture_record", written, &room);
         self.judged(case.expected, &case.table(), case.bytes);
         let asked = (x.kind, x.bi, x.bc, case.count);
         self.found(case.expected, &case.table(), asked);
@@ -91,8 +77,8 @@ impl Lines {
 
     fn table_a(&mut self) -> [u8; 32] {
         let mut table = [0; 32];
-        let written = host(write_table(TABLE_A, &mut table).map(|e| (e, 0, 0)));
-        self.line("skv_write_table", &[written, hex(&table)]);
+        let written = write_table(TABLE_A, &mut table);
+        self.written("skv_write_table", written, &table);
         table
     }
 
@@ -164,7 +150,7 @@ impl Lines {
             }
         });
         self.line("skv_judge_pattern", &[flat(verdict, |v| v, 3)]);
-        self.builds(case);
+        engines::builds(self, case);
         self.serves(expected, &table, &case.list, case.bytes, case.bytes);
         let x = case.list[0];
         let answer = bound(expected, &table, x.bi, x.bc).map(|(e, cycles)| (e, cycles as u32, 0));
@@ -203,15 +189,18 @@ impl Lines {
         let numbers = with(&[(RFC, 50)]);
         let expected = numbers[0];
         let mut table = [0; 32];
-        let written = host(write_table(numbers, &mut table).map(|e| (e, 0, 0)));
-        self.line("skv_write_table", &[written, hex(&table)]);
-        let of = |list: &[[u8; 4]]| -> Vec<Transaction> {
-            list.iter().map(|x| Transaction::of(x)).collect()
-        };
+        let written = write_table(numbers, &mut table);
+        self.written("skv_write_table", written, &table);
         let (mut room, mut finishes) = ([0; 40], [0; 3]);
-        let answer = schedule(expected, &table, &of(&BUILT_FOR), &mut room, &mut finishes);
+        let answer = schedule(
+            expected,
+            &table,
+            &transactions(&BUILT_FOR),
+            &mut room,
+            &mut finishes,
+        );
         let answer = answer.map(|s| (s.edition, s.commands, 0));
         self.line("schedule", &[desk(answer, 2)]);
-        self.serves(expected, &table, &of(list), bytes, &room);
+        self.serves(expected, &table, &transactions(list), bytes, &room);
     }
 }

@@ -3,7 +3,7 @@
 //! The true cycles are counted by the rounds of the analyser's counter: a stamp below the one before it stands in the next round of
 //! 65,536 cycles.
 
-use crate::records::{refused, Command, GroupTable, Refusal, EDITION};
+use crate::records::{refused, refused_by, Command, GroupTable, Refusal};
 use crate::rules::MOST_RECORDS;
 
 /// "Callers send a capture in 4-byte records: a 16-bit stamp, kind, bank."
@@ -81,18 +81,15 @@ pub fn true_cycles(records: &[CaptureRecord]) -> Result<Vec<u64>, usize> {
 /// Numbers 7, 11 and 5: "Number 7 (bytes not a multiple of 4, or over 69,632 records) goes before 11, and 5 (room for the commands)
 /// after it." The commands have "ticks dropped, transaction number 0".
 pub fn commands(table: &GroupTable, bytes: &[u8], room: usize) -> Result<Vec<Command>, Refusal> {
-    let edition = table[EDITION];
-    let refusal = |number, position| Refusal {
-        number,
-        position,
-        edition,
-    };
     if bytes.len() % 4 != 0 || bytes.len() / 4 > MOST_RECORDS {
-        return Err(refusal(7, 0));
+        return refused_by(table, 7, 0);
     }
     let records: Result<Vec<_>, _> = bytes.chunks_exact(4).map(read_capture_record).collect();
     let records = records?;
-    let cycles = true_cycles(&records).map_err(|at| refusal(11, at as u32))?;
+    let cycles = match true_cycles(&records) {
+        Ok(cycles) => cycles,
+        Err(at) => return refused_by(table, 11, at as u32),
+    };
     let of_commands = records.iter().zip(cycles).filter(|(r, _)| !r.is_tick());
     let commands: Vec<Command> = of_commands
         .map(|(r, cycle)| Command {
@@ -103,7 +100,7 @@ pub fn commands(table: &GroupTable, bytes: &[u8], room: usize) -> Result<Vec<Com
         })
         .collect();
     if room < 8 * commands.len() {
-        return Err(refusal(5, 0));
+        return refused_by(table, 5, 0);
     }
     Ok(commands)
 }

@@ -2,6 +2,7 @@
 
 mod accepted;
 mod editions;
+mod lists;
 mod refreshes;
 mod refused;
 
@@ -10,11 +11,7 @@ use std::path::Path;
 
 use crate::inputs::Cases;
 use crate::listing::listing;
-pub use accepted::any_list;
-
-/// Examples 3 and 5 of document 01.
-const EXAMPLE_3: [[u8; 4]; 2] = [[1, 0, 1, 1], [0, 0, 1, 1]];
-const EXAMPLE_5: [[u8; 4]; 1] = [[0, 0, 4, 2]];
+pub use lists::any_list;
 
 fn cases() -> Cases {
     let mut cases = Cases::default();

@@ -7,13 +7,7 @@ use std::io;
 use std::path::Path;
 
 use crate::inputs::Cases;
-use crate::sent::Sent;
 use crate::trace::trace;
-
-/// The same so many cycles later.
-fn later(sent: &[Sent], by: u64) -> Vec<Sent> {
-    sent.iter().map(|s| (s.0 + by, s.1, s.2)).collect()
-}
 
 fn cases() -> Cases {
     let mut cases = Cases::default();

@@ -1,6 +1,6 @@
 //! The house tables, tables in which one number outgrows the others, and what else the cases are made from.
 
-use crate::desk::{schedule_bytes, schedule_later_bytes, Transaction};
+use crate::desk::{schedule_bytes, schedule_later_bytes, Refusal, Scheduled, Transaction};
 pub use crate::records::{whole, B, BANKS, CCD, GROUPS, LONGS, RFC};
 use crate::records::{GroupTable, Table, EDITION, REFRESH};
 use crate::rules::{ACT, RDA, WRA};
@@ -54,6 +54,10 @@ pub const ODD: [Table; 12] = [
 /// Table A with an edition of its own, and a refresh.
 pub const REFRESHED: Table = [70, 8, 4, 4, 10, 10, 28, 38, 6, 32, 10, 8, 6, 12, 6, 50];
 
+/// A read and a write of bank 0, as bytes.
+pub const READ: [u8; 4] = [0, 0, 1, 1];
+pub const WRITE: [u8; 4] = [1, 0, 1, 1];
+
 /// A refresh, as bytes.
 pub const REFRESH_BYTES: [u8; 4] = [REFRESH, 0, 0, 0];
 
@@ -74,6 +78,22 @@ pub const OTHER_EDITIONS: [(u16, u16); 13] = [
     (256, 1),
     (65535, 65534),
 ];
+
+/// Table A with each of those editions, and the expected one; and with one whose low byte is 0 and that is expected.
+pub fn other_editions() -> impl Iterator<Item = (Table, u16)> {
+    let editions = OTHER_EDITIONS.into_iter().chain([(256, 256)]);
+    editions.map(|(edition, expected)| (with(&[(EDITION, edition)]), expected))
+}
+
+/// Tables that number 2 refuses, each with an expected edition.
+pub fn refused_tables() -> [(Table, u16); 4] {
+    [
+        (with(&[(RFC, 1024)]), 8),
+        (with(&[(RFC, 1024), (EDITION, 0)]), 0),
+        (with(&[(CCD, 1)]), 8),
+        (with(&[(BANKS, 17)]), 0),
+    ]
+}
 
 /// Table A with some numbers changed.
 pub fn with(changes: &[(usize, u16)]) -> Table {
@@ -134,11 +154,6 @@ pub fn loose(order: &[(u8, u8, u16)]) -> Vec<u8> {
     order.iter().zip(0..).flat_map(at).collect()
 }
 
-/// The first so many bytes and the others, unless there are fewer.
-pub fn split(bytes: &[u8], n: usize) -> Option<(&[u8], &[u8])> {
-    (n <= bytes.len()).then(|| bytes.split_at(n))
-}
-
 /// A record of 8 bytes.
 pub fn later(x: [u8; 4], arrival: u32) -> [u8; 8] {
     Transaction::of(&x).arriving(arrival).eight()
@@ -148,6 +163,11 @@ pub fn later(x: [u8; 4], arrival: u32) -> [u8; 8] {
 pub fn arriving(list: &[[u8; 4]], arrivals: &[u32]) -> Vec<[u8; 8]> {
     let both = list.iter().zip(arrivals);
     both.map(|(&x, &arrival)| later(x, arrival)).collect()
+}
+
+/// Of records of either size.
+pub fn transactions(list: &[impl AsRef<[u8]>]) -> Vec<Transaction> {
+    list.iter().map(|x| Transaction::of(x.as_ref())).collect()
 }
 
 /// What a transaction, of a record of either size, puts into each queue: its ACTs or its REF, and its data commands.
@@ -171,14 +191,25 @@ pub fn room_for(list: &[impl AsRef<[u8]>]) -> usize {
     8 * due(list)
 }
 
-/// The schedule of an accepted list, as bytes, and the finishing cycles.
-pub fn built(table: &[u16], list: &[[u8; 4]]) -> (Vec<u8>, Vec<u32>) {
+type Build = fn(u16, &[u8], &[u8], &mut [u8], &mut [u32]) -> Result<Scheduled, Refusal>;
+
+fn built_by<const N: usize>(build: Build, table: &[u16], list: &[[u8; N]]) -> (Vec<u8>, Vec<u32>) {
     let mut room = vec![0; room_for(list)];
     let mut finishes = vec![0; list.len()];
     let (edition, bytes) = (table[EDITION], list.concat());
-    schedule_bytes(edition, &bytes_of(table), &bytes, &mut room, &mut finishes)
+    build(edition, &bytes_of(table), &bytes, &mut room, &mut finishes)
         .expect("the list is accepted");
     (room, finishes)
+}
+
+/// The schedule of an accepted list, as bytes, and the finishing cycles.
+pub fn built(table: &[u16], list: &[[u8; 4]]) -> (Vec<u8>, Vec<u32>) {
+    built_by(schedule_bytes, table, list)
+}
+
+/// The same of records of 8 bytes.
+pub fn built_later(table: &[u16], list: &[[u8; 8]]) -> (Vec<u8>, Vec<u32>) {
+    built_by(schedule_later_bytes, table, list)
 }
 
 /// Patterns whose copy 2 breaks by a long number of table D at length 59: by rule 6, its first ACT against an ACT of copy 1, and by rule 9,
@@ -193,16 +224,6 @@ pub fn long_in_copy_2() -> [Vec<(u32, u8, u8)>; 4] {
     hidden_write.insert(3, (26, ACT, 1));
     hidden_write.push((49, WRA, 1));
     [act.to_vec(), hidden_act, write.to_vec(), hidden_write]
-}
-
-/// The same of records of 8 bytes.
-pub fn built_later(table: &[u16], list: &[[u8; 8]]) -> (Vec<u8>, Vec<u32>) {
-    let mut room = vec![0; room_for(list)];
-    let mut finishes = vec![0; list.len()];
-    let (edition, bytes) = (table[EDITION], list.concat());
-    schedule_later_bytes(edition, &bytes_of(table), &bytes, &mut room, &mut finishes)
-        .expect("the list is accepted");
-    (room, finishes)
 }
 
 /// A linear congruential generator, so that the cases are the same on every machine.

@@ -5,7 +5,9 @@ use std::fs;
 use std::io;
 use std::path::Path;
 
-use crate::house::{bytes_of, split};
+use crate::house::bytes_of;
+use crate::records::EDITION;
+use crate::stored::{read, size_of};
 
 /// The cases so far, and the place of each group's first.
 #[derive(Default)]
@@ -62,12 +64,26 @@ impl Cases {
     }
 }
 
+/// An input as the programs read it: the expected edition, the table, and transactions, the records of a capture or what is asked.
+pub fn input(expected: u16, table: &[u16], rest: &[[u8; 4]]) -> Vec<u8> {
+    [
+        &expected.to_le_bytes(),
+        &bytes_of(table)[..],
+        &rest.concat(),
+    ]
+    .concat()
+}
+
+/// With the table's own edition expected.
+pub fn own(table: &[u16], rest: &[[u8; 4]]) -> Vec<u8> {
+    input(table[EDITION], table, rest)
+}
+
 /// Each input behind its length in two bytes; at the end one that is cut short.
 pub fn stored(inputs: &[Vec<u8>]) -> Vec<u8> {
     let mut out = Vec::new();
     for input in inputs {
-        let size = u16::try_from(input.len()).expect("a case is short");
-        out.extend(size.to_le_bytes());
+        out.extend(size_of(input));
         out.extend(input);
     }
     out.extend([4, 0, 7]);
@@ -76,18 +92,10 @@ pub fn stored(inputs: &[Vec<u8>]) -> Vec<u8> {
 
 /// The text of each, behind a line `case`.
 pub fn texts(stored: &[u8], program: fn(&[u8]) -> String) -> String {
-    let mut out = String::new();
-    let mut rest = stored;
-    while let Some((input, after)) = first(rest) {
-        out.push_str("case\n");
-        out.push_str(&program(input));
-        rest = after;
-    }
-    out
-}
-
-/// The first input and what follows it, unless it is cut short.
-fn first(stored: &[u8]) -> Option<(&[u8], &[u8])> {
-    let (size, rest) = split(stored, 2)?;
-    split(rest, u16::from_le_bytes([size[0], size[1]]).into())
+    let (inputs, _) = read(stored, |rest| {
+        let size = rest.u16()?;
+        rest.take(size.into())
+    });
+    let text = |&input: &&[u8]| format!("case\n{}", program(input));
+    inputs.iter().map(text).collect()
 }

@@ -28,6 +28,7 @@ pub mod sent;
 mod served;
 mod serves;
 mod shortest;
+mod stored;
 pub mod trace;
 mod traces;
 pub mod vectors;

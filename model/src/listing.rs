@@ -3,8 +3,9 @@
 
 use std::fmt::Write;
 
-use crate::desk::{read_command, schedule_bytes, schedule_later_bytes, Command, Refusal};
-use crate::records::PLAIN;
+use crate::desk::{schedule_bytes, schedule_later_bytes, Command, Refusal};
+use crate::records::{commands_of, refused, PLAIN};
+use crate::rules::NAMES;
 use crate::scheduler::MOST_TRANSACTIONS;
 
 /// "64 KiB of command room", in bytes.
@@ -18,11 +19,7 @@ pub fn listing(input: &[u8]) -> String {
 /// there are fewer.
 pub fn headed(input: &[u8]) -> Result<(u16, &[u8], &[u8]), Refusal> {
     if input.len() < 2 {
-        return Err(Refusal {
-            number: 1,
-            position: 0,
-            edition: 0,
-        });
+        return refused(1);
     }
     let expected = u16::from_le_bytes([input[0], input[1]]);
     let rest = &input[2..];
@@ -60,23 +57,19 @@ pub fn schedule_lines(
     Ok(out)
 }
 
-/// The first so many commands of the room.
-pub fn commands(room: &[u8], count: u32) -> Vec<Command> {
-    let read = |record| read_command(record).expect("a record has 8 bytes");
-    let records = room.chunks_exact(8).take(count as usize);
-    records.map(read).collect()
-}
-
-/// One line for each: `CYCLE KIND BANK TRANSACTION`. A kind without a name is its number.
+/// One line for each of the first so many commands of the room: `CYCLE KIND BANK TRANSACTION`. A kind without a name is its number.
 pub fn command_lines(room: &[u8], count: u32) -> String {
     let line = |c: &Command| {
-        let kind = match ["ACT", "RD", "RDA", "WR", "WRA", "REF"].get(usize::from(c.kind)) {
+        let kind = match NAMES.get(usize::from(c.kind)) {
             Some(name) => name.to_string(),
             None => c.kind.to_string(),
         };
         format!("{} {kind} {} {}\n", c.cycle, c.bank, c.transaction)
     };
-    commands(room, count).iter().map(line).collect()
+    commands_of(&room[..8 * count as usize])
+        .iter()
+        .map(line)
+        .collect()
 }
 
 #[cfg(test)]

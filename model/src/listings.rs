@@ -3,7 +3,7 @@
 
 use crate::examples;
 use crate::house::*;
-use crate::inputs;
+use crate::inputs::{self, input, own};
 use crate::listing::listing;
 use crate::records::{BANKS, CCD, EDITION, RFC};
 
@@ -11,8 +11,6 @@ const RCD: usize = 4;
 const RP: usize = 5;
 const RAS: usize = 6;
 
-const READ: [u8; 4] = [0, 0, 1, 1];
-const WRITE: [u8; 4] = [1, 0, 1, 1];
 const REFRESH: [u8; 4] = REFRESH_BYTES;
 
 /// Numbers about the powers of ten, which have one digit more or less than their neighbours.
@@ -36,19 +34,6 @@ fn inputs() -> Vec<Vec<u8>> {
     inputs.extend(refused());
     inputs.extend(accepted());
     inputs
-}
-
-fn input(expected: u16, table: &[u16], list: &[[u8; 4]]) -> Vec<u8> {
-    [
-        &expected.to_le_bytes(),
-        &bytes_of(table)[..],
-        &list.concat(),
-    ]
-    .concat()
-}
-
-fn own(table: &[u16], list: &[[u8; 4]]) -> Vec<u8> {
-    input(table[EDITION], table, list)
 }
 
 /// "Fewer than two get number 1", whatever the bytes; so do two alone, and a table that is cut short.
@@ -129,6 +114,7 @@ fn reads_to(cycle: usize) -> Vec<u8> {
 #[cfg(test)]
 mod tests {
     use super::*;
+    use crate::rules::NAMES;
 
     #[test]
     fn they_meet_every_refusal_every_kind_and_every_number_of_digits() {
@@ -139,7 +125,7 @@ mod tests {
             let start = format!("refused {number} at ");
             assert_eq!(met(&|l| l.starts_with(&start)), number <= 5 || number == 10);
         }
-        for kind in ["ACT", "RD", "RDA", "WR", "WRA", "REF"] {
+        for kind in NAMES {
             let word = format!(" {kind} ");
             assert!(met(&|l| l.contains(&word)), "{kind}");
         }

@@ -3,6 +3,7 @@
 
 use crate::desk::{shortest_pattern, Refusal};
 use crate::listing::command_lines;
+use crate::records::refused;
 
 pub fn pattern(input: &[u8]) -> String {
     lines(input).unwrap_or_else(|r| format!("{r}\n"))
@@ -11,11 +12,7 @@ pub fn pattern(input: &[u8]) -> String {
 /// `edition E length L commands N`, and the records. Fewer bytes than the edition and what is asked are number 1.
 fn lines(input: &[u8]) -> Result<String, Refusal> {
     if input.len() < 6 {
-        return Err(Refusal {
-            number: 1,
-            position: 0,
-            edition: 0,
-        });
+        return refused(1);
     }
     let (head, asked) = input.split_at(input.len() - 4);
     let expected = u16::from_le_bytes([head[0], head[1]]);

@@ -1,7 +1,7 @@
 //! The cases of the program `patterns`, each an input of `pattern` behind its length in two bytes, and the text of each behind a line `case`.
 
 use crate::house::*;
-use crate::inputs;
+use crate::inputs::{self, input};
 use crate::pattern::pattern;
 use crate::records::{BANKS, CCD, EDITION};
 
@@ -22,12 +22,8 @@ pub fn inputs() -> Vec<Vec<u8>> {
     inputs
 }
 
-fn input(expected: u16, table: &[u16], asked: [u8; 4]) -> Vec<u8> {
-    [&expected.to_le_bytes(), &bytes_of(table)[..], &asked].concat()
-}
-
 fn own(table: &[u16], asked: [u8; 4]) -> Vec<u8> {
-    input(table[EDITION], table, asked)
+    inputs::own(table, &[asked])
 }
 
 /// Every type, BI and BC "with BI × (1 + BC) at most 6".
@@ -155,8 +151,8 @@ fn refused() -> Vec<Vec<u8>> {
     inputs.push(own(&grouped(&TABLE_A, 2, [3, 9, 9]), [0, 1, 1, 128]));
     for (edition, expected) in OTHER_EDITIONS {
         let table = with(&[(EDITION, edition)]);
-        inputs.push(input(expected, &table, [0, 1, 1, 128]));
-        inputs.push(input(expected, &table, [2, 1, 1, 128]));
+        inputs.push(input(expected, &table, &[[0, 1, 1, 128]]));
+        inputs.push(input(expected, &table, &[[2, 1, 1, 128]]));
     }
     inputs
 }

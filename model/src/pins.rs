@@ -2,7 +2,7 @@
 
 use std::collections::BTreeMap;
 
-use crate::records::{read_command, read_table};
+use crate::records::{commands_of, read_table};
 use crate::rules::{Record, Times};
 
 /// What no accepted schedule has, by the places of two records.
@@ -24,19 +24,14 @@ fn burst(t: &Times, r: &Record) -> std::ops::Range<u64> {
     first..first + t.b
 }
 
-/// The table's numbers, and the schedule's records in so many copies; nothing where one of them can't be read.
+/// The table's numbers, and the schedule's records in so many copies; nothing where the table can't be read.
 fn copied(table: &[u8], schedule: &[u8], length: u32, copies: u64) -> Option<(Times, Vec<Record>)> {
     let table = read_table(table).ok()?;
     let mut all = Vec::new();
     for copy in 0..copies {
-        for bytes in schedule.chunks_exact(8) {
-            let c = read_command(bytes).ok()?;
-            all.push(Record {
-                cycle: u64::from(c.cycle) + copy * u64::from(length),
-                kind: c.kind,
-                bank: c.bank,
-            });
-        }
+        let by = copy * u64::from(length);
+        let records = commands_of(schedule);
+        all.extend(records.iter().map(|c| Record::of(c).later(by)));
     }
     Some((Times::of(&table), all))
 }

@@ -4,7 +4,7 @@ mod times;
 
 pub use times::Times;
 
-use crate::records::{read_command, GroupTable, Refusal, BANKS, EDITION};
+use crate::records::{commands_of, refused_by, Command, GroupTable, Refusal, BANKS};
 
 pub const ACT: u8 = 0;
 pub const RD: u8 = 1;
@@ -12,6 +12,9 @@ pub const RDA: u8 = 2;
 pub const WR: u8 = 3;
 pub const WRA: u8 = 4;
 pub const REF: u8 = 5;
+
+/// Each by its number.
+pub const NAMES: [&str; 6] = ["ACT", "RD", "RDA", "WR", "WRA", "REF"];
 
 /// "Over 69,632 records."
 pub const MOST_RECORDS: usize = 69_632;
@@ -28,6 +31,22 @@ pub struct Record {
 }
 
 impl Record {
+    pub fn of(c: &Command) -> Record {
+        Record {
+            cycle: c.cycle.into(),
+            kind: c.kind,
+            bank: c.bank,
+        }
+    }
+
+    /// The same so many cycles later.
+    pub fn later(&self, by: u64) -> Record {
+        Record {
+            cycle: self.cycle + by,
+            ..*self
+        }
+    }
+
     pub fn acts(&self) -> bool {
         self.kind == ACT
     }
@@ -144,23 +163,9 @@ fn leaves_open(table: &GroupTable, records: &[Record]) -> bool {
 
 fn read_schedule(table: &GroupTable, bytes: &[u8]) -> Result<Vec<Record>, Refusal> {
     if bytes.len() % 8 != 0 || bytes.len() / 8 > MOST_RECORDS {
-        return Err(Refusal {
-            number: 7,
-            position: 0,
-            edition: table[EDITION],
-        });
+        return refused_by(table, 7, 0);
     }
-    bytes
-        .chunks_exact(8)
-        .map(|record| {
-            let c = read_command(record)?;
-            Ok(Record {
-                cycle: c.cycle.into(),
-                kind: c.kind,
-                bank: c.bank,
-            })
-        })
-        .collect()
+    Ok(commands_of(bytes).iter().map(Record::of).collect())
 }
 
 #[derive(Debug, Clone, Copy, PartialEq, Eq)]
@@ -197,19 +202,12 @@ pub fn judge_pattern(
 ) -> Result<PatternVerdict, Refusal> {
     let pattern = read_schedule(table, bytes)?;
     if length == 0 {
-        return Err(Refusal {
-            number: 8,
-            position: 0,
-            edition: table[EDITION],
-        });
+        return refused_by(table, 8, 0);
     }
     let mut all = Vec::new();
     for copy in 1..=COPIES {
         for (record, r) in pattern.iter().enumerate() {
-            let moved = Record {
-                cycle: r.cycle + u64::from(length) * (copy - 1),
-                ..*r
-            };
+            let moved = r.later(u64::from(length) * (copy - 1));
             if let Some(rule) = first_broken(table, &all, &moved) {
                 return Ok(PatternVerdict::Broken { rule, copy, record });
             }

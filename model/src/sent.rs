@@ -1,6 +1,7 @@
 //! What an analyser sends: a schedule written as a capture, "with ticks only at cycles without a command, one at most in each".
 
-use crate::desk::{read_command, write_capture_record};
+use crate::capture::write_capture_record;
+use crate::records::{commands_of, Command};
 
 /// A cycle with a command's kind and bank, or a tick's.
 pub type Sent = (u64, u8, u8);
@@ -14,11 +15,13 @@ pub fn tick(cycle: u64) -> Sent {
 
 /// The commands of a schedule's bytes.
 pub fn of_schedule(bytes: &[u8]) -> Vec<Sent> {
-    let one = |record| {
-        let c = read_command(record).expect("a record has 8 bytes");
-        (c.cycle.into(), c.kind, c.bank)
-    };
-    bytes.chunks_exact(8).map(one).collect()
+    let one = |c: &Command| (c.cycle.into(), c.kind, c.bank);
+    commands_of(bytes).iter().map(one).collect()
+}
+
+/// The same so many cycles later.
+pub fn later(sent: &[Sent], by: u64) -> Vec<Sent> {
+    sent.iter().map(|s| (s.0 + by, s.1, s.2)).collect()
 }
 
 /// The capture's bytes: the stamp is what 16 bits hold of the cycle.

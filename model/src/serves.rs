@@ -3,7 +3,7 @@
 #[cfg(test)]
 mod tests;
 
-use crate::records::{read_command, Command, GroupTable, Refusal, Transaction};
+use crate::records::{commands_of, Command, GroupTable, Refusal, Transaction};
 use crate::rules::{judge, Verdict, ACT, RD, REF, WRA};
 use crate::scheduler::{dues, Due};
 
@@ -143,17 +143,12 @@ impl Work {
     }
 }
 
-/// The commands of bytes that number 7 lets pass.
-pub fn commands_of(bytes: &[u8]) -> Result<Vec<Command>, Refusal> {
-    bytes.chunks_exact(8).map(read_command).collect()
-}
-
 /// Number 7, and then the answer. "Arrivals aren't looked at."
 pub fn serves(table: &GroupTable, list: &[Transaction], bytes: &[u8]) -> Result<Served, Refusal> {
     if let Verdict::Broken { rule, record } = judge(table, bytes)? {
         return Ok(Served::Broken { rule, record });
     }
-    let work = Work::of(table, list, &commands_of(bytes)?);
+    let work = Work::of(table, list, &commands_of(bytes));
     let at_fault = (0..list.len()).find(|&x| !work.causes(x).is_empty());
     let outside = work.has_outside().then(|| list.len());
     Ok(match at_fault.or(outside) {

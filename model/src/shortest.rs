@@ -9,7 +9,7 @@ mod plain;
 #[cfg(test)]
 mod worked;
 
-use crate::records::{Command, GroupTable, Refusal, BANKS, EDITION};
+use crate::records::{refused_by, Command, GroupTable, Refusal, BANKS};
 use crate::rules::{Record, Times, ACT, RD, RDA, WR, WRA};
 
 /// "A type, BI and BC .. and a greatest length."
@@ -191,18 +191,11 @@ pub fn shortest(
     asked: &Asked,
     room: usize,
 ) -> Result<(u32, Vec<Command>), Refusal> {
-    let refuse = |number| {
-        Err(Refusal {
-            number,
-            position: 0,
-            edition: table[EDITION],
-        })
-    };
     if !asked.is_allowed(table) {
-        return refuse(4);
+        return refused_by(table, 4, 0);
     }
     if room < 8 * asked.records() {
-        return refuse(5);
+        return refused_by(table, 5, 0);
     }
     let command = |&(cycle, kind, bank): &Placed| Command {
         cycle: cycle as u32,
@@ -216,5 +209,5 @@ pub fn shortest(
             return Ok((length, pattern.iter().map(command).collect()));
         }
     }
-    refuse(13)
+    refused_by(table, 13, 0)
 }

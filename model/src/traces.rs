@@ -4,7 +4,7 @@
 //! first case. `hostile_trace` has more of them.
 
 use crate::house::*;
-use crate::inputs;
+use crate::inputs::{self, input, own};
 use crate::records::{BANKS, CCD, EDITION};
 use crate::sent::{capture, of_schedule, record, tick_record as tick, with_ticks, Sent, TICK};
 use crate::trace::trace;
@@ -35,19 +35,6 @@ fn inputs() -> Vec<Vec<u8>> {
     inputs.extend(short());
     inputs.extend(refused());
     inputs
-}
-
-fn input(expected: u16, table: &[u16], records: &[[u8; 4]]) -> Vec<u8> {
-    [
-        &expected.to_le_bytes(),
-        &bytes_of(table)[..],
-        &records.concat(),
-    ]
-    .concat()
-}
-
-fn own(table: &[u16], records: &[[u8; 4]]) -> Vec<u8> {
-    input(table[EDITION], table, records)
 }
 
 fn of_a(sent: &[Sent]) -> Vec<u8> {

@@ -18,29 +18,11 @@ pub fn judge_capture(
     capture: &[u8],
     commands: &mut [u8],
 ) -> Result<Captured, Refusal> {
-    let a = unsafe {
-        skv_judge_capture(
-            expected,
-            table.as_ptr(),
-            table.len(),
-            capture.as_ptr(),
-            capture.len(),
-            commands.as_mut_ptr(),
-            commands.len(),
-        )
-    };
-    let verdict = match a.rule {
-        0 => Verdict::Accepted,
-        rule => Verdict::Broken {
-            rule,
-            copy: 0,
-            record: a.record,
-        },
-    };
+    let a = call!(skv_judge_capture(expected, &table, &capture, &mut commands));
     let captured = Captured {
         edition: a.edition,
         commands: a.count,
-        verdict,
+        verdict: Verdict::of(a.rule, 0, a.record),
     };
     told(a.refused, a.position, a.edition, captured)
 }

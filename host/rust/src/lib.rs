@@ -3,7 +3,7 @@
 //! Any bytes may be handed in. A refused call changes no buffer and no controller. A call that is not refused writes each result from its
 //! buffer's start and leaves all beyond as it stood. Each call that is lent a table is told before it which edition is expected.
 //! `skvorzhan.h` says what each call checks and writes. A call with `straight` in its name does the same as the one without, by the second engine,
-//! which passes over the cycles at which nothing goes.
+//! which passes over the cycles at which nothing goes: its time goes with the commands and not with the cycles.
 
 mod captures;
 mod patterns;
@@ -12,7 +12,6 @@ mod records;
 mod running;
 mod schedules;
 mod serving;
-mod straight;
 
 pub use captures::*;
 pub use patterns::*;
@@ -21,7 +20,6 @@ pub use records::*;
 pub use running::*;
 pub use schedules::*;
 pub use serving::*;
-pub use straight::*;
 
 use raw::Answer;
 use std::fmt;

@@ -21,19 +21,15 @@ pub fn shortest_pattern(
     most: u32,
     pattern: &mut [u8],
 ) -> Result<Shortest, Refusal> {
-    let a = unsafe {
-        skv_shortest_pattern(
-            expected,
-            table.as_ptr(),
-            table.len(),
-            kind,
-            bi,
-            bc,
-            most,
-            pattern.as_mut_ptr(),
-            pattern.len(),
-        )
-    };
+    let a = call!(skv_shortest_pattern(
+        expected,
+        &table,
+        kind,
+        bi,
+        bc,
+        most,
+        &mut pattern
+    ));
     let shortest = Shortest {
         edition: a.edition,
         length: a.length,

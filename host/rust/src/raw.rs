@@ -239,3 +239,25 @@ extern "C" {
     pub fn skv_run_straight_later_bytes(c: Controller, expected: u16, table: *const u8, table_len: usize, list: *const u8,
         list_len: usize, count: u32, room: *mut u8, room_len: usize) -> ControllerAnswer;
 }
+
+/// A call of the archive's, each slice handed over as a pointer and a number of elements: `&name` is lent for reading, `&mut name` for writing. The
+/// borrows keep them apart, and no pointer of a slice is null; the call asks for nothing more.
+macro_rules! call {
+    (@ $call:ident($($done:expr,)*)) => {
+        unsafe { $call($($done),*) }
+    };
+    (@ $call:ident($($done:expr,)*) &mut $slice:ident, $($rest:tt)*) => {
+        call!(@ $call($($done,)* $slice.as_mut_ptr(), $slice.len(),) $($rest)*)
+    };
+    (@ $call:ident($($done:expr,)*) &$slice:ident, $($rest:tt)*) => {
+        call!(@ $call($($done,)* $slice.as_ptr(), $slice.len(),) $($rest)*)
+    };
+    (@ $call:ident($($done:expr,)*) $plain:expr, $($rest:tt)*) => {
+        call!(@ $call($($done,)* $plain,) $($rest)*)
+    };
+    ($call:ident($($arguments:tt)*)) => {
+        call!(@ $call() $($arguments)*,)
+    };
+}
+
+pub(crate) use call;

@@ -11,31 +11,31 @@ pub type GroupTable = [u16; 20];
 
 /// Refused with 1 and 2. Of a table of 32 bytes the group count is 1, and each long number the short one.
 pub fn read_table(bytes: &[u8]) -> Result<GroupTable, Refusal> {
-    let a = unsafe { skv_read_table(bytes.as_ptr(), bytes.len()) };
+    let a = call!(skv_read_table(&bytes));
     told(a.refused, a.position, a.edition, a.numbers)
 }
 
 /// Refused with 1 and 2. Answers the table's edition.
 pub fn write_table(numbers: Table, out: &mut [u8]) -> Result<u32, Refusal> {
-    let a = unsafe { skv_write_table(Numbers { numbers }, out.as_mut_ptr(), out.len()) };
+    let a = call!(skv_write_table(Numbers { numbers }, &mut out));
     a.told(a.edition)
 }
 
 /// Refused with 1 and 2. Answers the table's edition.
 pub fn write_group_table(numbers: GroupTable, out: &mut [u8]) -> Result<u32, Refusal> {
     let numbers = GroupNumbers { numbers };
-    let a = unsafe { skv_write_group_table(numbers, out.as_mut_ptr(), out.len()) };
+    let a = call!(skv_write_group_table(numbers, &mut out));
     a.told(a.edition)
 }
 
 /// Refused with 3 and 4.
 pub fn read_transaction(bytes: &[u8]) -> Result<Transaction, Refusal> {
-    read(unsafe { skv_read_transaction(bytes.as_ptr(), bytes.len()) })
+    read(call!(skv_read_transaction(&bytes)))
 }
 
 /// The same of a record of 8 bytes.
 pub fn read_later(bytes: &[u8]) -> Result<Transaction, Refusal> {
-    read(unsafe { skv_read_later(bytes.as_ptr(), bytes.len()) })
+    read(call!(skv_read_later(&bytes)))
 }
 
 fn read(a: TransactionAnswer) -> Result<Transaction, Refusal> {
@@ -53,15 +53,15 @@ fn read(a: TransactionAnswer) -> Result<Transaction, Refusal> {
 pub fn write_transaction(x: Transaction, out: &mut [u8]) -> Result<(), Refusal> {
     // No type at all, so that number 3 still goes first.
     let kind = if x.arrival == 0 { x.kind } else { u8::MAX };
-    let a =
-        unsafe { skv_write_transaction(kind, x.start, x.bi, x.bc, out.as_mut_ptr(), out.len()) };
+    let a = call!(skv_write_transaction(kind, x.start, x.bi, x.bc, &mut out));
     a.told(())
 }
 
 /// Refused with 3 and 4.
 pub fn write_later(x: Transaction, out: &mut [u8]) -> Result<(), Refusal> {
-    let (room, size) = (out.as_mut_ptr(), out.len());
-    let a = unsafe { skv_write_later(x.kind, x.start, x.bi, x.bc, x.arrival, room, size) };
+    let a = call!(skv_write_later(
+        x.kind, x.start, x.bi, x.bc, x.arrival, &mut out
+    ));
     a.told(())
 }
 
@@ -77,7 +77,7 @@ pub struct Command {
 
 /// Refused with 7.
 pub fn read_command(bytes: &[u8]) -> Result<Command, Refusal> {
-    let a = unsafe { skv_read_command(bytes.as_ptr(), bytes.len()) };
+    let a = call!(skv_read_command(&bytes));
     let c = Command {
         cycle: a.cycle,
         kind: a.kind,
@@ -89,16 +89,9 @@ pub fn read_command(bytes: &[u8]) -> Result<Command, Refusal> {
 
 /// Refused with 5. The buffer may be longer than 8 bytes.
 pub fn write_command(c: Command, out: &mut [u8]) -> Result<(), Refusal> {
-    let a = unsafe {
-        skv_write_command(
-            c.cycle,
-            c.kind,
-            c.bank,
-            c.number,
-            out.as_mut_ptr(),
-            out.len(),
-        )
-    };
+    let a = call!(skv_write_command(
+        c.cycle, c.kind, c.bank, c.number, &mut out
+    ));
     a.told(())
 }
 
@@ -112,7 +105,7 @@ pub struct CaptureRecord {
 
 /// Refused with 7.
 pub fn read_capture_record(bytes: &[u8]) -> Result<CaptureRecord, Refusal> {
-    let a = unsafe { skv_read_capture_record(bytes.as_ptr(), bytes.len()) };
+    let a = call!(skv_read_capture_record(&bytes));
     let r = CaptureRecord {
         stamp: a.stamp,
         kind: a.kind,
@@ -123,7 +116,6 @@ pub fn read_capture_record(bytes: &[u8]) -> Result<CaptureRecord, Refusal> {
 
 /// Refused with 5. The buffer may be longer than 4 bytes.
 pub fn write_capture_record(r: CaptureRecord, out: &mut [u8]) -> Result<(), Refusal> {
-    let a =
-        unsafe { skv_write_capture_record(r.stamp, r.kind, r.bank, out.as_mut_ptr(), out.len()) };
+    let a = call!(skv_write_capture_record(r.stamp, r.kind, r.bank, &mut out));
     a.told(())
 }

@@ -1,11 +1,11 @@
-//! A controller that is run a few cycles at a time.
+//! A controller that is run a few cycles at a time, by either engine.
 
 use crate::raw::*;
 use crate::Refusal;
 
 /// Refused with 1, 2 and 10. A fresh controller.
 pub fn start(expected: u16, table: &[u8]) -> Result<Controller, Refusal> {
-    let a = unsafe { skv_start(expected, table.as_ptr(), table.len()) };
+    let a = call!(skv_start(expected, &table));
     a.answer.told(a.controller)
 }
 
@@ -24,122 +24,59 @@ fn ran(a: Answer) -> Result<Ran, Refusal> {
     })
 }
 
-/// Refused with 1, 2, 10, 3 to 5, 9 and 12. Each run is lent the whole list so far.
-pub fn run(
-    c: &mut Controller,
-    expected: u16,
-    table: &[u8],
-    list: &[Transaction],
-    count: u32,
-    room: &mut [u8],
-) -> Result<Ran, Refusal> {
-    run_where_it_lies(skv_run, c, expected, table, list, count, room)
+/// A call for each engine on the controller where it lies, of a count that is handed in, or of one cycle.
+macro_rules! run {
+    ($($(#[$said:meta])* $name:ident($($count:ident)?): $call:ident;)*) => {$(
+        $(#[$said])*
+        pub fn $name(
+            c: &mut Controller,
+            expected: u16,
+            table: &[u8],
+            list: &[Transaction],
+            $($count: u32,)?
+            room: &mut [u8],
+        ) -> Result<Ran, Refusal> {
+            ran(call!($call(c, expected, &table, &list, $($count,)? &mut room)))
+        }
+    )*};
 }
 
-/// One cycle.
-pub fn step(
-    c: &mut Controller,
-    expected: u16,
-    table: &[u8],
-    list: &[Transaction],
-    room: &mut [u8],
-) -> Result<Ran, Refusal> {
-    stepped(skv_step, c, expected, table, list, room)
+run! {
+    /// Refused with 1, 2, 10, 3 to 5, 9 and 12. Each run is lent the whole list so far.
+    run(count): skv_run;
+    /// One cycle.
+    step(): skv_step;
+    /// As `run`, by the second engine.
+    run_straight(count): skv_run_straight;
+    /// As `step`, by the second engine.
+    step_straight(): skv_step_straight;
 }
 
-/// As `run`, from the transactions' bytes, with the controller handed in and back.
-pub fn run_bytes(
-    c: Controller,
-    expected: u16,
-    table: &[u8],
-    list: &[u8],
-    count: u32,
-    room: &mut [u8],
-) -> (Controller, Result<Ran, Refusal>) {
-    handed_over(skv_run_bytes, c, expected, table, list, count, room)
+/// A call for each engine and each size of the records, with the controller handed in and back.
+macro_rules! run_bytes {
+    ($($(#[$said:meta])* $name:ident: $call:ident;)*) => {$(
+        $(#[$said])*
+        pub fn $name(
+            c: Controller,
+            expected: u16,
+            table: &[u8],
+            list: &[u8],
+            count: u32,
+            room: &mut [u8],
+        ) -> (Controller, Result<Ran, Refusal>) {
+            let a = call!($call(c, expected, &table, &list, count, &mut room));
+            (a.controller, ran(a.answer))
+        }
+    )*};
 }
 
-/// The same from records of 8 bytes.
-pub fn run_later_bytes(
-    c: Controller,
-    expected: u16,
-    table: &[u8],
-    list: &[u8],
-    count: u32,
-    room: &mut [u8],
-) -> (Controller, Result<Ran, Refusal>) {
-    handed_over(skv_run_later_bytes, c, expected, table, list, count, room)
-}
-
-// Each of the following makes a call of either engine.
-
-pub(crate) fn run_where_it_lies(
-    run: engines::Run,
-    c: &mut Controller,
-    expected: u16,
-    table: &[u8],
-    list: &[Transaction],
-    count: u32,
-    room: &mut [u8],
-) -> Result<Ran, Refusal> {
-    ran(unsafe {
-        run(
-            c,
-            expected,
-            table.as_ptr(),
-            table.len(),
-            list.as_ptr(),
-            list.len(),
-            count,
-            room.as_mut_ptr(),
-            room.len(),
-        )
-    })
-}
-
-pub(crate) fn stepped(
-    step: engines::Step,
-    c: &mut Controller,
-    expected: u16,
-    table: &[u8],
-    list: &[Transaction],
-    room: &mut [u8],
-) -> Result<Ran, Refusal> {
-    ran(unsafe {
-        step(
-            c,
-            expected,
-            table.as_ptr(),
-            table.len(),
-            list.as_ptr(),
-            list.len(),
-            room.as_mut_ptr(),
-            room.len(),
-        )
-    })
-}
-
-pub(crate) fn handed_over(
-    run: engines::RunBytes,
-    c: Controller,
-    expected: u16,
-    table: &[u8],
-    list: &[u8],
-    count: u32,
-    room: &mut [u8],
-) -> (Controller, Result<Ran, Refusal>) {
-    let a = unsafe {
-        run(
-            c,
-            expected,
-            table.as_ptr(),
-            table.len(),
-            list.as_ptr(),
-            list.len(),
-            count,
-            room.as_mut_ptr(),
-            room.len(),
-        )
-    };
-    (a.controller, ran(a.answer))
+run_bytes! {
+    /// As `run`, from the transactions' bytes, with the controller handed in and back.
+    run_bytes: skv_run_bytes;
+    /// The same from records of 8 bytes.
+    run_later_bytes: skv_run_later_bytes;
+    /// As `run_bytes`, by the second engine.
+    run_straight_bytes: skv_run_straight_bytes;
+    /// As `run_later_bytes`, by the second engine.
+    run_straight_later_bytes: skv_run_straight_later_bytes;
 }

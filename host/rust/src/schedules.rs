@@ -9,51 +9,30 @@ pub struct Decoded {
     pub transactions: u32,
 }
 
-/// Refused with 1, 2, 10, 3 and 4.
-pub fn read_transactions(
-    expected: u16,
-    table: &[u8],
-    bytes: &[u8],
-    list: &mut [Transaction],
-) -> Result<Decoded, Refusal> {
-    decoded(skv_read_transactions, expected, table, bytes, list)
+/// A call for each size of the records.
+macro_rules! decode {
+    ($($(#[$said:meta])* $name:ident: $call:ident;)*) => {$(
+        $(#[$said])*
+        pub fn $name(
+            expected: u16,
+            table: &[u8],
+            bytes: &[u8],
+            list: &mut [Transaction],
+        ) -> Result<Decoded, Refusal> {
+            let a = call!($call(expected, &table, &bytes, &mut list));
+            a.told(Decoded {
+                edition: a.edition,
+                transactions: a.count,
+            })
+        }
+    )*};
 }
 
-/// The same of records of 8 bytes.
-pub fn read_later_transactions(
-    expected: u16,
-    table: &[u8],
-    bytes: &[u8],
-    list: &mut [Transaction],
-) -> Result<Decoded, Refusal> {
-    decoded(skv_read_later_transactions, expected, table, bytes, list)
-}
-
-#[rustfmt::skip]
-type Decode = unsafe extern "C" fn(u16, *const u8, usize, *const u8, usize, *mut Transaction, usize) -> Answer;
-
-fn decoded(
-    decode: Decode,
-    expected: u16,
-    table: &[u8],
-    bytes: &[u8],
-    list: &mut [Transaction],
-) -> Result<Decoded, Refusal> {
-    let a = unsafe {
-        decode(
-            expected,
-            table.as_ptr(),
-            table.len(),
-            bytes.as_ptr(),
-            bytes.len(),
-            list.as_mut_ptr(),
-            list.len(),
-        )
-    };
-    a.told(Decoded {
-        edition: a.edition,
-        transactions: a.count,
-    })
+decode! {
+    /// Refused with 1, 2, 10, 3 and 4.
+    read_transactions: skv_read_transactions;
+    /// The same of records of 8 bytes.
+    read_later_transactions: skv_read_later_transactions;
 }
 
 #[derive(Debug, Clone, Copy, PartialEq, Eq)]
@@ -62,80 +41,40 @@ pub struct Scheduled {
     pub commands: u32,
 }
 
-/// Refused with 1, 2, 10, and 3 to 6. A write finishes at its last data command, a read RL + B cycles after its own, a refresh RFC cycles
-/// after its REF.
-pub fn schedule(
-    expected: u16,
-    table: &[u8],
-    list: &[Transaction],
-    commands: &mut [u8],
-    finishes: &mut [u32],
-) -> Result<Scheduled, Refusal> {
-    scheduled(skv_schedule, expected, table, list, commands, finishes)
+/// A call for each engine and each form of the list, whose entries are transactions or bytes.
+macro_rules! schedule {
+    ($($(#[$said:meta])* $name:ident($entry:ty): $call:ident;)*) => {$(
+        $(#[$said])*
+        pub fn $name(
+            expected: u16,
+            table: &[u8],
+            list: &[$entry],
+            commands: &mut [u8],
+            finishes: &mut [u32],
+        ) -> Result<Scheduled, Refusal> {
+            let a = call!($call(expected, &table, &list, &mut commands, &mut finishes));
+            a.told(Scheduled {
+                edition: a.edition,
+                commands: a.count,
+            })
+        }
+    )*};
 }
 
-/// The same from the transactions' bytes.
-pub fn schedule_bytes(
-    expected: u16,
-    table: &[u8],
-    list: &[u8],
-    commands: &mut [u8],
-    finishes: &mut [u32],
-) -> Result<Scheduled, Refusal> {
-    scheduled(
-        skv_schedule_bytes,
-        expected,
-        table,
-        list,
-        commands,
-        finishes,
-    )
-}
-
-/// The same from records of 8 bytes.
-pub fn schedule_later_bytes(
-    expected: u16,
-    table: &[u8],
-    list: &[u8],
-    commands: &mut [u8],
-    finishes: &mut [u32],
-) -> Result<Scheduled, Refusal> {
-    scheduled(
-        skv_schedule_later_bytes,
-        expected,
-        table,
-        list,
-        commands,
-        finishes,
-    )
-}
-
-/// Of either engine, and of a list whose entries are `T`: transactions, or bytes.
-pub(crate) fn scheduled<T>(
-    build: engines::Schedule<T>,
-    expected: u16,
-    table: &[u8],
-    list: &[T],
-    commands: &mut [u8],
-    finishes: &mut [u32],
-) -> Result<Scheduled, Refusal> {
-    let a = unsafe {
-        build(
-            expected,
-            table.as_ptr(),
-            table.len(),
-            list.as_ptr(),
-            list.len(),
-            commands.as_mut_ptr(),
-            commands.len(),
-            finishes.as_mut_ptr(),
-            finishes.len(),
-        )
-    };
-    a.told(Scheduled {
-        edition: a.edition,
-        commands: a.count,
-    })
+schedule! {
+    /// Refused with 1, 2, 10, and 3 to 6. A write finishes at its last data command, a read RL + B cycles after its own, a refresh RFC cycles
+    /// after its REF.
+    schedule(Transaction): skv_schedule;
+    /// The same from the transactions' bytes.
+    schedule_bytes(u8): skv_schedule_bytes;
+    /// The same from records of 8 bytes.
+    schedule_later_bytes(u8): skv_schedule_later_bytes;
+    /// As `schedule`, by the second engine.
+    schedule_straight(Transaction): skv_schedule_straight;
+    /// As `schedule_bytes`, by the second engine.
+    schedule_straight_bytes(u8): skv_schedule_straight_bytes;
+    /// As `schedule_later_bytes`, by the second engine.
+    schedule_straight_later_bytes(u8): skv_schedule_straight_later_bytes;
 }
 
 /// The rule is document 01's number; copies count from 1 and are 0 for a schedule; records count from 0.
@@ -145,29 +84,23 @@ pub enum Verdict {
     Broken { rule: u32, copy: u32, record: u32 },
 }
 
+impl Verdict {
+    pub(crate) fn of(rule: u32, copy: u32, record: u32) -> Verdict {
+        match rule {
+            0 => Verdict::Accepted,
+            _ => Verdict::Broken { rule, copy, record },
+        }
+    }
+}
+
 fn judged(a: VerdictAnswer) -> Result<(u32, Verdict), Refusal> {
-    let verdict = match a.rule {
-        0 => Verdict::Accepted,
-        rule => Verdict::Broken {
-            rule,
-            copy: a.copy,
-            record: a.record,
-        },
-    };
+    let verdict = Verdict::of(a.rule, a.copy, a.record);
     told(a.refused, a.position, a.edition, (a.edition, verdict))
 }
 
 /// Refused with 1, 2, 10 and 7. Answers the edition and the verdict.
 pub fn judge(expected: u16, table: &[u8], schedule: &[u8]) -> Result<(u32, Verdict), Refusal> {
-    judged(unsafe {
-        skv_judge(
-            expected,
-            table.as_ptr(),
-            table.len(),
-            schedule.as_ptr(),
-            schedule.len(),
-        )
-    })
+    judged(call!(skv_judge(expected, &table, &schedule)))
 }
 
 /// Refused with 1, 2, 10, 7 and 8. Answers the edition and the verdict on every number of copies.
@@ -177,21 +110,12 @@ pub fn judge_pattern(
     pattern: &[u8],
     length: u32,
 ) -> Result<(u32, Verdict), Refusal> {
-    judged(unsafe {
-        skv_judge_pattern(
-            expected,
-            table.as_ptr(),
-            table.len(),
-            pattern.as_ptr(),
-            pattern.len(),
-            length,
-        )
-    })
+    judged(call!(skv_judge_pattern(expected, &table, &pattern, length)))
 }
 
 /// Refused with 1, 2, 10 and 4. Answers the edition and the bound, which counts from last data command to last data command, or from the finish
 /// of a refresh, or from a later arrival.
 pub fn bound(expected: u16, table: &[u8], bi: u8, bc: u8) -> Result<(u32, u32), Refusal> {
-    let a = unsafe { skv_bound(expected, table.as_ptr(), table.len(), bi, bc) };
+    let a = call!(skv_bound(expected, &table, bi, bc));
     a.told((a.edition, a.count))
 }

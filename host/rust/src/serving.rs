@@ -18,58 +18,7 @@ pub enum Served {
     },
 }
 
-/// Refused with 1, 2, 10, 3, 4 and 7. Answers the edition, and whether the schedule serves the list.
-pub fn serves(
-    expected: u16,
-    table: &[u8],
-    list: &[Transaction],
-    schedule: &[u8],
-) -> Result<(u32, Served), Refusal> {
-    answered(skv_serves, expected, table, list, schedule)
-}
-
-/// The same from the transactions' bytes.
-pub fn serves_bytes(
-    expected: u16,
-    table: &[u8],
-    list: &[u8],
-    schedule: &[u8],
-) -> Result<(u32, Served), Refusal> {
-    answered(skv_serves_bytes, expected, table, list, schedule)
-}
-
-/// The same from records of 8 bytes.
-pub fn serves_later_bytes(
-    expected: u16,
-    table: &[u8],
-    list: &[u8],
-    schedule: &[u8],
-) -> Result<(u32, Served), Refusal> {
-    answered(skv_serves_later_bytes, expected, table, list, schedule)
-}
-
-/// Of a list whose entries are `T`: transactions, or bytes.
-#[rustfmt::skip]
-type Serves<T> = unsafe extern "C" fn(u16, *const u8, usize, *const T, usize, *const u8, usize) -> ServesAnswer;
-
-fn answered<T>(
-    call: Serves<T>,
-    expected: u16,
-    table: &[u8],
-    list: &[T],
-    schedule: &[u8],
-) -> Result<(u32, Served), Refusal> {
-    let a = unsafe {
-        call(
-            expected,
-            table.as_ptr(),
-            table.len(),
-            list.as_ptr(),
-            list.len(),
-            schedule.as_ptr(),
-            schedule.len(),
-        )
-    };
+fn answered(a: ServesAnswer) -> Result<(u32, Served), Refusal> {
     let served = match a {
         ServesAnswer { serves: 1, .. } => Served::Serves,
         ServesAnswer { rule: 0, .. } => Served::AtFault {
@@ -78,4 +27,28 @@ fn answered<T>(
         ServesAnswer { rule, record, .. } => Served::Broken { rule, record },
     };
     told(a.refused, a.position, a.edition, (a.edition, served))
+}
+
+/// A call for each form of the list, whose entries are transactions or bytes.
+macro_rules! serve {
+    ($($(#[$said:meta])* $name:ident($entry:ty): $call:ident;)*) => {$(
+        $(#[$said])*
+        pub fn $name(
+            expected: u16,
+            table: &[u8],
+            list: &[$entry],
+            schedule: &[u8],
+        ) -> Result<(u32, Served), Refusal> {
+            answered(call!($call(expected, &table, &list, &schedule)))
+        }
+    )*};
+}
+
+serve! {
+    /// Refused with 1, 2, 10, 3, 4 and 7. Answers the edition, and whether the schedule serves the list.
+    serves(Transaction): skv_serves;
+    /// The same from the transactions' bytes.
+    serves_bytes(u8): skv_serves_bytes;
+    /// The same from records of 8 bytes.
+    serves_later_bytes(u8): skv_serves_later_bytes;
 }

@@ -1,6 +1,24 @@
 //! Answers, lists and controllers as the program writes them.
 
+use std::fmt::{Display, Write};
+
 use crate::desk::*;
+
+/// What is written so far.
+#[derive(Default)]
+pub struct Lines(pub String);
+
+impl Lines {
+    pub fn line<T: Display>(&mut self, name: &str, parts: &[T]) {
+        let parts: String = parts.iter().map(|p| format!(" {p}")).collect();
+        writeln!(self.0, "{name}{parts}").expect("a string takes it");
+    }
+
+    /// Of a call that writes a record.
+    pub fn written(&mut self, name: &str, answer: Result<u16, Refusal>, room: &[u8]) {
+        self.line(name, &[host(answer.map(|e| (e, 0, 0))), hex(room)]);
+    }
+}
 
 /// An edition and two numbers.
 pub type Told = Result<(u16, u32, u32), Refusal>;

@@ -1,8 +1,8 @@
-//! The calls that start a controller and go on with it.
+//! The calls that start a controller and go on with it, by either engine as those that build a schedule.
 
-use super::{admit, write_commands, Controller, Refusal, Transaction};
-use crate::records::{EDITION, LATER, PLAIN};
-use crate::scheduler::{self, Engine};
+use super::admit::{admit, write_commands, Handed};
+use crate::records::{Refusal, Transaction, EDITION};
+use crate::scheduler::{self, Engine, State as Controller};
 
 /// Numbers 1, 2 and 10. Answers the edition, and hands over a fresh controller: of edition 0 when it refuses.
 pub fn start(expected: u16, table: &[u8]) -> (Result<u16, Refusal>, Controller) {
@@ -20,39 +20,18 @@ pub struct Ran {
     pub cycles: u32,
 }
 
-/// Numbers 1, 2, 10, 3, 4, 5, 9 and 12. "The host lends its running controller and has it stepped where it lies"; "each run is lent the
-/// whole list so far".
-pub fn run(
-    controller: &mut Controller,
-    expected: u16,
-    table: &[u8],
-    list: &[Transaction],
-    count: u32,
-    room: &mut [u8],
-) -> Result<Ran, Refusal> {
-    of_list(
-        Engine::Plain,
-        controller,
-        expected,
-        table,
-        list,
-        count,
-        room,
-    )
-}
-
-/// By either engine.
-pub(super) fn of_list(
+fn ran(
     engine: Engine,
     controller: &mut Controller,
     expected: u16,
     table: &[u8],
-    list: &[Transaction],
+    list: Handed,
     count: u32,
     room: &mut [u8],
 ) -> Result<Ran, Refusal> {
     let table = admit(expected, table)?;
-    let run = scheduler::run(engine, controller, &table, list, count, room.len())?;
+    let list = list.list(&table)?;
+    let run = scheduler::run(engine, controller, &table, &list, count, room.len())?;
     write_commands(&run.commands, room);
     *controller = run.state;
     Ok(Ran {
@@ -62,64 +41,38 @@ pub(super) fn of_list(
     })
 }
 
-/// By either engine, of records of so many bytes.
-pub(super) fn of_bytes(
-    (engine, of_record): (Engine, usize),
-    controller: &mut Controller,
-    expected: u16,
-    table: &[u8],
-    bytes: &[u8],
-    count: u32,
-    room: &mut [u8],
-) -> Result<Ran, Refusal> {
-    let list = scheduler::decode(&admit(expected, table)?, bytes, of_record)?;
-    of_list(engine, controller, expected, table, &list, count, room)
+/// A call for each engine and each form of the list, of a count of cycles that is handed in or stands here.
+macro_rules! run {
+    ($($(#[$said:meta])* $name:ident: $engine:ident, $form:ident($list:ty), ($($count:ident)?) $cycles:expr;)*) => {$(
+        $(#[$said])*
+        pub fn $name(
+            controller: &mut Controller,
+            expected: u16,
+            table: &[u8],
+            list: $list,
+            $($count: u32,)?
+            room: &mut [u8],
+        ) -> Result<Ran, Refusal> {
+            let list = Handed::$form(list);
+            ran(Engine::$engine, controller, expected, table, list, $cycles, room)
+        }
+    )*};
 }
 
-/// The same from the transactions' bytes.
-pub fn run_bytes(
-    controller: &mut Controller,
-    expected: u16,
-    table: &[u8],
-    bytes: &[u8],
-    count: u32,
-    room: &mut [u8],
-) -> Result<Ran, Refusal> {
-    let of = (Engine::Plain, PLAIN);
-    of_bytes(of, controller, expected, table, bytes, count, room)
-}
-
-/// The same from records of 8 bytes.
-pub fn run_later_bytes(
-    controller: &mut Controller,
-    expected: u16,
-    table: &[u8],
-    bytes: &[u8],
-    count: u32,
-    room: &mut [u8],
-) -> Result<Ran, Refusal> {
-    let of = (Engine::Plain, LATER);
-    of_bytes(of, controller, expected, table, bytes, count, room)
-}
-
-/// One cycle.
-pub fn step(
-    controller: &mut Controller,
-    expected: u16,
-    table: &[u8],
-    list: &[Transaction],
-    room: &mut [u8],
-) -> Result<Ran, Refusal> {
-    run(controller, expected, table, list, 1, room)
-}
-
-/// The same from the transactions' bytes.
-pub fn step_bytes(
-    controller: &mut Controller,
-    expected: u16,
-    table: &[u8],
-    bytes: &[u8],
-    room: &mut [u8],
-) -> Result<Ran, Refusal> {
-    run_bytes(controller, expected, table, bytes, 1, room)
+run! {
+    /// Numbers 1, 2, 10, 3, 4, 5, 9 and 12. "The host lends its running controller and has it stepped where it lies"; "each run is lent the
+    /// whole list so far".
+    run: Plain, List(&[Transaction]), (count) count;
+    /// The same from the transactions' bytes.
+    run_bytes: Plain, Four(&[u8]), (count) count;
+    /// The same from records of 8 bytes.
+    run_later_bytes: Plain, Eight(&[u8]), (count) count;
+    /// One cycle.
+    step: Plain, List(&[Transaction]), () 1;
+    /// The same from the transactions' bytes.
+    step_bytes: Plain, Four(&[u8]), () 1;
+    run_straight: Straight, List(&[Transaction]), (count) count;
+    run_straight_bytes: Straight, Four(&[u8]), (count) count;
+    run_straight_later_bytes: Straight, Eight(&[u8]), (count) count;
+    step_straight: Straight, List(&[Transaction]), () 1;
 }

@@ -1,7 +1,8 @@
-//! The calls that build a schedule.
+//! The calls that build a schedule, by either engine. One of the second's must answer and leave the same as the plain one of its name "for every
+//! input, refusals included".
 
-use super::{admit, write_commands, Refusal, Transaction};
-use crate::records::{EDITION, LATER, PLAIN};
+use super::admit::{admit, write_commands, Handed};
+use crate::records::{Refusal, Transaction, EDITION};
 use crate::scheduler::{self, Engine};
 
 /// What `schedule` answers: how many commands were written.
@@ -11,64 +12,17 @@ pub struct Scheduled {
     pub commands: u32,
 }
 
-/// Numbers 1, 2, 10, and 3 to 6. "Success writes each result from its buffer's start and leaves all beyond as it stood."
-pub fn schedule(
-    expected: u16,
-    table: &[u8],
-    list: &[Transaction],
-    room: &mut [u8],
-    finishes: &mut [u32],
-) -> Result<Scheduled, Refusal> {
-    of_list(Engine::Plain, expected, table, list, room, finishes)
-}
-
-/// The same from the transactions' bytes.
-pub fn schedule_bytes(
-    expected: u16,
-    table: &[u8],
-    bytes: &[u8],
-    room: &mut [u8],
-    finishes: &mut [u32],
-) -> Result<Scheduled, Refusal> {
-    of_bytes(
-        (Engine::Plain, PLAIN),
-        expected,
-        table,
-        bytes,
-        room,
-        finishes,
-    )
-}
-
-/// The same from records of 8 bytes.
-pub fn schedule_later_bytes(
-    expected: u16,
-    table: &[u8],
-    bytes: &[u8],
-    room: &mut [u8],
-    finishes: &mut [u32],
-) -> Result<Scheduled, Refusal> {
-    of_bytes(
-        (Engine::Plain, LATER),
-        expected,
-        table,
-        bytes,
-        room,
-        finishes,
-    )
-}
-
-/// By either engine.
-pub(super) fn of_list(
+fn scheduled(
     engine: Engine,
     expected: u16,
     table: &[u8],
-    list: &[Transaction],
+    list: Handed,
     room: &mut [u8],
     finishes: &mut [u32],
 ) -> Result<Scheduled, Refusal> {
     let table = admit(expected, table)?;
-    let built = scheduler::build(engine, &table, list, room.len(), finishes.len())?;
+    let list = list.list(&table)?;
+    let built = scheduler::build(engine, &table, &list, room.len(), finishes.len())?;
     write_commands(&built.commands, room);
     finishes[..list.len()].copy_from_slice(&built.finishes);
     Ok(Scheduled {
@@ -77,15 +31,31 @@ pub(super) fn of_list(
     })
 }
 
-/// By either engine, of records of so many bytes.
-pub(super) fn of_bytes(
-    (engine, of_record): (Engine, usize),
-    expected: u16,
-    table: &[u8],
-    bytes: &[u8],
-    room: &mut [u8],
-    finishes: &mut [u32],
-) -> Result<Scheduled, Refusal> {
-    let list = scheduler::decode(&admit(expected, table)?, bytes, of_record)?;
-    of_list(engine, expected, table, &list, room, finishes)
+/// A call for each engine and each form of the list.
+macro_rules! schedule {
+    ($($(#[$said:meta])* $name:ident: $engine:ident, $form:ident($list:ty);)*) => {$(
+        $(#[$said])*
+        pub fn $name(
+            expected: u16,
+            table: &[u8],
+            list: $list,
+            room: &mut [u8],
+            finishes: &mut [u32],
+        ) -> Result<Scheduled, Refusal> {
+            let list = Handed::$form(list);
+            scheduled(Engine::$engine, expected, table, list, room, finishes)
+        }
+    )*};
+}
+
+schedule! {
+    /// Numbers 1, 2, 10, and 3 to 6. "Success writes each result from its buffer's start and leaves all beyond as it stood."
+    schedule: Plain, List(&[Transaction]);
+    /// The same from the transactions' bytes.
+    schedule_bytes: Plain, Four(&[u8]);
+    /// The same from records of 8 bytes.
+    schedule_later_bytes: Plain, Eight(&[u8]);
+    schedule_straight: Straight, List(&[Transaction]);
+    schedule_straight_bytes: Straight, Four(&[u8]);
+    schedule_straight_later_bytes: Straight, Eight(&[u8]);
 }

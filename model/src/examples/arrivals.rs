@@ -2,13 +2,20 @@
 
 use std::fmt::Write;
 
-use super::text::{printed_text, table_text, FINISHES};
+use super::text::{printed_text, Head, FINISHES};
 use crate::desk::{run_later_bytes, start, Transaction};
 use crate::house::*;
 use crate::listing::{command_lines, listing, schedule_lines};
 use crate::records::LATER;
 
 pub const NAME: &str = "arrivals";
+
+fn head() -> Head {
+    Head::of_a(
+        NAME,
+        "three reads, of which the second arrives at cycle 8 and the third at 40",
+    )
+}
 
 /// The second arrives while the first is at work, the third when both are done.
 fn list() -> Vec<[u8; 8]> {
@@ -20,12 +27,12 @@ const PIECES: [(usize, u32); 3] = [(2, 4), (2, 1000), (3, 1000)];
 
 /// The file itself.
 pub fn bytes() -> Vec<u8> {
-    [&[7, 0][..], &bytes_of(&TABLE_A), &list().concat()].concat()
+    head().bytes(&list().concat())
 }
 
 pub fn text() -> String {
     let (bytes, list) = (bytes(), list());
-    let (size, last) = (bytes.len(), bytes.len() - 1);
+    let last = bytes.len() - 1;
     let table = &bytes[2..34];
     let built = schedule_lines(LATER, 7, table, &bytes[34..], room_for(&list), list.len());
     let printed = listing(&bytes);
@@ -47,10 +54,7 @@ pub fn text() -> String {
         )
         .expect("a string takes it");
     }
-    let parts = [
-        format!("{NAME}.bin, {size} bytes: three reads, of which the second arrives at cycle 8 and the third at 40.\n"),
-        "Bytes 0 and 1, the expected edition, low byte first: 7.\n".to_string(),
-        table_text("house table A", &TABLE_A),
+    let rest = [
         of_list,
         format!(
             "The calls that build a schedule of such records, `schedule_later_bytes` and in C `skv_schedule_later_bytes`, give:\n\n{}",
@@ -66,7 +70,7 @@ pub fn text() -> String {
             printed_text(&printed)
         ),
     ];
-    parts.join("\n")
+    head().text(bytes.len(), &rest)
 }
 
 fn in_pieces(table: &[u8], list: &[[u8; 8]]) -> String {

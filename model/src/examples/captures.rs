@@ -2,21 +2,14 @@
 
 use std::fmt::Write;
 
-use super::text::{printed_text, table_text};
+use super::text::{printed_text, Head};
 use crate::capture::{read_capture_record, true_cycles};
-use crate::house::*;
-use crate::records::Table;
+use crate::rules::NAMES;
 use crate::sent::{record, tick_record as tick};
 use crate::trace::trace;
 
 pub struct Captured {
-    pub name: &'static str,
-    /// What it is there for.
-    title: &'static str,
-    expected: u16,
-    /// The table's name, and what sets it apart.
-    table_title: &'static str,
-    table: Table,
+    pub head: Head,
     capture: Vec<[u8; 4]>,
     /// What stands under the text that the trace prints.
     last: &'static str,
@@ -25,11 +18,10 @@ pub struct Captured {
 pub fn all() -> Vec<Captured> {
     vec![
         Captured {
-            name: "trace-wrap",
-            title: "a read, a refresh, writes and a read; the stamp runs round twice, and ticks stand between",
-            expected: 70,
-            table_title: "house table A with edition 70 and RFC 50",
-            table: REFRESHED,
+            head: Head::of_refreshed(
+                "trace-wrap",
+                "a read, a refresh, writes and a read; the stamp runs round twice, and ticks stand between",
+            ),
             capture: vec![
                 tick(60_000),
                 record(65_530, 0, 0),
@@ -46,11 +38,10 @@ pub fn all() -> Vec<Captured> {
             last: "Ticks are no commands: eight of the eleven records are written.\n",
         },
         Captured {
-            name: "trace-broken",
-            title: "a read 9 cycles after its ACT, where RCD is 10, and a kind that has no name",
-            expected: 7,
-            table_title: "house table A",
-            table: TABLE_A,
+            head: Head::of_a(
+                "trace-broken",
+                "a read 9 cycles after its ACT, where RCD is 10, and a kind that has no name",
+            ),
             capture: vec![record(65_533, 0, 3), record(6, 2, 3), record(64, 255, 1)],
             last: "The verdict counts the commands from 0, and names the first that breaks a rule. A kind that has no name is printed as its number.\n",
         },
@@ -60,32 +51,17 @@ pub fn all() -> Vec<Captured> {
 impl Captured {
     /// The file itself.
     pub fn bytes(&self) -> Vec<u8> {
-        let expected = self.expected.to_le_bytes();
-        [
-            &expected[..],
-            &bytes_of(&self.table),
-            &self.capture.concat(),
-        ]
-        .concat()
+        self.head.bytes(&self.capture.concat())
     }
 
     pub fn text(&self) -> String {
-        let (name, title, size) = (self.name, self.title, self.bytes().len());
-        let parts = [
-            format!("{name}.bin, {size} bytes: {title}.\n"),
-            format!(
-                "Bytes 0 and 1, the expected edition, low byte first: {}.\n",
-                self.expected
-            ),
-            table_text(self.table_title, &self.table),
+        let bytes = self.bytes();
+        let rest = [
             self.capture_text(),
-            format!(
-                "The trace prints:\n\n{}",
-                printed_text(&trace(&self.bytes()))
-            ),
+            format!("The trace prints:\n\n{}", printed_text(&trace(&bytes))),
             self.last.to_string(),
         ];
-        parts.join("\n")
+        self.head.text(bytes.len(), &rest)
     }
 
     fn capture_text(&self) -> String {
@@ -104,8 +80,7 @@ impl Captured {
             "Bytes 34 to {end}, the capture, 4 bytes a record: {count}. A stamp has 16 bits, low byte first, and runs round from 65535 to 0.\n\n"
         );
         for (at, (r, cycle)) in records.iter().zip(cycles).enumerate() {
-            let names = ["ACT", "RD", "RDA", "WR", "WRA", "REF"];
-            let word = match names.get(usize::from(r.kind)) {
+            let word = match NAMES.get(usize::from(r.kind)) {
                 Some(name) => name,
                 None if r.is_tick() => "a tick",
                 None => "has no name",
@@ -123,15 +98,13 @@ impl Captured {
 
 #[cfg(test)]
 mod tests {
+    use super::super::text::assert_stored;
     use super::*;
 
     /// The trace program is run on the first.
     #[test]
     fn the_first_is_stored_with_the_program() {
-        let folder = std::path::Path::new(env!("CARGO_MANIFEST_DIR")).join("../crates/trace");
-        let stored = |name| std::fs::read(folder.join(name)).expect("it's stored");
         let bytes = all()[0].bytes();
-        assert!(stored("stdin") == bytes);
-        assert!(stored("stdout") == trace(&bytes).as_bytes());
+        assert_stored("trace", &bytes, &trace(&bytes));
     }
 }

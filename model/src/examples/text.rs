@@ -2,9 +2,7 @@
 
 use std::fmt::Write;
 
-use super::Example;
-use crate::house::REFRESH_BYTES;
-use crate::listing::listing;
+use crate::house::{bytes_of, REFRESHED, TABLE_A};
 use crate::records::Table;
 
 /// Of a listing with more lines than this, only so many from each end stand in the text.
@@ -13,9 +11,6 @@ const FROM_EACH_END: usize = 12;
 
 /// Stands under a listing that has finishing cycles.
 pub const FINISHES: &str = "A write finishes at its last data command, a read RL + B cycles later, when its last word has come back.\n";
-
-/// And under one that has a refresh too.
-const REFRESH_FINISHES: &str = "A refresh finishes RFC cycles after its REF.\n";
 
 /// Each number of the table and what document 01 has it for.
 const FIELDS: [(&str, &str); 16] = [
@@ -43,55 +38,58 @@ const FIELDS: [(&str, &str); 16] = [
     ),
 ];
 
-impl Example {
-    pub fn text(&self) -> String {
-        let (name, title, size) = (self.name, self.title, self.bytes().len());
-        let expected = self.expected;
-        let printed = listing(&self.bytes());
-        let mut parts = vec![
+/// What every example begins with.
+pub struct Head {
+    pub name: &'static str,
+    /// What it is there for.
+    pub title: &'static str,
+    pub expected: u16,
+    /// The table's name, and what sets it apart.
+    pub table_title: &'static str,
+    pub table: Table,
+}
+
+impl Head {
+    /// Of house table A, as it is expected.
+    pub fn of_a(name: &'static str, title: &'static str) -> Head {
+        Head {
+            name,
+            title,
+            expected: 7,
+            table_title: "house table A",
+            table: TABLE_A,
+        }
+    }
+
+    /// Of the table that has a refresh.
+    pub fn of_refreshed(name: &'static str, title: &'static str) -> Head {
+        Head {
+            expected: 70,
+            table_title: "house table A with edition 70 and RFC 50",
+            table: REFRESHED,
+            ..Head::of_a(name, title)
+        }
+    }
+
+    /// The file itself, with what stands behind the table.
+    pub fn bytes(&self, rest: &[u8]) -> Vec<u8> {
+        let expected = self.expected.to_le_bytes();
+        [&expected[..], &bytes_of(&self.table), rest].concat()
+    }
+
+    /// The text beside a file of so many bytes, with what it says after the table.
+    pub fn text(&self, size: usize, rest: &[String]) -> String {
+        let (name, title, expected) = (self.name, self.title, self.expected);
+        let head = [
             format!("{name}.bin, {size} bytes: {title}.\n"),
             format!("Bytes 0 and 1, the expected edition, low byte first: {expected}.\n"),
             table_text(self.table_title, &self.table),
-            self.list_text(),
-            format!("The listing prints:\n\n{}", printed_text(&printed)),
         ];
-        if printed.contains("finish") {
-            let refreshes = self.list.contains(&REFRESH_BYTES);
-            let of_refreshes = if refreshes { REFRESH_FINISHES } else { "" };
-            parts.push(FINISHES.to_string() + of_refreshes);
-        }
-        parts.join("\n")
-    }
-
-    /// Neighbours that are alike stand in one line.
-    fn list_text(&self) -> String {
-        let count = self.list.len();
-        let end = self.bytes().len() - 1;
-        let mut out = format!("Bytes 34 to {end}, the transactions, 4 bytes each: {count}.\n\n");
-        let mut first = 0;
-        while first < count {
-            let rest = &self.list[first..];
-            let alike = rest.iter().take_while(|x| **x == rest[0]).count();
-            let last = first + alike - 1;
-            let which = if first == last {
-                format!("transaction {first}")
-            } else {
-                format!("transactions {first} to {last}, each")
-            };
-            let [kind, start, bi, bc] = rest[0];
-            let word = ["read", "write", "refresh"][usize::from(kind)];
-            writeln!(
-                out,
-                "    {which}: type {kind} ({word}), start bank {start}, BI {bi}, BC {bc}"
-            )
-            .expect("a string takes it");
-            first += alike;
-        }
-        out
+        [&head, rest].concat().join("\n")
     }
 }
 
-pub fn table_text(title: &str, table: &Table) -> String {
+fn table_text(title: &str, table: &Table) -> String {
     let mut out =
         format!("Bytes 2 to 33, the table ({title}): 16-bit numbers, low byte first.\n\n");
     for ((field, words), number) in FIELDS.iter().zip(table) {
@@ -109,4 +107,13 @@ pub fn printed_text(printed: &str) -> String {
     let (between, end) = rest.split_at(rest.len() - FROM_EACH_END);
     let left_out = format!("    (and {} lines between)\n", between.len());
     start.concat() + &left_out + &end.concat()
+}
+
+/// A program is run on an example, and its input and output are stored with it.
+#[cfg(test)]
+pub fn assert_stored(program: &str, input: &[u8], output: &str) {
+    let crates = std::path::Path::new(env!("CARGO_MANIFEST_DIR")).join("../crates");
+    let stored = |file| std::fs::read(crates.join(program).join(file)).expect("it's stored");
+    assert!(stored("stdin") == input, "{program}: stdin");
+    assert!(stored("stdout") == output.as_bytes(), "{program}: stdout");
 }

@@ -1,7 +1,7 @@
 //! Tables of either size: the edges of each number, sizes one off, and buffers that are too small or too great.
 
-use super::cases::Cases;
-use super::*;
+use super::put::Cases;
+use super::told::*;
 use crate::house::{group_tables as house_group_tables, *};
 use crate::records::{B, BANKS, CCD, EDITION, RFC};
 

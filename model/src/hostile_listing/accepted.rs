@@ -1,8 +1,9 @@
 //! Lists of every length under every table, and schedules that just fit in the room or just don't.
 
-use super::{Cases, EXAMPLE_3, EXAMPLE_5};
+use super::lists::{any_list, EXAMPLE_3, EXAMPLE_5};
 use crate::examples;
 use crate::house::*;
+use crate::inputs::Cases;
 use crate::listing::ROOM;
 use crate::records::{Table, B, BANKS, CCD, EDITION, RFC};
 
@@ -17,26 +18,6 @@ pub fn put(cases: &mut Cases) {
     most(cases, &mut numbers);
     rooms(cases);
     any(cases, &mut numbers);
-}
-
-/// A list of so many transactions that the table accepts, refreshes among them where it has any.
-pub fn any_list(
-    table: &[u16],
-    size: usize,
-    most: (usize, usize),
-    numbers: &mut Numbers,
-) -> Vec<[u8; 4]> {
-    let banks = usize::from(table[BANKS]);
-    let mut one = || {
-        if table[RFC] != 0 && numbers.below(5) == 0 {
-            return REFRESH_BYTES;
-        }
-        let bi = 1 + numbers.below(banks.min(most.0));
-        let start = numbers.below(banks);
-        let bc = 1 + numbers.below(most.1);
-        [numbers.byte() % 2, start as u8, bi as u8, bc as u8]
-    };
-    (0..size).map(|_| one()).collect()
 }
 
 fn lists(cases: &mut Cases, numbers: &mut Numbers) {

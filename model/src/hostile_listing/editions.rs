@@ -1,7 +1,8 @@
 //! Fewer than two bytes, and expected editions that are not the table's.
 
-use super::{Cases, EXAMPLE_3, EXAMPLE_5};
+use super::lists::{EXAMPLE_3, EXAMPLE_5};
 use crate::house::*;
+use crate::inputs::Cases;
 use crate::records::{BANKS, CCD, EDITION, RFC};
 
 pub fn put(cases: &mut Cases) {

@@ -1,12 +1,10 @@
 //! Refreshes in every place of a list, as many as there can be, faulty ones, and tables that have none.
 
-use super::accepted::any_list;
-use super::Cases;
+use super::lists::any_list;
 use crate::house::*;
+use crate::inputs::Cases;
 use crate::records::{BANKS, RFC};
 
-const READ: [u8; 4] = [0, 0, 1, 1];
-const WRITE: [u8; 4] = [1, 0, 1, 1];
 const REFRESH: [u8; 4] = REFRESH_BYTES;
 
 pub fn put(cases: &mut Cases) {

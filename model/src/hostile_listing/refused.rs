@@ -1,7 +1,8 @@
 //! Inputs cut short, numbers one off, bytes flipped, lists too long, and bytes of no meaning.
 
-use super::{Cases, EXAMPLE_3, EXAMPLE_5};
+use super::lists::{EXAMPLE_3, EXAMPLE_5};
 use crate::house::*;
+use crate::inputs::Cases;
 use crate::records::{B, BANKS, CCD, EDITION, RFC};
 
 pub fn put(cases: &mut Cases) {

@@ -1,12 +1,11 @@
 //! Captures that are read: of schedules, with ticks and wraps, of every kind, up to the last cycle.
 
-use super::later;
 use crate::desk;
 use crate::hostile_listing::any_list;
 use crate::house::*;
 use crate::inputs::Cases;
 use crate::records::{BANKS, EDITION};
-use crate::sent::{capture, of_schedule, record, tick_record as tick, with_ticks, Sent};
+use crate::sent::{capture, later, of_schedule, record, tick_record as tick, with_ticks, Sent};
 use crate::verdicts::schedules;
 
 pub fn put(cases: &mut Cases) {

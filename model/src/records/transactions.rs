@@ -1,6 +1,7 @@
 //! The transaction, of 4 bytes or of 8: "the 4-byte record is arrival 0".
 
-use super::{refused, GroupTable, Refusal, BANKS, RFC};
+use super::refusal::{refused, Refusal};
+use super::tables::{GroupTable, BANKS, RFC};
 
 #[derive(Debug, Clone, Copy, PartialEq, Eq)]
 pub struct Transaction {

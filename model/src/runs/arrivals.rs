@@ -1,11 +1,10 @@
 //! Builds of transactions of 8 bytes: "neither queue sees a transaction before its arrival".
 
-use super::cases::{any_list, Cases};
+use super::lists::{any_arrivals, any_list};
+use super::put::Cases;
 use crate::house::*;
 use crate::records::{BANKS, CCD, EDITION, LATEST};
 
-const READ: [u8; 4] = [0, 0, 1, 1];
-const WRITE: [u8; 4] = [1, 0, 1, 1];
 const REFRESH: [u8; 4] = REFRESH_BYTES;
 
 pub fn arrivals(cases: &mut Cases) {
@@ -114,15 +113,4 @@ fn any(cases: &mut Cases, numbers: &mut Numbers) {
         let list = any_list(&table, 4, numbers);
         cases.build_later(&table, &arriving(&list, &any_arrivals(4, numbers)));
     }
-}
-
-/// So many that never descend.
-pub fn any_arrivals(size: usize, numbers: &mut Numbers) -> Vec<u32> {
-    let mut arrival = 0;
-    let next = |_| {
-        let most = numbers.of(&[1, 1, 4, 30, 200]);
-        arrival += numbers.below(most) as u32;
-        arrival
-    };
-    (0..size).map(next).collect()
 }

@@ -4,11 +4,12 @@
 use super::arrivals::arrivals;
 use super::editions::editions;
 use super::groups::groups;
+use super::lists::{any_list, ran};
 use super::pieces::pieces;
-pub use super::put::Cases;
+use super::put::Cases;
 use super::refreshes::refreshes;
 use super::states::*;
-use super::*;
+use crate::desk::Controller;
 use crate::house::*;
 use crate::records::{BANKS, CCD, EDITION, RFC};
 
@@ -56,21 +57,6 @@ fn worked(cases: &mut Cases) {
     for (bi, bc) in [(1, 1), (2, 1), (1, 4), (4, 2), (5, 1), (8, 1)] {
         cases.bound(&TABLE_A, bi, bc);
     }
-}
-
-/// A list of so many transactions, of few banks and bursts each, with refreshes where the table has them.
-pub fn any_list(table: &[u16], size: usize, numbers: &mut Numbers) -> Vec<[u8; 4]> {
-    let banks = usize::from(table[BANKS]);
-    let mut one = || {
-        if table[RFC] != 0 && numbers.below(4) == 0 {
-            return REFRESH_BYTES;
-        }
-        let bi = 1 + numbers.below(banks.min(5));
-        let start = numbers.below(banks);
-        let kind = numbers.byte() % 2;
-        [kind, start as u8, bi as u8, 1 + numbers.byte() % 3]
-    };
-    (0..size).map(|_| one()).collect()
 }
 
 fn builds(cases: &mut Cases, numbers: &mut Numbers) {

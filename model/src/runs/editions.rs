@@ -1,11 +1,9 @@
 //! "If they differ it's refused as number 10 .. straight after number 2": what goes before it, and what after.
 
-use super::cases::Cases;
-use super::*;
-use crate::house::*;
-use crate::records::{BANKS, CCD, EDITION, RFC};
-
-const READ: [u8; 4] = [0, 0, 1, 1];
+use super::put::Cases;
+use crate::desk::Controller;
+use crate::house::{self, *};
+use crate::records::{CCD, EDITION, RFC};
 
 /// A run's case is long, so it's tried with so many of the pairs.
 const RUNS: usize = 3;
@@ -17,15 +15,13 @@ pub fn editions(cases: &mut Cases) {
     states(cases);
 }
 
-/// Nothing else is wrong. An edition whose low byte is 0 can be expected.
+/// Nothing else is wrong.
 fn others(cases: &mut Cases) {
-    for (edition, expected) in OTHER_EDITIONS.into_iter().chain([(256, 256)]) {
-        let table = with(&[(EDITION, edition)]);
+    for (table, expected) in other_editions() {
         cases.expecting(expected, |cases| cases.build(&table, 16, 1, &READ));
         cases.expecting(expected, |cases| cases.bound(&table, 1, 1));
     }
-    for (edition, expected) in OTHER_EDITIONS.into_iter().take(RUNS) {
-        let table = with(&[(EDITION, edition)]);
+    for (table, expected) in other_editions().take(RUNS) {
         let fresh = Controller::fresh(&table);
         cases.expecting(expected, |cases| cases.run(&table, 9, 16, &fresh, &READ));
     }
@@ -33,20 +29,15 @@ fn others(cases: &mut Cases) {
 
 /// Number 2 goes before it, and "expected 0 always differs": no table of edition 0 is accepted.
 fn refused_tables(cases: &mut Cases) {
-    for (table, expected) in [
-        (with(&[(RFC, 1024)]), 8),
-        (with(&[(RFC, 1024), (EDITION, 0)]), 0),
-        (with(&[(CCD, 1)]), 8),
-        (with(&[(BANKS, 17)]), 0),
-        (with(&[(EDITION, 0)]), 7),
-    ] {
+    let edition_0 = with(&[(EDITION, 0)]);
+    for (table, expected) in house::refused_tables().into_iter().chain([(edition_0, 7)]) {
         cases.expecting(expected, |cases| cases.build(&table, 0, 0, &[1]));
         cases.expecting(expected, |cases| cases.bound(&table, 0, 0));
     }
     for (table, expected) in [
         (with(&[(RFC, 1024)]), 8),
         (with(&[(CCD, 1)]), 8),
-        (with(&[(EDITION, 0)]), 0),
+        (edition_0, 0),
     ] {
         let fresh = Controller::fresh(&table);
         cases.expecting(expected, |cases| cases.run(&table, 1, 0, &fresh, &[1]));

@@ -1,12 +1,10 @@
 //! Builds, bounds and runs under tables of 40 bytes, and states that tell each group's latest ACT, RD and WR.
 
-use super::cases::{any_list, Cases};
-use super::states::ran;
-use super::*;
+use super::lists::{any_list, ran};
+use super::put::Cases;
+use crate::desk::{Controller, Group, NEVER};
 use crate::house::*;
 use crate::records::{BANKS, RFC};
-
-const READ: [u8; 4] = [0, 0, 1, 1];
 
 pub fn groups(cases: &mut Cases) {
     let mut numbers = Numbers(19);

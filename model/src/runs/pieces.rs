@@ -1,13 +1,10 @@
 //! Runs of transactions of 8 bytes: "Requests may come in pieces: each run is lent the whole list so far".
 
-use super::arrivals::any_arrivals;
-use super::cases::{any_list, Cases};
-use super::*;
+use super::lists::{any_arrivals, any_list};
+use super::put::Cases;
+use crate::desk::{run_later_bytes, Controller, Transaction};
 use crate::house::*;
 use crate::records::{CCD, EDITION, LATEST};
-
-const READ: [u8; 4] = [0, 0, 1, 1];
-const WRITE: [u8; 4] = [1, 0, 1, 1];
 
 pub fn pieces(cases: &mut Cases) {
     cuts(cases);

@@ -1,9 +1,11 @@
 //! Cases, one behind the other.
 
-use super::states::bytes_of_state;
-use super::*;
+use super::controller;
+use super::told::{BOUND, BUILD, BUILD_LATER, RUN, RUN_LATER};
+use crate::desk::Controller;
 use crate::house::{bytes_of, room_for};
 use crate::records::EDITION;
+use crate::stored::size_of;
 
 #[derive(Default)]
 pub struct Cases(pub Vec<u8>);
@@ -67,7 +69,7 @@ impl Cases {
         self.0.extend(count.to_le_bytes());
         self.0.extend((room as u16).to_le_bytes());
         self.0.extend(size_of(list));
-        self.0.extend(bytes_of_state(state));
+        self.0.extend(controller::bytes_of(state));
         self.0.extend(bytes_of(table));
         self.0.extend_from_slice(list);
     }
@@ -77,9 +79,4 @@ impl Cases {
         self.0.extend([bi, bc]);
         self.0.extend(bytes_of(table));
     }
-}
-
-fn size_of(list: &[u8]) -> [u8; 2] {
-    let n: u16 = list.len().try_into().expect("a list has a 16-bit size");
-    n.to_le_bytes()
 }

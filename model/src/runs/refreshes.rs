@@ -1,12 +1,10 @@
 //! Builds and runs with refreshes, and states that tell a last REF.
 
-use super::cases::Cases;
-use super::*;
+use super::put::Cases;
+use crate::desk::{Controller, NEVER};
 use crate::house::*;
 use crate::records::{BANKS, RFC};
 
-const READ: [u8; 4] = [0, 0, 1, 1];
-const WRITE: [u8; 4] = [1, 0, 1, 1];
 const REFRESH: [u8; 4] = REFRESH_BYTES;
 
 pub fn refreshes(cases: &mut Cases) {

@@ -1,27 +1,10 @@
 //! Runs from states that no run has left.
 
-use super::cases::{any_list, Cases};
-use super::*;
+use super::lists::{any_list, ran};
+use super::put::Cases;
+use crate::desk::{Bank, Controller, NEVER};
 use crate::house::*;
-use crate::listing::commands;
-use crate::records::{BANKS, EDITION};
-
-pub fn bytes_of_state(s: &Controller) -> Vec<u8> {
-    let four = |n: u32| n.to_le_bytes();
-    let edition = u16::try_from(s.edition).expect("a case has 16 bits of it");
-    let mut bytes = edition.to_le_bytes().to_vec();
-    bytes.extend([s.cycle, s.acts, s.datas].into_iter().flat_map(four));
-    for bank in &s.banks {
-        bytes.push(u8::try_from(bank.opened).expect("a case has 8 bits of it"));
-        bytes.extend([bank.act, bank.rd, bank.wr].into_iter().flat_map(four));
-    }
-    bytes.extend(s.last.into_iter().flat_map(four));
-    for group in &s.groups {
-        bytes.extend([group.act, group.rd, group.wr].into_iter().flat_map(four));
-    }
-    bytes.extend([s.refresh, s.lent].into_iter().flat_map(four));
-    bytes
-}
+use crate::records::BANKS;
 
 /// Two ACTs and four reads, one ACT and one write, one ACT and one read.
 const LIST: [[u8; 4]; 3] = [[0, 0, 2, 2], [1, 1, 1, 1], [0, 0, 1, 1]];
@@ -31,21 +14,6 @@ const DATAS: u32 = 6;
 /// The state in which this list is left by the run of 15 cycles: two ACTs and two data commands have gone.
 fn midway() -> Controller {
     ran(&Controller::fresh(&TABLE_A), &TABLE_A, &LIST, 15).2
-}
-
-/// From a state and with a list that are not refused: what is told, the commands, and the state that is left.
-pub fn ran(
-    from: &Controller,
-    table: &[u16],
-    list: &[[u8; 4]],
-    count: u32,
-) -> (Ran, Vec<Command>, Controller) {
-    let mut state = from.clone();
-    let mut room = vec![0; room_for(list)];
-    let (edition, table, list) = (table[EDITION], bytes_of(table), list.concat());
-    let told =
-        run_bytes(&mut state, edition, &table, &list, count, &mut room).expect("it's accepted");
-    (told, commands(&room, told.commands), state)
 }
 
 pub fn hand_made(cases: &mut Cases) {

@@ -2,10 +2,14 @@
 
 mod engines;
 
-use super::*;
-use crate::house::*;
-use crate::records::EDITION;
 use std::collections::{BTreeMap, BTreeSet};
+
+use super::told::*;
+use super::*;
+use crate::desk::*;
+use crate::house::*;
+use crate::records::{EDITION, LATER, PLAIN};
+use crate::stored;
 
 /// What the paper prints for example 3, but for the last line, which request 4 gives.
 #[test]
@@ -27,9 +31,8 @@ fn the_listing() {
 #[test]
 fn number_10() {
     let input = cases();
-    let mut rest = Bytes(&input);
     let mut met: BTreeMap<&str, usize> = BTreeMap::new();
-    while let Some(case) = first_case(&mut rest) {
+    for case in stored::read(&input, first_case).0 {
         let (name, answer) = told(&case);
         let edition = read_table(case.table).map_or(case.expected, |t| t[EDITION]);
         let differ = edition != case.expected;
@@ -48,17 +51,12 @@ fn number_10() {
 #[test]
 fn over_the_last_bank() {
     let input = cases();
-    let mut rest = Bytes(&input);
     let (mut served, mut refused) = (BTreeSet::new(), BTreeSet::new());
-    while let Some(case) = first_case(&mut rest) {
+    for case in stored::read(&input, first_case).0 {
         let (name, answer) = told(&case);
         let (list, of_record) = match case.asked {
-            Asked::Build {
-                list, of_record, ..
-            } => (list, of_record),
-            Asked::Run {
-                list, of_record, ..
-            } => (list, of_record),
+            Asked::Build(b) => (b.list, b.of_record),
+            Asked::Run(r) => (r.list, r.of_record),
             Asked::Bound(..) => continue,
         };
         let banks = case.table.get(2).copied().unwrap_or(0);
@@ -113,23 +111,15 @@ struct Met {
 
 fn runs() -> Vec<Met> {
     let input = cases();
-    let mut rest = Bytes(&input);
     let mut met = Vec::new();
-    while let Some(case) = first_case(&mut rest) {
+    for case in stored::read(&input, first_case).0 {
         let (_, answer) = told(&case);
-        if let Asked::Run {
-            of_record,
-            count,
-            state,
-            list,
-            ..
-        } = case.asked
-        {
+        if let Asked::Run(r) = case.asked {
             met.push(Met {
-                of_record,
-                count,
-                state: *state,
-                list: list.to_vec(),
+                of_record: r.of_record,
+                count: r.count,
+                state: r.state,
+                list: r.list.to_vec(),
                 answer,
             });
         }

@@ -1,12 +1,12 @@
 //! Request 7: "with one group and long equal to short, every answer equals the old (from a running state, where the group's latest ACT is
 //! the first of the four)". The old rules 6 and 9, the old bound and the old running state are kept here for this alone.
 
+use super::queues::{Queues, Waiting};
 use super::*;
 use crate::desk::{judge, judge_pattern, PatternVerdict, Verdict};
 use crate::house::*;
-use crate::listing::commands;
-use crate::records::whole;
-use crate::rules::{breaks, RULES};
+use crate::records::*;
+use crate::rules::*;
 
 /// "RD to WR: the greater of CCD and RL + CCD + 2 − WL", "WR to RD: the greater of CCD and WL + B + WTR", else CCD.
 fn old_distance(t: &Times, earlier_reads: bool, later_reads: bool) -> u64 {
@@ -60,12 +60,7 @@ fn tables() -> Vec<(Table, GroupTable)> {
 }
 
 fn records(bytes: &[u8]) -> Vec<Record> {
-    let one = |c: &Command| Record {
-        cycle: c.cycle.into(),
-        kind: c.kind,
-        bank: c.bank,
-    };
-    commands(bytes, u32::MAX).iter().map(one).collect()
+    commands_of(bytes).iter().map(Record::of).collect()
 }
 
 /// A 32-byte table and the 40-byte one count the same, and no bound but the old one is told.

@@ -1,7 +1,10 @@
 //! "Running a few cycles": the cycle rule by what a state tells.
 
-use super::{check_list, refused, Engine, Queues, Waiting, MOST_TRANSACTIONS};
-use crate::records::{Command, GroupTable, Refusal, Transaction, BANKS, EDITION, GROUPS};
+use super::lists::{check_list, MOST_TRANSACTIONS};
+use super::queues::{Queues, Waiting};
+use super::straight::Engine;
+use crate::records::{refused_by, Command, GroupTable, Refusal, Transaction};
+use crate::records::{BANKS, EDITION, GROUPS};
 use crate::rules::{Times, ACT, RD, RDA, REF, WR};
 
 /// A stored cycle of this value stands for "never".
@@ -234,13 +237,13 @@ pub fn run(
     let acts_left = queues.acts.len().saturating_sub(state.acts as usize);
     let datas_left = queues.datas.len().saturating_sub(state.datas as usize);
     if room < 8 * (acts_left + datas_left).min(count as usize) {
-        return refused(table, 5, 0);
+        return refused_by(table, 5, 0);
     }
     if state.refused(table, list, &queues) {
-        return refused(table, 9, 0);
+        return refused_by(table, 9, 0);
     }
     if state.is_late(list) {
-        return refused(table, 12, 0);
+        return refused_by(table, 12, 0);
     }
     let times = Times::of(table);
     let mut state = state.clone();

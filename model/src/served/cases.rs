@@ -4,44 +4,14 @@
 use super::edits::edits;
 use super::faults::{faults, Fault};
 use super::long::long;
+use super::put::Cases;
 use super::refusals::{not_cases, refusals};
-use super::*;
 use crate::house::*;
-use crate::records::EDITION;
 use crate::rules::{ACT, RDA, REF, WRA};
 use crate::scheduler::Due;
 
-pub struct Cases(pub Vec<u8>);
-
-impl Cases {
-    pub fn put(&mut self, call: u8, expected: u16, table: &[u8], list: &[u8], schedule: &[u8]) {
-        self.0.push(call);
-        self.0.extend(expected.to_le_bytes());
-        self.0.push(table.len() as u8);
-        for bytes in [list, schedule] {
-            let n: u16 = bytes.len().try_into().expect("a case has 16-bit sizes");
-            self.0.extend(n.to_le_bytes());
-        }
-        for bytes in [table, list, schedule] {
-            self.0.extend_from_slice(bytes);
-        }
-    }
-
-    /// Of transactions of 4 bytes, by a table whose edition is expected.
-    pub fn list(&mut self, table: &[u16], list: &[[u8; 4]], schedule: &[u8]) {
-        let bytes = list.concat();
-        self.put(PLAIN, table[EDITION], &bytes_of(table), &bytes, schedule);
-    }
-
-    /// Of transactions of 8.
-    pub fn laters(&mut self, table: &[u16], list: &[[u8; 8]], schedule: &[u8]) {
-        let bytes = list.concat();
-        self.put(LATER, table[EDITION], &bytes_of(table), &bytes, schedule);
-    }
-}
-
 pub fn cases() -> Vec<u8> {
-    let mut cases = Cases(Vec::new());
+    let mut cases = Cases::default();
     built_ones(&mut cases);
     outside(&mut cases);
     none(&mut cases);

@@ -2,7 +2,7 @@
 
 use std::collections::BTreeSet;
 
-use super::cases::Cases;
+use super::put::Cases;
 use crate::house::*;
 use crate::records::whole;
 use crate::rules::{judge, Verdict, ACT, RD, RDA, REF, WR, WRA};

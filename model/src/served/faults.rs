@@ -3,12 +3,11 @@
 
 use std::collections::BTreeMap;
 
-use crate::desk::Transaction;
 use crate::house::*;
-use crate::records::whole;
+use crate::records::{commands_of, whole};
 use crate::rules::{judge, Verdict, ACT, REF, WRA};
 use crate::scheduler::{dues, Due};
-use crate::serves::{commands_of, Cause, Work};
+use crate::serves::{Cause, Work};
 
 pub struct Fault {
     pub list: &'static [[u8; 4]],
@@ -64,13 +63,13 @@ pub fn faults() -> Vec<Fault> {
     let table = whole(&REFRESHED);
     for turn in 0..300_000 {
         let list = LISTS[turn % LISTS.len()];
-        let transactions: Vec<Transaction> = list.iter().map(|x| Transaction::of(x)).collect();
+        let transactions = transactions(list);
         let order = edited(&dues(&table, &transactions), list.len(), &mut numbers);
         let schedule = loose(&order);
         if judge(&table, &schedule) != Ok(Verdict::Accepted) {
             continue;
         }
-        let records = commands_of(&schedule).expect("they are whole records");
+        let records = commands_of(&schedule);
         let found = Work::of(&table, &transactions, &records).faults();
         for w in shown(&found) {
             let size = |f: &[(usize, Vec<Cause>)], o: &[Due]| {

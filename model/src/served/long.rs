@@ -1,9 +1,8 @@
 //! As many transactions as there may be, and as many commands of one.
 
-use super::cases::Cases;
 use super::faults::visits_of;
-use crate::desk::Transaction;
-use crate::house::*;
+use super::put::Cases;
+use crate::house::{self, *};
 use crate::records::whole;
 use crate::rules::{ACT, RD, RDA, REF};
 use crate::scheduler::{dues, Due};
@@ -15,8 +14,7 @@ pub fn long(cases: &mut Cases) {
 
 /// The commands of a list, one bank's after another's.
 fn in_turn(table: &[u16], list: &[[u8; 4]]) -> Vec<Due> {
-    let list: Vec<Transaction> = list.iter().map(|x| Transaction::of(x)).collect();
-    visits_of(&dues(&whole(table), &list)).concat()
+    visits_of(&dues(&whole(table), &house::transactions(list))).concat()
 }
 
 /// Reads to 8 banks in turn, with a refresh here and there.

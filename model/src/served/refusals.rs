@@ -1,7 +1,7 @@
 //! Numbers 1, 2, 10, 3, 4 and 7, alone and two at a time, the calls that there are not, and a case that is cut short.
 
-use super::cases::Cases;
-use super::{LATER, PLAIN};
+use super::put::Cases;
+use super::told::{LATER, PLAIN};
 use crate::house::*;
 use crate::records::{CCD, LATEST};
 use crate::rules::{ACT, RDA};

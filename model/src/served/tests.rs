@@ -3,21 +3,18 @@
 use std::collections::BTreeMap;
 
 use super::faults::{faults, shown, Wanted};
+use super::told::{first_case, line};
 use super::*;
 use crate::serves::CAUSES;
+use crate::stored;
 
 /// The line of each case, without the edition.
 fn all() -> Vec<String> {
     let input = cases();
     assert!(input.len() < 131_072, "{}", input.len());
-    let mut all = Vec::new();
-    let mut rest = &input[..];
-    while let Some((case, after)) = first_case(rest) {
-        all.push(line(&case));
-        rest = after;
-    }
-    assert_eq!(lines(rest), "case\n");
-    all
+    let (all, left) = stored::read(&input, first_case);
+    assert_eq!(lines(left), "case\n");
+    all.iter().map(line).collect()
 }
 
 fn wanted() -> Vec<Wanted> {

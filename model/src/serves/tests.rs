@@ -33,7 +33,7 @@ fn does_the_work(table: &GroupTable, list: &[Transaction], records: &[Due]) -> b
 /// What is answered, with the same answer by the request's own words where the judge accepts.
 fn answer(list: &[[u8; 4]], order: &[Due]) -> Served {
     let table = whole(&REFRESHED);
-    let list: Vec<Transaction> = list.iter().map(|x| Transaction::of(x)).collect();
+    let list = transactions(list);
     let served = serves(&table, &list, &loose(order)).expect("nothing to refuse");
     if !matches!(served, Served::Broken { .. }) {
         let work = does_the_work(&table, &list, order);
@@ -59,7 +59,7 @@ fn yes_exactly_when() {
     let mut told = [0; 3];
     for turn in 0..200_000 {
         let list = lists[turn % lists.len()];
-        let transactions: Vec<Transaction> = list.iter().map(|x| Transaction::of(x)).collect();
+        let transactions = transactions(list);
         let mut order = dues(&whole(&REFRESHED), &transactions).concat();
         for _ in 0..numbers.below(6) {
             let (at, to) = (

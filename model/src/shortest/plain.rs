@@ -3,6 +3,7 @@
 use super::*;
 use crate::desk::{judge_pattern, PatternVerdict};
 use crate::house::*;
+use crate::records::EDITION;
 
 /// Every way to go on, from a cycle on.
 fn all_from(

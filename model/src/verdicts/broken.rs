@@ -1,6 +1,6 @@
 //! Schedules that break each rule at each place, made by hand.
 
-use super::cases::{Cases, EXAMPLE_1};
+use super::put::{Cases, EXAMPLE_1};
 use crate::house::*;
 use crate::records::BANKS;
 use crate::rules::*;

@@ -4,65 +4,19 @@
 use super::broken::*;
 use super::editions::editions;
 use super::groups::groups;
+use super::put::{bytes_of_some, Cases, EXAMPLE_1};
 use super::refreshes::refreshes;
 use super::search::*;
-use super::*;
+use super::told::{first_case, JUDGE, JUDGE_PATTERN};
 use crate::house::*;
 use crate::records::{whole, BANKS, CCD, EDITION, RFC};
 use crate::rules::*;
+use crate::stored;
 
 const TOP: u64 = u32::MAX as u64;
 
-pub struct Cases(Vec<u8>);
-
-impl Cases {
-    /// The expected edition is the table's own.
-    pub fn put(&mut self, call: u8, table: &[u16], length: u32, bytes: &[u8]) {
-        self.0.push(call);
-        self.0.extend(table[EDITION].to_le_bytes());
-        self.0.extend(length.to_le_bytes());
-        self.0.push(2 * table.len() as u8);
-        let n: u16 = bytes.len().try_into().expect("a case has a 16-bit size");
-        self.0.extend(n.to_le_bytes());
-        self.0.extend(bytes_of(table));
-        self.0.extend_from_slice(bytes);
-    }
-
-    /// A schedule of no record, by a table of these bytes.
-    pub fn by(&mut self, table: &[u8]) {
-        self.0
-            .extend([JUDGE, 7, 0, 0, 0, 0, 0, table.len() as u8, 0, 0]);
-        self.0.extend_from_slice(table);
-    }
-
-    /// What is put is one case, and this its expected edition.
-    pub fn expecting(&mut self, expected: u16, put: impl FnOnce(&mut Cases)) {
-        let place = self.0.len() + 1;
-        put(self);
-        self.0[place..place + 2].copy_from_slice(&expected.to_le_bytes());
-    }
-
-    pub fn schedule(&mut self, table: &[u16], records: &[(u32, u8, u8)]) {
-        self.put(JUDGE, table, 0, &bytes_of_some(records));
-    }
-
-    pub fn pattern(&mut self, table: &[u16], records: &[(u32, u8, u8)], length: u32) {
-        self.put(JUDGE_PATTERN, table, length, &bytes_of_some(records));
-    }
-}
-
-/// The transaction number, which the judge doesn't look at, differs from record to record.
-fn bytes_of_some(records: &[(u32, u8, u8)]) -> Vec<u8> {
-    let bytes = |(&(cycle, kind, bank), number)| command(cycle, kind, bank, number);
-    records
-        .iter()
-        .zip((0..=65535).rev())
-        .flat_map(bytes)
-        .collect()
-}
-
 pub fn cases() -> Vec<u8> {
-    let mut cases = Cases(Vec::new());
+    let mut cases = Cases::default();
     let mut numbers = Numbers(11);
     worked(&mut cases);
     legal(&mut cases);
@@ -98,7 +52,15 @@ pub fn cases() -> Vec<u8> {
     cases.0
 }
 
-pub const EXAMPLE_1: [(u32, u8, u8); 2] = [(0, ACT, 0), (10, RDA, 0)];
+/// The tables, as bytes, and the schedules of the cases that judge one: those that hold whole records.
+pub fn schedules() -> Vec<(Vec<u8>, Vec<u8>)> {
+    let input = cases();
+    let (all, _) = stored::read(&input, first_case);
+    all.iter()
+        .filter(|case| case.call == JUDGE && case.bytes.len() % 8 == 0)
+        .map(|case| (case.table.to_vec(), case.bytes.to_vec()))
+        .collect()
+}
 
 fn worked(cases: &mut Cases) {
     let five = built(&TABLE_A, &[[0, 0, 4, 2]]).0;
@@ -152,7 +114,7 @@ fn wraps(cases: &mut Cases) {
         cases.put(JUDGE, &TABLE_A, 0, &from(start));
     }
     let seven = from(7);
-    let verdict = |length| crate::rules::judge_pattern(&whole(&TABLE_A), &seven, length);
+    let verdict = |length| judge_pattern(&whole(&TABLE_A), &seven, length);
     let accepted = |&length: &u32| verdict(length) == Ok(PatternVerdict::Accepted);
     let least = (1..1000).find(accepted).expect("a length that is enough");
     for length in [least - 1, least] {
@@ -167,11 +129,7 @@ fn at_the_top(cases: &mut Cases, table: &[u16], records: &[Record]) {
     if records.iter().any(|r| r.cycle + by > TOP) {
         return;
     }
-    let moved = |r: &Record| Record {
-        cycle: r.cycle + by,
-        ..*r
-    };
-    let records: Vec<Record> = records.iter().map(moved).collect();
+    let records: Vec<Record> = records.iter().map(|r| r.later(by)).collect();
     cases.put(JUDGE, table, 0, &bytes_of_records(&records));
 }
 

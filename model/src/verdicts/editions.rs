@@ -1,9 +1,9 @@
 //! "If they differ it's refused as number 10 .. straight after number 2": what goes before it, and what after.
 
-use super::cases::{Cases, EXAMPLE_1};
-use super::{JUDGE, JUDGE_PATTERN};
-use crate::house::*;
-use crate::records::{BANKS, CCD, EDITION, RFC};
+use super::put::{Cases, EXAMPLE_1};
+use super::told::{JUDGE, JUDGE_PATTERN};
+use crate::house::{self, *};
+use crate::records::EDITION;
 use crate::rules::{ACT, RDA};
 
 pub fn editions(cases: &mut Cases) {
@@ -12,10 +12,9 @@ pub fn editions(cases: &mut Cases) {
     later_numbers(cases);
 }
 
-/// Nothing else is wrong. An edition whose low byte is 0 can be expected.
+/// Nothing else is wrong.
 fn others(cases: &mut Cases) {
-    for (edition, expected) in OTHER_EDITIONS.into_iter().chain([(256, 256)]) {
-        let table = with(&[(EDITION, edition)]);
+    for (table, expected) in other_editions() {
         cases.expecting(expected, |cases| cases.schedule(&table, &EXAMPLE_1));
         cases.expecting(expected, |cases| cases.pattern(&table, &EXAMPLE_1, 38));
     }
@@ -23,14 +22,8 @@ fn others(cases: &mut Cases) {
 
 /// Number 2 goes before it, and "expected 0 always differs": no table of edition 0 is accepted.
 fn refused_tables(cases: &mut Cases) {
-    for (table, expected) in [
-        (with(&[(RFC, 1024)]), 8),
-        (with(&[(RFC, 1024), (EDITION, 0)]), 0),
-        (with(&[(CCD, 1)]), 8),
-        (with(&[(BANKS, 17)]), 0),
-        (with(&[(EDITION, 0)]), 0),
-        (with(&[(EDITION, 0)]), 7),
-    ] {
+    let edition_0 = [0, 7].map(|expected| (with(&[(EDITION, 0)]), expected));
+    for (table, expected) in house::refused_tables().into_iter().chain(edition_0) {
         cases.expecting(expected, |cases| cases.put(JUDGE, &table, 0, &[0; 9]));
         cases.expecting(expected, |cases| {
             cases.put(JUDGE_PATTERN, &table, 0, &[0; 9])

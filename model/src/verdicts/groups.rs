@@ -1,15 +1,12 @@
 //! Schedules and patterns under tables of 40 bytes: "Rules 6 and 9 take the long number within a group and the short across, over all earlier
 //! commands, since a neighbour in another group hides an older one."
 
-use super::cases::{Cases, EXAMPLE_1};
+use super::put::{Cases, One, EXAMPLE_1};
 use super::search::{bytes_of_records, hidden};
-use super::JUDGE;
+use super::told::JUDGE;
 use crate::house::*;
-use crate::records::{BANKS, CCD, LONG_CCD, LONG_RRD, LONG_WTR, RRD, WTR};
+use crate::records::BANKS;
 use crate::rules::*;
-
-/// Cycle, kind and bank.
-type One = (u32, u8, u8);
 
 pub fn groups(cases: &mut Cases) {
     sizes(cases);
@@ -53,7 +50,7 @@ fn ranges(cases: &mut Cases) {
         cases.schedule(&t, &EXAMPLE_1);
     }
     // The short number is out of range, its long one is not, and the other way round.
-    for (short, long) in [(CCD, LONG_CCD), (RRD, LONG_RRD), (WTR, LONG_WTR)] {
+    for (long, short) in LONGS {
         let mut t = TABLE_D;
         (t[short], t[long]) = (1024, 1024);
         cases.schedule(&t, &EXAMPLE_1);

@@ -1,12 +1,9 @@
 //! Schedules and patterns with refreshes: rules 1, 11 and 12 broken by one cycle and just kept, and which rule is told first.
 
-use super::cases::{Cases, EXAMPLE_1};
+use super::put::{Cases, One, EXAMPLE_1};
 use crate::house::*;
 use crate::records::{BANKS, RFC, RRD};
 use crate::rules::*;
-
-/// Cycle, kind and bank.
-type One = (u32, u8, u8);
 
 pub fn refreshes(cases: &mut Cases) {
     rule_1(cases);

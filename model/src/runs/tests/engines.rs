@@ -2,55 +2,42 @@
 
 use super::*;
 
+type Build = fn(u16, &[u8], &[u8], &mut [u8], &mut [u32]) -> Result<Scheduled, Refusal>;
+
+const BUILDS: [[Build; 2]; 2] = [
+    [schedule_bytes, schedule_later_bytes],
+    [schedule_straight_bytes, schedule_straight_later_bytes],
+];
+const RUNS: [[Call; 2]; 2] = [
+    [run_bytes, run_later_bytes],
+    [run_straight_bytes, run_straight_later_bytes],
+];
+
 #[test]
 fn the_stored_cases() {
     let input = cases();
-    let mut rest = Bytes(&input);
     let (mut builds, mut runs) = (0, 0);
-    while let Some(case) = first_case(&mut rest) {
+    for case in stored::read(&input, first_case).0 {
         let (expected, table) = (case.expected, case.table);
         match case.asked {
-            Asked::Build {
-                of_record,
-                room,
-                slots,
-                list,
-            } => {
-                type Build =
-                    fn(u16, &[u8], &[u8], &mut [u8], &mut [u32]) -> Result<Scheduled, Refusal>;
-                let by = |build: Build| {
-                    let (mut room, mut finishes) = (vec![9; room], vec![9; slots]);
-                    let told = build(expected, table, list, &mut room, &mut finishes);
+            Asked::Build(b) => {
+                let [plain, straight] = BUILDS.map(|[four, eight]| {
+                    let build = plain_or(b.of_record, four, eight);
+                    let (mut room, mut finishes) = (vec![9; b.room], vec![9; b.slots]);
+                    let told = build(expected, table, b.list, &mut room, &mut finishes);
                     (told, room, finishes)
-                };
-                let plain = plain_or(of_record, schedule_bytes as Build, schedule_later_bytes);
-                let straight = plain_or(
-                    of_record,
-                    schedule_straight_bytes as Build,
-                    schedule_straight_later_bytes,
-                );
-                assert_eq!(by(straight), by(plain));
+                });
+                assert_eq!(straight, plain);
                 builds += 1;
             }
-            Asked::Run {
-                of_record,
-                count,
-                room,
-                state,
-                list,
-            } => {
-                let by = |run: Run| {
-                    let (mut c, mut room) = (Controller::clone(&state), vec![9; room]);
-                    let told = run(&mut c, expected, table, list, count, &mut room);
+            Asked::Run(r) => {
+                let [plain, straight] = RUNS.map(|[four, eight]| {
+                    let run = plain_or(r.of_record, four, eight);
+                    let (mut c, mut room) = (r.state.clone(), vec![9; r.room]);
+                    let told = run(&mut c, expected, table, r.list, r.count, &mut room);
                     (told, room, c)
-                };
-                let plain = plain_or(of_record, run_bytes as Run, run_later_bytes);
-                let straight = plain_or(
-                    of_record,
-                    run_straight_bytes as Run,
-                    run_straight_later_bytes,
-                );
-                assert_eq!(by(straight), by(plain));
+                });
+                assert_eq!(straight, plain);
                 runs += 1;
             }
             Asked::Bound(..) => (),

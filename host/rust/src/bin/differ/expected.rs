@@ -3,8 +3,8 @@
 
 mod builds;
 
-use model::desk::Verdict;
-use model::desk::{self, Bank, Controller, Group, PatternVerdict, Refusal, Served, Transaction};
+use model::desk::{self, Controller, PatternVerdict, Refusal, Served, Transaction, Verdict};
+pub use model::house::transactions;
 
 use crate::case::*;
 use crate::numbers::Noise;
@@ -20,49 +20,7 @@ pub struct Outcome {
     pub state: Option<State>,
 }
 
-pub fn transactions(list: &[[u8; 8]]) -> Vec<Transaction> {
-    list.iter().map(|x| Transaction::of(x)).collect()
-}
-
-pub fn controller(s: &State) -> Controller {
-    let mut c = Controller::fresh(&[0]);
-    c.edition = s[EDITION];
-    c.cycle = s[CYCLE];
-    c.acts = s[ACTS];
-    c.datas = s[DATAS];
-    for (bank, n) in c.banks.iter_mut().zip(s[BANKS..LAST].chunks_exact(4)) {
-        *bank = Bank {
-            opened: n[0],
-            act: n[1],
-            rd: n[2],
-            wr: n[3],
-        };
-    }
-    c.last.copy_from_slice(&s[LAST..LAST + 4]);
-    for (group, n) in c.groups.iter_mut().zip(s[GROUPS..REFRESH].chunks_exact(3)) {
-        *group = Group {
-            act: n[0],
-            rd: n[1],
-            wr: n[2],
-        };
-    }
-    (c.refresh, c.lent) = (s[REFRESH], s[LENT]);
-    c
-}
-
-pub fn state(c: &Controller) -> State {
-    let mut s = [0; NUMBERS];
-    s[..BANKS].copy_from_slice(&[c.edition, c.cycle, c.acts, c.datas]);
-    for (n, bank) in s[BANKS..LAST].chunks_exact_mut(4).zip(&c.banks) {
-        n.copy_from_slice(&[bank.opened, bank.act, bank.rd, bank.wr]);
-    }
-    s[LAST..LAST + 4].copy_from_slice(&c.last);
-    for (n, group) in s[GROUPS..REFRESH].chunks_exact_mut(3).zip(&c.groups) {
-        n.copy_from_slice(&[group.act, group.rd, group.wr]);
-    }
-    (s[REFRESH], s[LENT]) = (c.refresh, c.lent);
-    s
-}
+controllers!(Controller, Controller::fresh(&[0]));
 
 /// The answer of so many numbers beside the refusal and the edition: the edition with the numbers, or the refusal with 0 for each.
 fn answer<const N: usize>(told: Result<(u16, [u32; N]), Refusal>) -> Vec<u32> {

@@ -2,7 +2,7 @@
 
 use skvorzhan::raw::*;
 
-use crate::case::{fresh, State, BANKS, GROUPS, LAST, LENT, NUMBERS, REFRESH};
+use crate::case::{controllers, State, NUMBERS};
 
 /// The numbers of a controller where it lies: it has no other bytes.
 pub fn state_now(bytes: &[u8]) -> State {
@@ -13,59 +13,28 @@ pub fn state_now(bytes: &[u8]) -> State {
     s
 }
 
-pub fn controller(s: &State) -> Controller {
-    let mut banks = [HostBank {
+const EMPTY: Controller = Controller {
+    edition: 0,
+    cycle: 0,
+    acts: 0,
+    datas: 0,
+    banks: [HostBank {
         opened: 0,
         act: 0,
         rd: 0,
         wr: 0,
-    }; 16];
-    for (bank, n) in banks.iter_mut().zip(s[BANKS..LAST].chunks_exact(4)) {
-        *bank = HostBank {
-            opened: n[0],
-            act: n[1],
-            rd: n[2],
-            wr: n[3],
-        };
-    }
-    let mut groups = [HostGroup {
+    }; 16],
+    last: [0; 4],
+    groups: [HostGroup {
         act: 0,
         rd: 0,
         wr: 0,
-    }; 8];
-    for (group, n) in groups.iter_mut().zip(s[GROUPS..REFRESH].chunks_exact(3)) {
-        *group = HostGroup {
-            act: n[0],
-            rd: n[1],
-            wr: n[2],
-        };
-    }
-    Controller {
-        edition: s[0],
-        cycle: s[1],
-        acts: s[2],
-        datas: s[3],
-        banks,
-        last: [s[68], s[69], s[70], s[71]],
-        groups,
-        refresh: s[REFRESH],
-        lent: s[LENT],
-    }
-}
+    }; 8],
+    refresh: 0,
+    lent: 0,
+};
 
-pub fn state(c: &Controller) -> State {
-    let mut s = fresh(0);
-    s[..BANKS].copy_from_slice(&[c.edition, c.cycle, c.acts, c.datas]);
-    for (n, bank) in s[BANKS..LAST].chunks_exact_mut(4).zip(&c.banks) {
-        n.copy_from_slice(&[bank.opened, bank.act, bank.rd, bank.wr]);
-    }
-    s[LAST..LAST + 4].copy_from_slice(&c.last);
-    for (n, group) in s[GROUPS..REFRESH].chunks_exact_mut(3).zip(&c.groups) {
-        n.copy_from_slice(&[group.act, group.rd, group.wr]);
-    }
-    (s[REFRESH], s[LENT]) = (c.refresh, c.lent);
-    s
-}
+controllers!(Controller, EMPTY);
 
 pub fn numbers(a: Answer) -> Vec<u32> {
     vec![a.refused, a.position, a.edition, a.count, a.cycles]

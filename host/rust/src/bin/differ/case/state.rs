@@ -25,3 +25,39 @@ pub fn fresh(edition: u32) -> State {
     s[LENT] = 0;
     s
 }
+
+/// To and from a controller, the archive's or the model's, which have the same fields: with what one is before its numbers are put into it.
+macro_rules! controllers {
+    ($controller:ty, $empty:expr) => {
+        pub fn controller(s: &State) -> $controller {
+            let mut c = $empty;
+            for (place, n) in places(&mut c).into_iter().zip(s) {
+                *place = *n;
+            }
+            c
+        }
+
+        pub fn state(c: &$controller) -> State {
+            let mut s = [0; NUMBERS];
+            for (n, place) in s.iter_mut().zip(places(&mut c.clone())) {
+                *n = *place;
+            }
+            s
+        }
+
+        fn places(c: &mut $controller) -> Vec<&mut u32> {
+            let mut all = vec![&mut c.edition, &mut c.cycle, &mut c.acts, &mut c.datas];
+            for bank in &mut c.banks {
+                all.extend([&mut bank.opened, &mut bank.act, &mut bank.rd, &mut bank.wr]);
+            }
+            all.extend(&mut c.last);
+            for group in &mut c.groups {
+                all.extend([&mut group.act, &mut group.rd, &mut group.wr]);
+            }
+            all.extend([&mut c.refresh, &mut c.lent]);
+            all
+        }
+    };
+}
+
+pub(crate) use controllers;

@@ -2,7 +2,7 @@
 //! controller at its cycle and before it.
 
 use model::desk::GroupTable;
-use model::house::{bytes_of, command, grouped, room_for, with, TABLE_A, TABLE_D};
+use model::house::{bytes_of, command, grouped, long_in_copy_2, room_for, with, TABLE_A, TABLE_D};
 
 use crate::case::*;
 
@@ -70,40 +70,28 @@ fn hidden(t: &GroupTable) -> Vec<Case> {
     for last in [65, 72 + long_wtr - 1, 72 + long_wtr] {
         after(&[(60, 3, 0), (64, 3, 1), (last, 1, own)]);
     }
-    let one = |&(cycle, kind, bank): &(u32, u8, u8)| command(cycle, kind, bank, 0);
     let case = |records: &Vec<(u32, u8, u8)>| {
         let mut case = of(Call::Judge, t);
-        case.bytes = records.iter().flat_map(one).collect();
+        case.bytes = bytes_of_records(records);
         case
     };
     all.iter().map(case).collect()
 }
 
-/// Copy 2 breaks by a long number of rule 6, then of rule 9; under table A it doesn't.
+fn bytes_of_records(records: &[(u32, u8, u8)]) -> Vec<u8> {
+    let one = |&(cycle, kind, bank): &(u32, u8, u8)| command(cycle, kind, bank, 0);
+    records.iter().flat_map(one).collect()
+}
+
+/// Copy 2 breaks by a long number of rule 6, then of rule 9, where a neighbour hides the older command; under table A it doesn't.
 fn patterns() -> Vec<Case> {
-    let act = [
-        (0, 0, 0),
-        (10, 2, 0),
-        (40, 0, 4),
-        (46, 0, 1),
-        (50, 2, 4),
-        (56, 2, 1),
-    ];
-    let write = [
-        (0, 0, 0),
-        (10, 2, 0),
-        (20, 0, 4),
-        (26, 0, 1),
-        (45, 4, 4),
-        (49, 4, 1),
-    ];
+    let [_, act, _, write] = long_in_copy_2();
     let mut cases = Vec::new();
     for pattern in [act, write] {
         for length in [59, 60] {
             for table in [&TABLE_A[..], &TABLE_D] {
-                let one = |&(cycle, kind, bank): &(u32, u8, u8)| command(cycle, kind, bank, 0);
                 let mut case = of(Call::JudgePattern, table);
-                case.bytes = pattern.iter().flat_map(one).collect();
+                case.bytes = bytes_of_records(&pattern);
                 case.values[0] = length;
                 cases.push(case);
             }

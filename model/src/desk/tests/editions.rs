@@ -3,7 +3,7 @@
 use super::refusals::{bad, bytes, told, two, Told, ROOM};
 use crate::desk::*;
 use crate::house::*;
-use crate::records::{BANKS, CCD, RFC};
+use crate::records::{BANKS, CCD, EDITION, RFC};
 
 /// Expected editions and tables that differ, and tables that 1 or 2 refuses whatever is expected; with what must be told of each
 /// before anything else is looked at.

@@ -1,7 +1,7 @@
 //! Any tables of 40 bytes, and any lists under them.
 
 use super::*;
-use crate::desk::laws::passes_and_meets_the_bound;
+use crate::desk::tests::laws::passes_and_meets_the_bound;
 use crate::records::WTR;
 use crate::rules::{breaks, first_broken, Record};
 
@@ -56,14 +56,7 @@ fn the_latest_of_each_group_decide() {
         let banks = usize::from(table[BANKS]);
         let list = [[numbers.byte() % 2, 0, banks.min(6) as u8, 2], [0, 0, 1, 1]];
         let (room, _) = built(&table, &list);
-        let all: Vec<Record> = commands(&room, u32::MAX)
-            .iter()
-            .map(|c| Record {
-                cycle: c.cycle.into(),
-                kind: c.kind,
-                bank: c.bank,
-            })
-            .collect();
+        let all: Vec<Record> = commands_of(&room).iter().map(Record::of).collect();
         let t = Times::of(&table);
         let before = &all[..1 + numbers.below(all.len())];
         let sort = |r: &Record| (t.group(r.bank), r.acts(), r.reads(), r.writes());

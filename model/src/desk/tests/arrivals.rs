@@ -7,12 +7,9 @@ mod states;
 use super::laws::*;
 use crate::desk::*;
 use crate::house::*;
-use crate::listing::commands;
-use crate::records::{BANKS, LATEST};
+use crate::records::{commands_of, BANKS, LATEST};
 use crate::rules::{ACT, RDA, REF, WRA};
 
-const READ: [u8; 4] = [0, 0, 1, 1];
-const WRITE: [u8; 4] = [1, 0, 1, 1];
 const REFRESH: [u8; 4] = REFRESH_BYTES;
 
 /// Cycle, kind, bank and transaction of each command, and the finishing cycles.
@@ -21,7 +18,7 @@ type Gone = (Vec<(u32, u8, u8, u16)>, Vec<u32>);
 fn scheduled(table: &[u16], list: &[[u8; 4]], arrivals: &[u32]) -> Gone {
     let (room, finishes) = built_later(table, &arriving(list, arrivals));
     let fields = |c: &Command| (c.cycle, c.kind, c.bank, c.transaction);
-    let gone = commands(&room, u32::MAX).iter().map(fields).collect();
+    let gone = commands_of(&room).iter().map(fields).collect();
     (gone, finishes)
 }
 
@@ -74,7 +71,7 @@ fn at_the_last_arrival() {
         let (a, bytes) = (bytes_of(&TABLE_A), laters.concat());
         let told = run_later_bytes(&mut c, 7, &a, &bytes, u32::MAX, &mut same);
         assert_eq!(same, room);
-        let last = commands(&room, u32::MAX).last().map_or(0, |c| c.cycle);
+        let last = commands_of(&room).last().map_or(0, |c| c.cycle);
         assert_eq!(told.map(|told| told.cycles), Ok(last + 1));
         assert!(finishes[list.len() - 1] > LATEST);
         laters_pass_and_meet_the_bound(&TABLE_A, &laters);
@@ -89,7 +86,7 @@ fn all_later_by_as_much() {
         for by in [1, 77, 5000] {
             let (later, last) = built_later(&table, &arriving(&list, &vec![by; list.len()]));
             let one = |c: &Command| command(c.cycle + by, c.kind, c.bank, c.transaction);
-            let moved: Vec<u8> = commands(&room, u32::MAX).iter().flat_map(one).collect();
+            let moved: Vec<u8> = commands_of(&room).iter().flat_map(one).collect();
             assert_eq!(later, moved);
             assert!(last.iter().zip(&finishes).all(|(&l, &f)| l == f + by));
         }
@@ -146,14 +143,6 @@ fn what_is_added_at_the_end_moves_nothing() {
     let mut numbers = Numbers(89);
     for round in 0..300 {
         let (table, list) = any(round, &mut numbers);
-        let (room, finishes) = built_later(&table, &list);
-        let whole = commands(&room, u32::MAX);
-        for size in 0..list.len() {
-            let (room, of_start) = built_later(&table, &list[..size]);
-            let of_them = |c: &&Command| usize::from(c.transaction) < size;
-            let cut: Vec<Command> = whole.iter().filter(of_them).copied().collect();
-            assert_eq!(commands(&room, u32::MAX), cut);
-            assert_eq!(of_start, finishes[..size]);
-        }
+        assert_moves_nothing(&list, |list| built_later(&table, list));
     }
 }

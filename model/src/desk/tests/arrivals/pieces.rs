@@ -1,7 +1,7 @@
 //! "From a fresh state, any cutting without refusal, run to the end, gives the commands of the whole list."
 
 use super::*;
-use crate::desk::refusals::told;
+use crate::desk::tests::refusals::told;
 use crate::records::EDITION;
 
 /// Runs, one after the other: what they wrote, and how many cycles they took.
@@ -112,7 +112,7 @@ fn any_pieces() {
             runs.same(&up_to_here);
         }
         assert_eq!(runs.commands, built_later(&table, &list).0);
-        let last = commands(&runs.commands, u32::MAX).last().map(|c| c.cycle);
+        let last = commands_of(&runs.commands).last().map(|c| c.cycle);
         assert_eq!(runs.cycles, last.map_or(0, |cycle| cycle + 1));
     }
     assert!(ended > 100, "{ended}");

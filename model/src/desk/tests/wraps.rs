@@ -5,8 +5,7 @@ use super::laws::transaction;
 use super::refusals::{bytes, told, ROOM};
 use crate::desk::*;
 use crate::house::*;
-use crate::listing::commands;
-use crate::records::{BANKS, EDITION};
+use crate::records::{commands_of, BANKS, EDITION};
 use crate::rules::ACT;
 
 /// Tables of every number of banks, the numbers of table A and the least there are.
@@ -45,7 +44,7 @@ fn every_start_with_every_bi() {
             let (kind, bc) = (bi % 2, 1 + start_bank % 2);
             let (room, _) = built(&table, &[[kind, start_bank, bi, bc]]);
             let expected = banks_from(start_bank, bi, banks);
-            let (acts, datas) = banks_gone(&commands(&room, u32::MAX));
+            let (acts, datas) = banks_gone(&commands_of(&room));
             assert_eq!(acts, expected);
             let each = |&bank| vec![bank; bc.into()];
             assert_eq!(datas, expected.iter().flat_map(each).collect::<Vec<u8>>());
@@ -72,7 +71,7 @@ fn all_banks_from_every_start() {
             .map(|start| [start % 2, start, banks, 1])
             .collect();
         let (room, _) = built(&table, &list);
-        let gone = commands(&room, u32::MAX);
+        let gone = commands_of(&room);
         for (number, start) in (0..).zip(0..banks) {
             let of_it = |c: &&Command| c.transaction == number;
             let of_it: Vec<Command> = gone.iter().filter(of_it).copied().collect();

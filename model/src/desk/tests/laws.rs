@@ -2,8 +2,7 @@
 
 use crate::desk::*;
 use crate::house::*;
-use crate::listing::commands;
-use crate::records::{whole, BANKS, EDITION, LATEST, REFRESH, RFC};
+use crate::records::{commands_of, whole, BANKS, EDITION, LATEST, REFRESH, RFC};
 use crate::rules::{Times, ACT};
 use crate::scheduler::longest_wait;
 
@@ -61,7 +60,7 @@ fn ran(c: &mut Controller, table: &[u8], list: &[Transaction], count: u32) -> (R
 /// The cycle of each transaction's last data command, or of its REF.
 fn last_datas(room: &[u8], size: usize) -> Vec<u64> {
     let mut last = vec![0; size];
-    for c in commands(room, u32::MAX).iter().filter(|c| c.kind != ACT) {
+    for c in commands_of(room).iter().filter(|c| c.kind != ACT) {
         last[usize::from(c.transaction)] = c.cycle.into();
     }
     last
@@ -82,12 +81,12 @@ pub struct Met {
 /// and no command goes before its transaction's arrival. The judge accepts what is built.
 pub fn laters_pass_and_meet_the_bound(table: &[u16], list: &[[u8; 8]]) -> Met {
     let (room, finishes) = built_later(table, list);
-    let list: Vec<Transaction> = list.iter().map(|x| Transaction::of(x)).collect();
+    let list = transactions(list);
     let times = Times::of(&whole(table));
     let (edition, table) = (table[EDITION], bytes_of(table));
     let (_, verdict) = judge(edition, &table, &room).expect("whole records");
     assert_eq!(verdict, Verdict::Accepted);
-    for c in commands(&room, u32::MAX) {
+    for c in commands_of(&room) {
         assert!(list[usize::from(c.transaction)].arrival <= c.cycle);
     }
     let mut predecessor = 0;
@@ -164,15 +163,20 @@ fn finishing_cycles_fit() {
 #[test]
 fn what_is_added_at_the_end_moves_nothing() {
     for (table, list) in lists_and_tables() {
-        let (room, finishes) = built(&table, &list);
-        let whole = commands(&room, u32::MAX);
-        for size in 0..list.len() {
-            let (room, of_start) = built(&table, &list[..size]);
-            let of_them = |c: &&Command| usize::from(c.transaction) < size;
-            let cut: Vec<Command> = whole.iter().filter(of_them).copied().collect();
-            assert_eq!(commands(&room, u32::MAX), cut);
-            assert_eq!(of_start, finishes[..size]);
-        }
+        assert_moves_nothing(&list, |list| built(&table, list));
+    }
+}
+
+/// Each start of the list has the commands and the finishes that it has in the whole.
+pub fn assert_moves_nothing<T>(list: &[T], built: impl Fn(&[T]) -> (Vec<u8>, Vec<u32>)) {
+    let (room, finishes) = built(list);
+    let whole = commands_of(&room);
+    for size in 0..list.len() {
+        let (room, of_start) = built(&list[..size]);
+        let of_them = |c: &&Command| usize::from(c.transaction) < size;
+        let cut: Vec<Command> = whole.iter().filter(of_them).copied().collect();
+        assert_eq!(commands_of(&room), cut);
+        assert_eq!(of_start, finishes[..size]);
     }
 }
 
@@ -200,7 +204,7 @@ fn a_run_to_the_end_is_the_build() {
         let (_, mut c) = start(edition, &table);
         let (told, bytes) = ran(&mut c, &table, &decoded(edition, &table, &list), u32::MAX);
         assert_eq!(bytes, room);
-        let gone = commands(&room, u32::MAX);
+        let gone = commands_of(&room);
         assert_eq!(told.cycles, gone.last().map_or(0, |last| last.cycle + 1));
         assert_eq!(c.cycle, told.cycles);
     }
@@ -210,7 +214,9 @@ fn a_run_to_the_end_is_the_build() {
 #[test]
 fn so_is_a_run_of_256_transactions() {
     let examples = crate::examples::all();
-    let longest = examples.iter().find(|example| example.name == "all-256");
+    let longest = examples
+        .iter()
+        .find(|example| example.head.name == "all-256");
     let input = longest.expect("it's an example").bytes();
     let (table, bytes) = input[2..].split_at(32);
     let (mut schedule, mut commands) = (vec![0; 1 << 16], vec![0; 1 << 16]);
@@ -232,7 +238,7 @@ fn a_run_cut_in_two_gives_the_whole() {
         let (_, mut at_once) = start(edition, &table);
         let (whole, all) = ran(&mut at_once, &table, &list, u32::MAX);
         let all_along = (0..=whole.cycles).step_by(1 + whole.cycles as usize / 300);
-        let gone = commands(&all, u32::MAX);
+        let gone = commands_of(&all);
         for count in all_along.chain(gone.iter().map(|c| c.cycle + 1)) {
             let (_, mut c) = start(edition, &table);
             let (first, start) = ran(&mut c, &table, &list, count);

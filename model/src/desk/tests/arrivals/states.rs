@@ -1,7 +1,7 @@
 //! Numbers 9 and 12 by what the state tells was lent before, and transactions that a state's commands went before.
 
 use super::*;
-use crate::desk::refusals::{told, Told, ROOM};
+use crate::desk::tests::refusals::{told, Told, ROOM};
 use crate::rules::RD;
 
 /// From a state, under table A, with so much room: the commands as cycle and kind, and the state that is left.
@@ -15,14 +15,14 @@ fn ran(
     let a = bytes_of(&TABLE_A);
     let lent = &mut room[..size];
     let answer = run_later_bytes(&mut left, 7, &a, &list.concat(), count, lent);
-    let transactions: Vec<Transaction> = list.iter().map(|x| Transaction::of(x)).collect();
+    let transactions = transactions(list);
     let (mut same, mut same_room) = (c.clone(), ROOM);
     let lent = &mut same_room[..size];
     let as_list = run(&mut same, 7, &a, &transactions, count, lent);
     assert_eq!((answer, &left, room), (as_list, &same, same_room));
     match answer {
         Ok(told) => {
-            let gone = commands(&room, told.commands);
+            let gone = commands_of(&room[..8 * told.commands as usize]);
             Ok((gone.iter().map(|c| (c.cycle, c.kind)).collect(), left))
         }
         Err(_) => {

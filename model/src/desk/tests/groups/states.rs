@@ -1,7 +1,7 @@
 //! Runs from states that tell each group's latest ACT, RD and WR.
 
 use super::*;
-use crate::desk::refusals::Told;
+use crate::desk::tests::refusals::Told;
 
 /// From cycle 100 under table D, with one command of bank 1 next, an ACT or a data command: at which cycle it goes, or the refusal.
 fn goes_at(kind: u8, opened: bool, change: &dyn Fn(&mut Controller)) -> Result<u32, Told> {
@@ -87,7 +87,7 @@ fn past_the_groups() {
             rd: NEVER,
             wr: NEVER,
         }; 8];
-        for gone in commands(&room, u32::MAX) {
+        for gone in commands_of(&room) {
             let group = &mut latest[usize::from(gone.bank) % groups];
             match gone.kind {
                 ACT => group.act = gone.cycle,

@@ -6,8 +6,7 @@ mod states;
 use super::refusals::told;
 use crate::desk::*;
 use crate::house::*;
-use crate::listing::commands;
-use crate::records::{whole, BANKS, CCD, EDITION, RRD};
+use crate::records::{commands_of, whole, BANKS, CCD, EDITION, RRD};
 use crate::rules::{Times, ACT, RD, RDA, WR, WRA};
 use crate::scheduler::longest_wait;
 
@@ -193,7 +192,7 @@ fn patterns() {
 #[test]
 fn schedules() {
     let (room, finishes) = built(&TABLE_D, &[[0, 0, 1, 1], [0, 1, 1, 1], [0, 4, 1, 2]]);
-    let rows = commands(&room, u32::MAX);
+    let rows = commands_of(&room);
     let rows: Vec<One> = rows.iter().map(|c| (c.cycle, c.kind, c.bank)).collect();
     let right = [
         (0, ACT, 0),

@@ -7,12 +7,10 @@ use super::laws::{passes_and_meets_the_bound, transaction};
 use super::refusals::told;
 use crate::desk::*;
 use crate::house::*;
-use crate::listing::{commands, schedule_lines};
-use crate::records::{whole, B, BANKS, CCD, EDITION, PLAIN, RFC};
+use crate::listing::schedule_lines;
+use crate::records::{commands_of, whole, B, BANKS, CCD, EDITION, PLAIN, RFC};
 use crate::rules::{ACT, RDA, REF, WRA};
 
-const READ: [u8; 4] = [0, 0, 1, 1];
-const WRITE: [u8; 4] = [1, 0, 1, 1];
 const REFRESH: [u8; 4] = REFRESH_BYTES;
 
 fn refresh() -> Transaction {
@@ -25,7 +23,7 @@ type Gone = (Vec<(u32, u8, u8, u16)>, Vec<u32>);
 fn scheduled(table: &[u16], list: &[[u8; 4]]) -> Gone {
     let (room, finishes) = built(table, list);
     let fields = |c: &Command| (c.cycle, c.kind, c.bank, c.transaction);
-    let gone = commands(&room, u32::MAX).iter().map(fields).collect();
+    let gone = commands_of(&room).iter().map(fields).collect();
     (gone, finishes)
 }
 
@@ -209,10 +207,7 @@ fn every_number_of_banks() {
         let (room, _) = built(&table, &[all(1), REFRESH, all(0), REFRESH]);
         let answer = judge(7, &bytes_of(&table), &room);
         assert_eq!(answer, Ok((7, Verdict::Accepted)));
-        let order: Vec<u16> = commands(&room, u32::MAX)
-            .iter()
-            .map(|c| c.transaction)
-            .collect();
+        let order: Vec<u16> = commands_of(&room).iter().map(|c| c.transaction).collect();
         assert!(order.windows(2).all(|pair| pair[0] <= pair[1]));
     }
 }

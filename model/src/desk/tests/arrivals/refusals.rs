@@ -1,7 +1,7 @@
 //! The record of 8 bytes, and lists of them: numbers 3 and 4.
 
 use super::*;
-use crate::desk::refusals::{told, ROOM};
+use crate::desk::tests::refusals::{told, ROOM};
 use crate::records::{CCD, EDITION};
 
 /// "A transaction record of 8 bytes adds a 32-bit arrival, at most 20,000,000": read and written, with any size but 8 refused first.

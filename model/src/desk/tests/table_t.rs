@@ -2,8 +2,7 @@
 
 use crate::desk::*;
 use crate::house::{built, bytes_of, command, TABLE_T};
-use crate::listing::commands;
-use crate::records::whole;
+use crate::records::{commands_of, whole};
 use crate::rules::{Times, ACT, RD, RDA, WR, WRA};
 
 /// Cycle, kind and bank.
@@ -16,7 +15,7 @@ fn bytes(rows: &[Row]) -> Vec<u8> {
 
 fn scheduled(list: &[[u8; 4]]) -> (Vec<Row>, Vec<u32>) {
     let (room, finishes) = built(&TABLE_T, list);
-    let rows = commands(&room, u32::MAX);
+    let rows = commands_of(&room);
     let rows = rows.iter().map(|c| (c.cycle, c.kind, c.bank));
     (rows.collect(), finishes)
 }

@@ -2,9 +2,9 @@
 //! refusals included". Its model halves; the plain one tries each cycle.
 
 use super::laws::lists_and_tables;
-use super::*;
+use crate::desk::*;
 use crate::house::*;
-use crate::records::{whole, BANKS, GROUPS};
+use crate::records::{whole, BANKS, EDITION, GROUPS};
 use crate::scheduler::dues;
 
 /// Both runs from a state, lent and of bytes, into so much room: what is told, and the state that is left.

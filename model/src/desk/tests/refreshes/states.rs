@@ -9,7 +9,7 @@ fn ran(c: &Controller, list: &[[u8; 4]], count: u32) -> Result<Vec<(u32, u8)>, R
     c.lent = list.len() as u32;
     let table = bytes_of(&REFRESHED);
     let told = run_bytes(&mut c, 70, &table, &list.concat(), count, &mut room)?;
-    let gone = commands(&room, told.commands);
+    let gone = commands_of(&room[..8 * told.commands as usize]);
     Ok(gone.iter().map(|c| (c.cycle, c.kind)).collect())
 }
 

@@ -1,18 +1,14 @@
 //! The worked examples of document 01, each through the public calls.
 
 use crate::desk::*;
-use crate::house::{built, bytes_of, command, with, TABLE_A, TABLE_B, TABLE_C};
-use crate::listing::commands;
-use crate::records::CCD;
+use crate::house::{built, bytes_of, command, with, READ, TABLE_A, TABLE_B, TABLE_C, WRITE};
+use crate::records::{commands_of, CCD};
 use crate::rules::{ACT, MOST_RECORDS, RD, RDA, WR, WRA};
-
-const READ: [u8; 4] = [0, 0, 1, 1];
-const WRITE: [u8; 4] = [1, 0, 1, 1];
 
 /// Cycle, kind and bank of each command of a list's schedule under table A.
 fn scheduled(list: &[[u8; 4]]) -> Vec<(u32, u8, u8)> {
     let (room, _) = built(&TABLE_A, list);
-    let commands = commands(&room, u32::MAX);
+    let commands = commands_of(&room);
     commands.iter().map(|c| (c.cycle, c.kind, c.bank)).collect()
 }
 
