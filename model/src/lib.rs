@@ -3,7 +3,7 @@
 //!
 //! The public calls are in `desk`, the house tables in `house`, captures are written by `sent`, and `pins` tells who holds the data pins.
 //! What the calls rest on is in `records`, `rules`, `scheduler`, `capture`, `serves` and `shortest`; the other modules make the stored cases of the
-//! programs, the example files, and what must be printed for each.
+//! programs, the example files, and what must be printed for each. `README.md` has them in layers.
 
 mod calls;
 mod capture;

@@ -1,5 +1,7 @@
 //! What the calls have in common: a table that is expected, a list in any of its forms, and the commands that are written.
 
+use std::borrow::Cow;
+
 use crate::records::{read_table, refused_by, write_command, EDITION, LATER, PLAIN};
 use crate::records::{Command, GroupTable, Refusal, Transaction};
 use crate::scheduler::decode;
@@ -23,13 +25,13 @@ pub enum Handed<'a> {
     Eight(&'a [u8]),
 }
 
-impl Handed<'_> {
+impl<'a> Handed<'a> {
     /// Number 3 of bytes.
-    pub fn list(self, table: &GroupTable) -> Result<Vec<Transaction>, Refusal> {
+    pub fn list(self, table: &GroupTable) -> Result<Cow<'a, [Transaction]>, Refusal> {
         match self {
-            Handed::List(list) => Ok(list.to_vec()),
-            Handed::Four(bytes) => decode(table, bytes, PLAIN),
-            Handed::Eight(bytes) => decode(table, bytes, LATER),
+            Handed::List(list) => Ok(list.into()),
+            Handed::Four(bytes) => Ok(decode(table, bytes, PLAIN)?.into()),
+            Handed::Eight(bytes) => Ok(decode(table, bytes, LATER)?.into()),
         }
     }
 }
