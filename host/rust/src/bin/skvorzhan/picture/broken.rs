@@ -178,9 +178,12 @@ fn cycles(n: i64) -> String {
     }
 }
 
-/// On top of the marks: the ring round the record that it is too near to.
+/// On top of the marks: the ring round the record that it is too near to, or that left a bank open (rule 10).
 pub fn ring(xml: &mut Xml, sheet: &Sheet, strip: &Strip, lanes: &Lanes) {
-    let near = Measured::of(sheet).and_then(|m| m.near);
+    let near = sheet
+        .shown
+        .near
+        .and_then(|near| sheet.scene.commands.get(near));
     if let Some(near) = near.filter(|c| strip.holds(c.cycle.into())) {
         let (x, y) = (strip.x(near.cycle.into()), lanes.middle(near));
         if near.kind == REF {

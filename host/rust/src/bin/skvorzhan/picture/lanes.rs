@@ -9,7 +9,7 @@ use super::time_axis::{Strip, EDGE};
 use super::xml::{grouped, width_of, Xml};
 use super::Sheet;
 
-/// A table has at most 16 banks. What stands here that has more is shown by the banks that are used, and not by all of those.
+/// An accepted table has no more banks. Of any other that had, only those that are used would have a lane.
 const MOST_BANKS: i64 = 16;
 
 const AXIS: f64 = 24.0;

@@ -3,6 +3,7 @@
 use super::follows::{name, ACT, RD, RDA, REF, WR, WRA};
 use super::heading::MARGIN;
 use super::marks::{mark, Standing};
+use super::pins;
 use super::xml::{width_of, Xml};
 use super::Sheet;
 
@@ -80,6 +81,9 @@ fn signs(sheet: &Sheet) -> Vec<(Sign, String)> {
             Sign::Span("burst-write"),
             &format!("pins held by a write{paler}"),
         );
+    }
+    if !pins::shared(sheet).is_empty() {
+        add(Sign::Span("shared"), "two bursts share cycles");
     }
     add(
         Sign::Window,

@@ -8,12 +8,37 @@ use super::xml::{grouped, width_of, Xml};
 use super::Sheet;
 
 pub fn draw(xml: &mut Xml, sheet: &Sheet, strip: &Strip, lanes: &Lanes) {
-    let own = |h: &&Held| sheet.shown.reaches(h.record);
-    let bursts: Vec<&Held> = sheet.follows.bursts.iter().filter(own).collect();
-    for burst in &bursts {
+    for burst in bursts(sheet) {
         one(xml, sheet, strip, lanes, burst);
     }
-    shared(xml, strip, lanes, &bursts);
+    for (from, until) in shared(sheet) {
+        if let Some((x, end)) = strip.span(from, until) {
+            xml.open("span");
+            xml.tip("two bursts share these cycles");
+            xml.rect([x, lanes.pins + 2.0, end - x, 24.0], "shared");
+            xml.close();
+        }
+    }
+}
+
+fn bursts<'a>(sheet: &Sheet<'a>) -> Vec<&'a Held> {
+    let reached = |h: &&Held| sheet.shown.reaches(h.record);
+    sheet.follows.bursts.iter().filter(reached).collect()
+}
+
+/// The cycles that two bursts share: no accepted schedule has one.
+pub fn shared(sheet: &Sheet) -> Vec<(i64, i64)> {
+    let mut ordered = bursts(sheet);
+    ordered.sort_unstable_by_key(|h| (h.from, h.until));
+    let mut until = i64::MIN;
+    let mut all = Vec::new();
+    for burst in ordered {
+        if burst.from < until {
+            all.push((burst.from, burst.until.min(until)));
+        }
+        until = until.max(burst.until);
+    }
+    all
 }
 
 fn one(xml: &mut Xml, sheet: &Sheet, strip: &Strip, lanes: &Lanes, burst: &Held) {
@@ -53,20 +78,4 @@ fn one(xml: &mut Xml, sheet: &Sheet, strip: &Strip, lanes: &Lanes, burst: &Held)
         xml.words([(x + end) / 2.0, lanes.pins + 17.6], &class, words);
     }
     xml.close();
-}
-
-/// Cycles that two bursts share: no accepted schedule has one.
-fn shared(xml: &mut Xml, strip: &Strip, lanes: &Lanes, bursts: &[&Held]) {
-    let mut ordered = bursts.to_vec();
-    ordered.sort_unstable_by_key(|h| (h.from, h.until));
-    let mut until = i64::MIN;
-    for burst in ordered {
-        if let Some((x, end)) = strip.span(burst.from, burst.until.min(until)) {
-            xml.open("span");
-            xml.tip("two bursts share these cycles");
-            xml.rect([x, lanes.pins + 2.0, end - x, 24.0], "shared");
-            xml.close();
-        }
-        until = until.max(burst.until);
-    }
 }

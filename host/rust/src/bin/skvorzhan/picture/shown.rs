@@ -1,6 +1,6 @@
 //! Which records the picture shows. A schedule has up to 69,632, and nobody looks at so many marks: where not all of them fit into
 //! `MOST_STRIPS` strips, a schedule without a broken record is shown from its first one on, and a refused one around the broken record, in fewer
-//! strips since what matters is near. The heading says what is left out. The record that the broken one is too near to is always shown, however
+//! strips since what matters is near. Shrinking the marks instead would leave nothing to read. The heading says what is left out. The record that the broken one is too near to is always shown, however
 //! far back it stands.
 
 use super::follows::{Follows, REF};
@@ -24,6 +24,7 @@ pub struct Shown {
     pub first: usize,
     /// The first record after.
     pub until: usize,
+    /// The record that the broken one is too near to, where the schedule has it.
     pub near: Option<usize>,
     pub strips: Vec<Strip>,
     /// From each mark to the next of its lane at least so wide.
