@@ -1,3 +1,3 @@
-// The host's running controller: what its numbers tell, and its run by value by the plain engine; where it lies is the affair of `lent`.
+// The host's running controller: what its numbers tell, and its run by value by the plain engine; where it lies is the affair of `lending`.
 pub mod controller;
 pub mod run;

@@ -4,6 +4,7 @@ use builder::build::BuildAnswer;
 use desk::numbers::rule_number;
 use judge::answer::Judged;
 use judge::answer::PatternJudged;
+use prints::count;
 use prints::first;
 use prints::text;
 use records::refusal::Refusal;
@@ -50,8 +51,8 @@ pub(crate) fn built(answer: BuildAnswer) {
     match answer {
         BuildAnswer::Built(e, commands) => {
             edition(e);
-            text(b" commands ");
-            first(commands as u32);
+            text(b" commands");
+            count(commands);
             text(b"\n");
         }
         BuildAnswer::Refused(r) => refused(r),

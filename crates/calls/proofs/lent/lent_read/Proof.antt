@@ -54,10 +54,10 @@ use Rattle.calls.proofs.told.decoded as g
 use Rattle.calls.proofs.told.decoded.Symbol as g-def
 use Rattle.calls.proofs.told.decoded.Symbol.{name as #decoded}
 use Rattle.calls.proofs.told.decoded.Met as g-thm
-use Rattle.reading.proofs.reading.read_transactions as h
-use Rattle.reading.proofs.reading.read_transactions.Symbol as h-def
-use Rattle.reading.proofs.reading.read_transactions.Symbol.{name as #read-transactions}
-use Rattle.reading.proofs.reading.read_transactions.Met as h-thm
+use Rattle.decoding.proofs.reading.read_transactions as h
+use Rattle.decoding.proofs.reading.read_transactions.Symbol as h-def
+use Rattle.decoding.proofs.reading.read_transactions.Symbol.{name as #read-transactions}
+use Rattle.decoding.proofs.reading.read_transactions.Met as h-thm
 use Rattle.calls.proofs.lent.lent_read.Key.{name as #lent-read}
 use Rattle.calls.proofs.lent.lent_read as f
 use Rattle.calls.proofs.lent.lent_read.Statement as stated
@@ -212,4 +212,4 @@ lent-read-spec 𝓤 H 𝓜 𝓖 𝓡 =
     (tables 𝓤 H 𝓜 𝓡 code.env .C) (tables 𝓤 H 𝓜 𝓡 code.env .Λ) #lent-read code.function (code.unfolded 𝓤 H 𝓜 𝓡)
     (meets 𝓤 H (𝓖 .A) (givenOf 𝓤 H 𝓜 𝓖) (𝓜 .mem) (𝓡 .run) (tablesOf 𝓤 H 𝓜 (tables 𝓤 H 𝓜 𝓡 code.env))
     (cited 𝓤 H (Tell 𝓤 H (𝓖 .A) (𝓜 .mem) (𝓡 .run)) 𝓜 𝓡 code.env #decoded g-def.routine code.calls-calls·told·decoded (g-thm.met 𝓤 H 𝓜 𝓖 𝓡))
-    (cited 𝓤 H (Work 𝓤 H (𝓖 .A) (𝓜 .mem) (𝓡 .run)) 𝓜 𝓡 code.env #read-transactions h-def.routine code.calls-reading·reading·read-transactions (h-thm.met 𝓤 H 𝓜 𝓖 𝓡)))
+    (cited 𝓤 H (Work 𝓤 H (𝓖 .A) (𝓜 .mem) (𝓡 .run)) 𝓜 𝓡 code.env #read-transactions h-def.routine code.calls-decoding·reading·read-transactions (h-thm.met 𝓤 H 𝓜 𝓖 𝓡)))

@@ -54,10 +54,10 @@ use Rattle.calls.proofs.told.decoded as g
 use Rattle.calls.proofs.told.decoded.Symbol as g-def
 use Rattle.calls.proofs.told.decoded.Symbol.{name as #decoded}
 use Rattle.calls.proofs.told.decoded.Met as g-thm
-use Rattle.reading.proofs.reading.read_later_transactions as h
-use Rattle.reading.proofs.reading.read_later_transactions.Symbol as h-def
-use Rattle.reading.proofs.reading.read_later_transactions.Symbol.{name as #read-later-transactions}
-use Rattle.reading.proofs.reading.read_later_transactions.Met as h-thm
+use Rattle.decoding.proofs.reading.read_later_transactions as h
+use Rattle.decoding.proofs.reading.read_later_transactions.Symbol as h-def
+use Rattle.decoding.proofs.reading.read_later_transactions.Symbol.{name as #read-later-transactions}
+use Rattle.decoding.proofs.reading.read_later_transactions.Met as h-thm
 use Rattle.calls.proofs.lent.lent_read_later.Key.{name as #lent-read-later}
 use Rattle.calls.proofs.lent.lent_read_later as f
 use Rattle.calls.proofs.lent.lent_read_later.Statement as stated
@@ -212,4 +212,4 @@ lent-read-later-spec 𝓤 H 𝓜 𝓖 𝓡 =
     (tables 𝓤 H 𝓜 𝓡 code.env .C) (tables 𝓤 H 𝓜 𝓡 code.env .Λ) #lent-read-later code.function (code.unfolded 𝓤 H 𝓜 𝓡)
     (meets 𝓤 H (𝓖 .A) (givenOf 𝓤 H 𝓜 𝓖) (𝓜 .mem) (𝓡 .run) (tablesOf 𝓤 H 𝓜 (tables 𝓤 H 𝓜 𝓡 code.env))
     (cited 𝓤 H (Tell 𝓤 H (𝓖 .A) (𝓜 .mem) (𝓡 .run)) 𝓜 𝓡 code.env #decoded g-def.routine code.calls-calls·told·decoded (g-thm.met 𝓤 H 𝓜 𝓖 𝓡))
-    (cited 𝓤 H (Work 𝓤 H (𝓖 .A) (𝓜 .mem) (𝓡 .run)) 𝓜 𝓡 code.env #read-later-transactions h-def.routine code.calls-reading·reading·read-later-transactions (h-thm.met 𝓤 H 𝓜 𝓖 𝓡)))
+    (cited 𝓤 H (Work 𝓤 H (𝓖 .A) (𝓜 .mem) (𝓡 .run)) 𝓜 𝓡 code.env #read-later-transactions h-def.routine code.calls-decoding·reading·read-later-transactions (h-thm.met 𝓤 H 𝓜 𝓖 𝓡)))

@@ -56,10 +56,10 @@ use Rattle.controller.proofs.run.RunAnswer as N
 use Rattle.controller.proofs.run.RunAnswer.Laws as N′
 use Rattle.controller.proofs.run.RunTold as R
 use Rattle.controller.proofs.run.RunTold.Laws as R′
-use Rattle.lent.proofs.running.run as h
-use Rattle.lent.proofs.running.run.Symbol as h-def
-use Rattle.lent.proofs.running.run.Symbol.{name as #run}
-use Rattle.lent.proofs.running.run.Met as h-thm
+use Rattle.lending.proofs.running.run as h
+use Rattle.lending.proofs.running.run.Symbol as h-def
+use Rattle.lending.proofs.running.run.Symbol.{name as #run}
+use Rattle.lending.proofs.running.run.Met as h-thm
 use Rattle.calls.proofs.lent.lent_run.Key.{name as #lent-run}
 use Rattle.calls.proofs.lent.lent_run as f
 use Rattle.calls.proofs.lent.lent_run.Statement as stated
@@ -219,4 +219,4 @@ lent-run-spec 𝓤 H 𝓜 𝓖 𝓡 =
     entered 𝓤 H (tripleOf 𝓤 H (𝓖 .A) f.signature (f.spec 𝓤 H (𝓖 .A) (𝓜 .mem) (𝓡 .run)))
     (tables 𝓤 H 𝓜 𝓡 code.env .C) (tables 𝓤 H 𝓜 𝓡 code.env .Λ) #lent-run code.function (code.unfolded 𝓤 H 𝓜 𝓡)
     (meets 𝓤 H (𝓖 .A) (givenOf 𝓤 H 𝓜 𝓖) (𝓜 .mem) (𝓡 .run) (tablesOf 𝓤 H 𝓜 (tables 𝓤 H 𝓜 𝓡 code.env))
-    (cited 𝓤 H (Work 𝓤 H (𝓖 .A) (𝓜 .mem) (𝓡 .run)) 𝓜 𝓡 code.env #run h-def.routine code.calls-lent·running·run (h-thm.met 𝓤 H 𝓜 𝓖 𝓡)))
+    (cited 𝓤 H (Work 𝓤 H (𝓖 .A) (𝓜 .mem) (𝓡 .run)) 𝓜 𝓡 code.env #run h-def.routine code.calls-lending·running·run (h-thm.met 𝓤 H 𝓜 𝓖 𝓡)))

@@ -48,10 +48,10 @@ use Rattle.records.proofs.transaction.Transaction as T
 use Rattle.records.proofs.transaction.Transaction.Laws as T′
 use Rattle.builder.proofs.build.BuildAnswer as R
 use Rattle.builder.proofs.build.BuildAnswer.Laws as R′
-use Rattle.lent.proofs.schedules.schedule as h
-use Rattle.lent.proofs.schedules.schedule.Symbol as h-def
-use Rattle.lent.proofs.schedules.schedule.Symbol.{name as #schedule}
-use Rattle.lent.proofs.schedules.schedule.Met as h-thm
+use Rattle.lending.proofs.schedules.schedule as h
+use Rattle.lending.proofs.schedules.schedule.Symbol as h-def
+use Rattle.lending.proofs.schedules.schedule.Symbol.{name as #schedule}
+use Rattle.lending.proofs.schedules.schedule.Met as h-thm
 use Rattle.calls.proofs.lent.lent_schedule.Key.{name as #lent-schedule}
 use Rattle.calls.proofs.lent.lent_schedule as f
 use Rattle.calls.proofs.lent.lent_schedule.Statement as stated
@@ -193,4 +193,4 @@ lent-schedule-spec 𝓤 H 𝓜 𝓖 𝓡 =
     entered 𝓤 H (tripleOf 𝓤 H (𝓖 .A) f.signature (f.spec 𝓤 H (𝓖 .A) (𝓜 .mem) (𝓡 .run)))
     (tables 𝓤 H 𝓜 𝓡 code.env .C) (tables 𝓤 H 𝓜 𝓡 code.env .Λ) #lent-schedule code.function (code.unfolded 𝓤 H 𝓜 𝓡)
     (meets 𝓤 H (𝓖 .A) (givenOf 𝓤 H 𝓜 𝓖) (𝓜 .mem) (𝓡 .run) (tablesOf 𝓤 H 𝓜 (tables 𝓤 H 𝓜 𝓡 code.env))
-    (cited 𝓤 H (Work 𝓤 H (𝓖 .A) (𝓜 .mem) (𝓡 .run)) 𝓜 𝓡 code.env #schedule h-def.routine code.calls-lent·schedules·schedule (h-thm.met 𝓤 H 𝓜 𝓖 𝓡)))
+    (cited 𝓤 H (Work 𝓤 H (𝓖 .A) (𝓜 .mem) (𝓡 .run)) 𝓜 𝓡 code.env #schedule h-def.routine code.calls-lending·schedules·schedule (h-thm.met 𝓤 H 𝓜 𝓖 𝓡)))

@@ -56,10 +56,10 @@ use Rattle.controller.proofs.run.RunAnswer as N
 use Rattle.controller.proofs.run.RunAnswer.Laws as N′
 use Rattle.controller.proofs.run.RunTold as R
 use Rattle.controller.proofs.run.RunTold.Laws as R′
-use Rattle.lent.proofs.running.step as h
-use Rattle.lent.proofs.running.step.Symbol as h-def
-use Rattle.lent.proofs.running.step.Symbol.{name as #step}
-use Rattle.lent.proofs.running.step.Met as h-thm
+use Rattle.lending.proofs.running.step as h
+use Rattle.lending.proofs.running.step.Symbol as h-def
+use Rattle.lending.proofs.running.step.Symbol.{name as #step}
+use Rattle.lending.proofs.running.step.Met as h-thm
 use Rattle.calls.proofs.lent.lent_step.Key.{name as #lent-step}
 use Rattle.calls.proofs.lent.lent_step as f
 use Rattle.calls.proofs.lent.lent_step.Statement as stated
@@ -219,4 +219,4 @@ lent-step-spec 𝓤 H 𝓜 𝓖 𝓡 =
     entered 𝓤 H (tripleOf 𝓤 H (𝓖 .A) f.signature (f.spec 𝓤 H (𝓖 .A) (𝓜 .mem) (𝓡 .run)))
     (tables 𝓤 H 𝓜 𝓡 code.env .C) (tables 𝓤 H 𝓜 𝓡 code.env .Λ) #lent-step code.function (code.unfolded 𝓤 H 𝓜 𝓡)
     (meets 𝓤 H (𝓖 .A) (givenOf 𝓤 H 𝓜 𝓖) (𝓜 .mem) (𝓡 .run) (tablesOf 𝓤 H 𝓜 (tables 𝓤 H 𝓜 𝓡 code.env))
-    (cited 𝓤 H (Work 𝓤 H (𝓖 .A) (𝓜 .mem) (𝓡 .run)) 𝓜 𝓡 code.env #step h-def.routine code.calls-lent·running·step (h-thm.met 𝓤 H 𝓜 𝓖 𝓡)))
+    (cited 𝓤 H (Work 𝓤 H (𝓖 .A) (𝓜 .mem) (𝓡 .run)) 𝓜 𝓡 code.env #step h-def.routine code.calls-lending·running·step (h-thm.met 𝓤 H 𝓜 𝓖 𝓡)))

@@ -50,10 +50,10 @@ use Rattle.lists.proofs.decode.Decoded as R
 use Rattle.lists.proofs.decode.Decoded.Laws as R′
 use Rattle.answers.proofs.answer.Answer as N
 use Rattle.answers.proofs.answer.Answer.Laws as N′
-use Rattle.reading.proofs.reading.read_transactions as g
-use Rattle.reading.proofs.reading.read_transactions.Symbol as g-def
-use Rattle.reading.proofs.reading.read_transactions.Symbol.{name as #read-transactions}
-use Rattle.reading.proofs.reading.read_transactions.Met as g-thm
+use Rattle.decoding.proofs.reading.read_transactions as g
+use Rattle.decoding.proofs.reading.read_transactions.Symbol as g-def
+use Rattle.decoding.proofs.reading.read_transactions.Symbol.{name as #read-transactions}
+use Rattle.decoding.proofs.reading.read_transactions.Met as g-thm
 use Rattle.answers.proofs.answer.of_read as h
 use Rattle.answers.proofs.answer.of_read.Symbol as h-def
 use Rattle.answers.proofs.answer.of_read.Symbol.{name as #of-read}
@@ -190,5 +190,5 @@ skv-read-transactions-spec 𝓤 H 𝓜 𝓖 𝓡 =
     entered 𝓤 H (tripleOf 𝓤 H (𝓖 .A) f.signature (f.spec 𝓤 H (𝓖 .A) (𝓜 .mem) (𝓡 .run)))
     (tables 𝓤 H 𝓜 𝓡 code.env .C) (tables 𝓤 H 𝓜 𝓡 code.env .Λ) #skv-read-transactions code.function (code.unfolded 𝓤 H 𝓜 𝓡)
     (meets 𝓤 H (𝓖 .A) (givenOf 𝓤 H 𝓜 𝓖) (𝓜 .mem) (𝓡 .run) (tablesOf 𝓤 H 𝓜 (tables 𝓤 H 𝓜 𝓡 code.env))
-    (cited 𝓤 H (Work 𝓤 H (𝓖 .A) (𝓜 .mem) (𝓡 .run)) 𝓜 𝓡 code.env #read-transactions g-def.routine code.calls-reading·reading·read-transactions (g-thm.met 𝓤 H 𝓜 𝓖 𝓡))
+    (cited 𝓤 H (Work 𝓤 H (𝓖 .A) (𝓜 .mem) (𝓡 .run)) 𝓜 𝓡 code.env #read-transactions g-def.routine code.calls-decoding·reading·read-transactions (g-thm.met 𝓤 H 𝓜 𝓖 𝓡))
     (cited 𝓤 H (Numbers 𝓤 H (𝓖 .A) (𝓜 .mem) (𝓡 .run)) 𝓜 𝓡 code.env #of-read h-def.routine code.calls-answers·answer·of-read (h-thm.met 𝓤 H 𝓜 𝓖 𝓡)))

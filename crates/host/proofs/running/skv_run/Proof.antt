@@ -51,10 +51,10 @@ use Rattle.controller.proofs.run.RunAnswer as R
 use Rattle.controller.proofs.run.RunAnswer.Laws as R′
 use Rattle.answers.proofs.answer.Answer as N
 use Rattle.answers.proofs.answer.Answer.Laws as N′
-use Rattle.lent.proofs.running.run as g
-use Rattle.lent.proofs.running.run.Symbol as g-def
-use Rattle.lent.proofs.running.run.Symbol.{name as #run}
-use Rattle.lent.proofs.running.run.Met as g-thm
+use Rattle.lending.proofs.running.run as g
+use Rattle.lending.proofs.running.run.Symbol as g-def
+use Rattle.lending.proofs.running.run.Symbol.{name as #run}
+use Rattle.lending.proofs.running.run.Met as g-thm
 use Rattle.answers.proofs.answer.of_run as h
 use Rattle.answers.proofs.answer.of_run.Symbol as h-def
 use Rattle.answers.proofs.answer.of_run.Symbol.{name as #of-run}
@@ -197,5 +197,5 @@ skv-run-spec 𝓤 H 𝓜 𝓖 𝓡 =
     entered 𝓤 H (tripleOf 𝓤 H (𝓖 .A) f.signature (f.spec 𝓤 H (𝓖 .A) (𝓜 .mem) (𝓡 .run)))
     (tables 𝓤 H 𝓜 𝓡 code.env .C) (tables 𝓤 H 𝓜 𝓡 code.env .Λ) #skv-run code.function (code.unfolded 𝓤 H 𝓜 𝓡)
     (meets 𝓤 H (𝓖 .A) (givenOf 𝓤 H 𝓜 𝓖) (𝓜 .mem) (𝓡 .run) (tablesOf 𝓤 H 𝓜 (tables 𝓤 H 𝓜 𝓡 code.env))
-    (cited 𝓤 H (Work 𝓤 H (𝓖 .A) (𝓜 .mem) (𝓡 .run)) 𝓜 𝓡 code.env #run g-def.routine code.calls-lent·running·run (g-thm.met 𝓤 H 𝓜 𝓖 𝓡))
+    (cited 𝓤 H (Work 𝓤 H (𝓖 .A) (𝓜 .mem) (𝓡 .run)) 𝓜 𝓡 code.env #run g-def.routine code.calls-lending·running·run (g-thm.met 𝓤 H 𝓜 𝓖 𝓡))
     (cited 𝓤 H (Numbers 𝓤 H (𝓖 .A) (𝓜 .mem) (𝓡 .run)) 𝓜 𝓡 code.env #of-run h-def.routine code.calls-answers·answer·of-run (h-thm.met 𝓤 H 𝓜 𝓖 𝓡)))

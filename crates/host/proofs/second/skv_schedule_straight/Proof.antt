@@ -50,10 +50,10 @@ use Rattle.builder.proofs.build.BuildAnswer as R
 use Rattle.builder.proofs.build.BuildAnswer.Laws as R′
 use Rattle.answers.proofs.answer.Answer as N
 use Rattle.answers.proofs.answer.Answer.Laws as N′
-use Rattle.lent.proofs.schedules.schedule_straight as g
-use Rattle.lent.proofs.schedules.schedule_straight.Symbol as g-def
-use Rattle.lent.proofs.schedules.schedule_straight.Symbol.{name as #schedule-straight}
-use Rattle.lent.proofs.schedules.schedule_straight.Met as g-thm
+use Rattle.lending.proofs.schedules.schedule_straight as g
+use Rattle.lending.proofs.schedules.schedule_straight.Symbol as g-def
+use Rattle.lending.proofs.schedules.schedule_straight.Symbol.{name as #schedule-straight}
+use Rattle.lending.proofs.schedules.schedule_straight.Met as g-thm
 use Rattle.answers.proofs.answer.of_build as h
 use Rattle.answers.proofs.answer.of_build.Symbol as h-def
 use Rattle.answers.proofs.answer.of_build.Symbol.{name as #of-build}
@@ -194,5 +194,5 @@ skv-schedule-straight-spec 𝓤 H 𝓜 𝓖 𝓡 =
     entered 𝓤 H (tripleOf 𝓤 H (𝓖 .A) f.signature (f.spec 𝓤 H (𝓖 .A) (𝓜 .mem) (𝓡 .run)))
     (tables 𝓤 H 𝓜 𝓡 code.env .C) (tables 𝓤 H 𝓜 𝓡 code.env .Λ) #skv-schedule-straight code.function (code.unfolded 𝓤 H 𝓜 𝓡)
     (meets 𝓤 H (𝓖 .A) (givenOf 𝓤 H 𝓜 𝓖) (𝓜 .mem) (𝓡 .run) (tablesOf 𝓤 H 𝓜 (tables 𝓤 H 𝓜 𝓡 code.env))
-    (cited 𝓤 H (Work 𝓤 H (𝓖 .A) (𝓜 .mem) (𝓡 .run)) 𝓜 𝓡 code.env #schedule-straight g-def.routine code.calls-lent·schedules·schedule-straight (g-thm.met 𝓤 H 𝓜 𝓖 𝓡))
+    (cited 𝓤 H (Work 𝓤 H (𝓖 .A) (𝓜 .mem) (𝓡 .run)) 𝓜 𝓡 code.env #schedule-straight g-def.routine code.calls-lending·schedules·schedule-straight (g-thm.met 𝓤 H 𝓜 𝓖 𝓡))
     (cited 𝓤 H (Numbers 𝓤 H (𝓖 .A) (𝓜 .mem) (𝓡 .run)) 𝓜 𝓡 code.env #of-build h-def.routine code.calls-answers·answer·of-build (h-thm.met 𝓤 H 𝓜 𝓖 𝓡)))
