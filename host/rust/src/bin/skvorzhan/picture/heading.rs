@@ -38,11 +38,11 @@ pub fn draw(xml: &mut Xml, sheet: &Sheet, width: f64) -> f64 {
         let record = grouped(broken.record as i64);
         let first = if sheet.left_open {
             format!(
-                "Refused at the end, record {record}, by rule {}",
+                "At the end, record {record}: rule {} is broken",
                 broken.rule
             )
         } else {
-            format!("Refused: record {record} breaks rule {}", broken.rule)
+            format!("Record {record} breaks rule {}", broken.rule)
         };
         xml.words([MARGIN + 20.0, y + 21.0], "refused", &first);
         for (line, n) in lines.iter().zip(1..) {

@@ -32,7 +32,7 @@ fn example_5_shows_every_command_and_the_finish() {
 fn the_broken_record_is_shown_with_its_rule_and_its_ghost() {
     let text = drawn(&fifth_act_early());
     for words in [
-        "Refused: record 4 breaks rule 7",
+        "Record 4 breaks rule 7",
         "An ACT less than FAW after the fourth ACT before it.",
         "record 4 at cycle 27, 27 cycles after record 0",
         "legal from cycle 32 on, 32 cycles after it",
@@ -55,7 +55,7 @@ fn an_open_bank_at_the_end_is_red() {
         legal: None,
     });
     let text = drawn(&scene);
-    assert!(text.contains("class=\"left-open\"") && text.contains("Refused at the end"));
+    assert!(text.contains("class=\"left-open\"") && text.contains("At the end, record"));
 }
 
 /// Pairs of ACT and RDA, 19 cycles apart.
