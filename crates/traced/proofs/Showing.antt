@@ -1,13 +1,13 @@
 -- A trace shows the table's refusal, number 7 or 11 of the capture, or its commands and the judge's verdict on them.
 -- Assumes nothing.
 use Prim.Native.Nat.{ℕ, _*_, _≤_}
-use mathlib.Core.Path.{_≡_, refl, ap}
+use mathlib.Core.Path.{_≡_, refl, ap, sym}
 use mathlib.Core.Bool.{Bool, true, false}
 use mathlib.Core.Logic.{_⊎_, inl, inr}
 use mathlib.Core.List.{List, [], _∷_}
 use native.Mathlib.Omega.{arith}
 use lib.Dec.{ltb, eqb}
-use lib.ListN.{length, length-replicate}
+use lib.ListN.{length}
 use borrow.Author.Tests.{ltb-true, ltb-false}
 use Rattle.records.specs.Tests.{pick}
 use Rattle.records.specs.Told.{refusal, firstFailed, over}
@@ -24,6 +24,7 @@ use Rattle.capture.proofs.Refusals.{few-records, few-commands, at-most, stand-s
 use Rattle.desk.specs.Admit.{admitted}
 use Rattle.desk.specs.Tracing.{capturing}
 use Rattle.traced.specs.Trace.{traceText, answerText, leftText, emptyRoom, callText}
+use Rattle.traced.proofs.Telling.{room-size}
 use Rattle.traced.specs.Shows.{Shows7, Shows11, ShowsVerdict, Shows}
 
 module _ (τ : Table) (s b : List ℕ) (room : 557056 ≤ length b) where
@@ -70,5 +71,5 @@ unfolding callText capturing answerText
 shows expected table capture = on (admitted expected table) refl
   where
     on : (a : TableRead) → admitted expected table ≡ a → Shows expected table capture (leftText (capturing a capture emptyRoom))
-    on (Read τ) e = inr (τ, e, told τ capture emptyRoom (enough (length emptyRoom) (length-replicate {A = ℕ} 557056 0)))
+    on (Read τ) e = inr (τ, e, told τ capture emptyRoom (enough (length emptyRoom) (sym (room-size emptyRoom refl))))
     on (NoTable x) e = inl (x, e, refl)

@@ -2,7 +2,7 @@
 -- Assumes nothing.
 use Prim.Native.Nat.{ℕ, _+_, _-_, _*_, _≤_, _<_}
 use mathlib.Core.Bool.{Bool}
-use mathlib.Core.Path.{_≡_, sym, ap, _∙_, subst}
+use mathlib.Core.Path.{_≡_, sym, ap, _∙_, subst, refl}
 use mathlib.Core.List.{List, _++_}
 use native.Mathlib.Omega.{arith}
 use native.Mathlib.Nat.{zero-add}
@@ -78,7 +78,14 @@ fits (Read τ) s b e n v h =
     omega (arith, same, taken s (length b) (k .0) .fits)
 fits (NoTable x) s b e n v h = let y : _≡_ {A = ℕ} 0 1 = cc in absurd (omega arith)
 
-module _ (expected : ℕ) (table capture room : List ℕ) (r : CaptureJudged) (h : LeavesCapture (capturing (admitted expected table) capture emptyRoom) r room) where
+pub room-size : (b : List ℕ) → b ≡ emptyRoom → 557056 ≡ length b
+unfolding emptyRoom
+room-size b e = sym (ap length e ∙ length-replicate {A = ℕ} 557056 0)
+
+module _ (expected : ℕ) (table capture room b : List ℕ) (r : CaptureJudged) (blank : b ≡ emptyRoom) (g : LeavesCapture (capturing (admitted expected table) capture b) r room) where
+  h : LeavesCapture (capturing (admitted expected table) capture emptyRoom) r room
+  h = subst (λ (x : List ℕ). LeavesCapture (capturing (admitted expected table) capture x) r room) blank g
+
   text : callText expected table capture ≡ answerText r room
   unfolding callText
   text =
@@ -94,9 +101,10 @@ module _ (expected : ℕ) (table capture room : List ℕ) (r : CaptureJudged) (h
   call-refused x p = text ∙ ap (λ (a : CaptureJudged). answerText a room) p
 
   -- 69,632 commands, the first line, the verdict's
-  pub call-room : (e n : ℕ) (v : Verdict) (size : ℕ) → r ≡ Says e n v → length room ≡ 557056 → 1741000 ≤ size → (8 * n ≤ length room) × (85 + 25 * n ≤ size)
+  pub call-room : (e n : ℕ) (v : Verdict) (size : ℕ) → r ≡ Says e n v → length room ≡ length b → 1741000 ≤ size → (8 * n ≤ length room) × (85 + 25 * n ≤ size)
   call-room e n v size p a c =
-      let k : 8 * n ≤ 557056 = subst (λ (m : ℕ). 8 * n ≤ m) (length-replicate {A = ℕ} 557056 0) (fits (admitted expected table) capture emptyRoom e n v (sym p ∙ h .0)) in
+      let z = room-size b blank in
+      let k : 8 * n ≤ 557056 = subst (λ (m : ℕ). 8 * n ≤ m) (sym (room-size emptyRoom refl)) (fits (admitted expected table) capture emptyRoom e n v (sym p ∙ h .0)) in
       (omega arith, omega arith)
 
 pub refusal-room : (size : ℕ) → 1741000 ≤ size → 40 ≤ size

@@ -38,7 +38,7 @@ abbrev pub leftText : Captured → List ℕ
 leftText w = answerText (w .answer) (w .buffer)
 
 -- 69,632 records hold at most as many commands, of 8 bytes each
-abbrev pub emptyRoom : List ℕ
+unfoldable pub emptyRoom : List ℕ
 emptyRoom = replicate 557056 0
 
 -- the text for an expected edition, a table and a capture: the call's answer, in that room

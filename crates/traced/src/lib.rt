@@ -11,14 +11,14 @@ use verdict::put_trace;
 ghost use mathlib.Core.Path.{_≡_};
 ghost use Prim.Native.Nat.{_≤_};
 ghost use lib.ListN.{length};
-ghost use Rattle.traced.specs.Trace.{callText, behindText, traceOf, Writes};
+ghost use Rattle.traced.specs.Trace.{emptyRoom, callText, behindText, traceOf, Writes};
 
 // The desk's call, with room for the commands of 69,632 records.
 fn trace_call(expected: u16, table: &[u8], capture: &[u8], out: &mut [u8]) -> usize
     requires { ⌜ 1741000 ≤ length (now out) ⌝ }
     ensures { λ r. ⌜ Writes (callText expected (now (table .entry)) (now (capture .entry))) r (now (out .entry)) (now (out .exit)) ⌝ }
 {
-    let mut room = [0u8; 557056];
+    let mut room = command_buffer();
     let commands = &mut room[..];
     let answer = judge_capture(expected, table, capture, commands);
     match answer {
@@ -50,6 +50,13 @@ pub fn trace_of(input: &[u8], out: &mut [u8]) -> usize
         return put_refusal(out, refuse(1, 0, 0));
     }
     trace_behind(num_at(input, 0), &input[2..], out)
+}
+
+// Room for 69,632 commands. It is a function of its own since the prover counts zeros that stand in a longer one each time it meets them.
+fn command_buffer() -> [u8; 557056]
+    ensures { λ r. ⌜ r ≡ emptyRoom ⌝ }
+{
+    [0; 557056]
 }
 
 // 1,741,000 zeros. The length is all that who lends them must know.
