@@ -12,7 +12,7 @@ use Rattle.records.specs.declared.command.Command.{Command}
 use Rattle.records.specs.declared.command.CommandRead.{CommandRead}
 use Rattle.records.specs.declared.command.CommandRead.the-variants.{Read as CommandIs}
 use Rattle.records.specs.Table.{groupNumbersOf}
-use Rattle.capture.specs.declared.one_record.CaptureRecordRead.{CaptureRecordRead}
+use Rattle.stamps.specs.declared.one_record.CaptureRecordRead.{CaptureRecordRead}
 use Rattle.shortest.specs.declared.answer.ShortestAnswer.{ShortestAnswer}
 use Rattle.shortest.specs.declared.answer.ShortestAnswer.the-variants.{Pattern}
 use Rattle.builder.specs.declared.bound.BoundAnswer.{BoundAnswer}
@@ -20,9 +20,9 @@ use Rattle.builder.specs.declared.build.BuildAnswer.{BuildAnswer}
 use Rattle.lists.specs.declared.decode.Decoded.{Decoded}
 use Rattle.controller.specs.declared.run.RunTold.{RunTold}
 use Rattle.controller.specs.declared.run.RunAnswer.{RunAnswer as RunSaid}
-use Rattle.desk.specs.declared.running.StartTold.{StartTold}
-use Rattle.desk.specs.declared.running.StartAnswer.{StartAnswer as StartSaid}
-use Rattle.desk.specs.Numbers.{Numbers, refusing as refusalNumbers, writtenNumbers, tableNumbers, transactionNumbers, commandNumbers, captureRecordNumbers, readNumbers, buildNumbers, boundNumbers, shortestNumbers, startNumbers, runNumbers}
+use Rattle.promises.specs.declared.starting.StartTold.{StartTold}
+use Rattle.promises.specs.declared.starting.StartAnswer.{StartAnswer as StartSaid}
+use Rattle.promises.specs.Numbers.{Numbers, refusing as refusalNumbers, writtenNumbers, tableNumbers, transactionNumbers, commandNumbers, captureRecordNumbers, readNumbers, buildNumbers, boundNumbers, shortestNumbers, startNumbers, runNumbers}
 use Rattle.answers.specs.declared.answer.Answer.{Answer}
 use Rattle.answers.specs.declared.reader.TableAnswer.{TableAnswer}
 use Rattle.answers.specs.declared.reader.TransactionAnswer.{TransactionAnswer}

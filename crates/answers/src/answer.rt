@@ -3,8 +3,8 @@ use builder::bound::BoundAnswer;
 use builder::build::BuildAnswer;
 use controller::controller::Controller;
 use controller::run::RunTold;
-use desk::running::StartTold;
 use lists::decode::Decoded;
+use promises::starting::StartTold;
 use records::refusal::Refusal;
 use records::refusal::Written;
 ghost use mathlib.Core.Path.{_≡_};
@@ -108,12 +108,12 @@ pub fn of_bound(b: BoundAnswer) -> Answer
     }
 }
 
-pub fn of_start(s: desk::running::StartAnswer) -> Answer
+pub fn of_start(s: promises::starting::StartAnswer) -> Answer
     ensures { λ r. ⌜ r ≡ ofStart s ⌝ }
 {
     match s {
-        desk::running::StartAnswer::Started(e) => told(e, 0, 0),
-        desk::running::StartAnswer::Refused(x) => refused(x),
+        promises::starting::StartAnswer::Started(e) => told(e, 0, 0),
+        promises::starting::StartAnswer::Refused(x) => refused(x),
     }
 }
 

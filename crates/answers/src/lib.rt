@@ -2,4 +2,3 @@
 pub mod answer;
 pub mod patterns;
 pub mod reader;
-pub mod verdict;

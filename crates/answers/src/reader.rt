@@ -1,13 +1,13 @@
 // What a reader of one record answers, as structs of plain numbers.
 use crate::answer::from_16;
 use crate::answer::refused;
-use capture::one_record::CaptureRecordRead;
 use commands::command::kind_number;
 use records::command::Command;
 use records::command::CommandRead;
 use records::table::Table;
 use records::table::TableRead;
 use records::transaction::TransactionRead;
+use stamps::one_record::CaptureRecordRead;
 ghost use mathlib.Core.Path.{_≡_};
 ghost use Rattle.records.specs.Table.{groupNumbersOf};
 ghost use Rattle.answers.specs.Answers.{ofTable, ofTransaction, commandAnswer, ofCommand, ofCaptureRecord};

@@ -23,7 +23,7 @@ use Rattle.rules.specs.Square.{groupOf, square}
 use Rattle.rules.specs.State.{past, isOpen, bankOf, quiet, charged, actsFar, farBy, dataFar, rule11, actTestsOf, refreshTestsOf, dataTestsOf, testsBy}
 use Rattle.rules.specs.History.{inTable}
 use Rattle.rules.proofs.laws.TestLaws.{true-false}
-use Rattle.timing.proofs.Grouped.{acts-first, data-first}
+use Rattle.grouped.proofs.Grouped.{acts-first, data-first}
 use Rattle.broken.specs.ByState.{foundBy, groupsFar, ownFar, testsOn, foundOn, foundRef}
 
 -- the rules that an ACT, a REF, and a data command, can break, one after the other

@@ -2,7 +2,6 @@
 use crate::told::buffer;
 use crate::told::numbers;
 use answers::reader::CaptureRecordAnswer;
-use answers::verdict::CaptureAnswer;
 use host::one_record::skv_read_capture_record;
 use host::one_record::skv_write_capture_record;
 use host::tracing::skv_judge_capture;
@@ -10,6 +9,7 @@ use prints::long;
 use prints::number;
 use prints::text;
 use records::transaction::Transaction;
+use verdict_answers::verdict::CaptureAnswer;
 
 // Room for three commands, and a byte more.
 pub(crate) fn captures(expected: u16, table: &[u8], bytes: &[u8]) {

@@ -2,7 +2,6 @@
 use crate::told::answered;
 use answers::answer::Answer;
 use answers::answer::RunAnswer;
-use answers::verdict::ServesAnswer;
 use controller::controller::Controller;
 use host::reading::skv_read_later_transactions;
 use host::reading::skv_read_transactions;
@@ -11,6 +10,7 @@ use host::running::skv_step;
 use host::schedules::skv_schedule;
 use host::serving::skv_serves;
 use records::transaction::Transaction;
+use verdict_answers::verdict::ServesAnswer;
 
 pub(crate) fn host_read(expected: u16, table: &[u8], bytes: &[u8], list: [Transaction; 3]) {
     let mut places = list;

@@ -4,15 +4,15 @@ use crate::lent::lent_serves;
 use crate::lent_host::host_serves;
 use crate::told::built;
 use crate::told::refused;
-use answers::verdict::ServesAnswer;
-use desk::numbers::rule_number;
 use host::serving::skv_serves_bytes;
 use host::serving::skv_serves_later_bytes;
 use prints::long;
 use prints::number;
 use prints::text;
+use promises::numbers::rule_number;
 use records::transaction::Transaction;
 use serves::answer::Served;
+use verdict_answers::verdict::ServesAnswer;
 
 // The four calls, on a list, the bytes of another, and a schedule.
 pub(crate) fn asked(

@@ -1,22 +1,22 @@
 // What the calls answer, as numbers, and the buffers, as bytes. A line has the call's name first.
 use answers::answer::Answer;
-use answers::verdict::VerdictAnswer;
 use builder::build::BuildAnswer;
 use controller::controller::Controller;
 use controller::controller::HostBank;
 use controller::controller::HostGroup;
 use controller::run::RunAnswer;
 use controller::run::RunTold;
-use desk::running::StartAnswer;
-use desk::running::StartTold;
 use lists::decode::Decoded;
 use prints::count;
 use prints::hex;
 use prints::long;
 use prints::number;
 use prints::text;
+use promises::starting::StartAnswer;
+use promises::starting::StartTold;
 use records::refusal::Refusal;
 use records::transaction::Transaction;
+use verdict_answers::verdict::VerdictAnswer;
 
 pub(crate) fn decoded(answer: Decoded, list: [Transaction; 3]) {
     match answer {

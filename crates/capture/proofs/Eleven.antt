@@ -12,7 +12,7 @@ use lib.ListN.{length}
 use borrow.Author.Tests.{ltb-true, ltb-false, eqb-true, eqb-false}
 use Rattle.records.specs.Tests.{pick}
 use Rattle.rules.proofs.laws.TestLaws.{either, neither}
-use Rattle.capture.specs.Capture.{Timed, tooLate, badAfter, lowestAfter, lowest}
+use Rattle.stamps.specs.Capture.{Timed, tooLate, badAfter, lowestAfter, lowest}
 use Rattle.capture.specs.Eleven.{Such, Lowest}
 
 -- numbers from i on are those from 0 on, i later

@@ -1,6 +1,4 @@
 -- The theorems about captures.
-pub mod Laws
-pub mod Round
 pub mod Turn
 pub mod Refusals
 pub mod Sent

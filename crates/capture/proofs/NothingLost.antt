@@ -11,9 +11,9 @@ use Rattle.records.specs.declared.command.Command.{Command}
 use Rattle.records.specs.Command.{kindOf, kindNumber}
 use Rattle.records.proofs.Inverse.{Bytes, kind-number}
 use Rattle.rules.specs.Verdict.{unnumbered}
-use Rattle.capture.specs.declared.one_record.CaptureRecord.{CaptureRecord}
-use Rattle.capture.specs.Record.{captureRecord}
-use Rattle.capture.specs.Capture.{recordsFrom, recordsIn, Timed, timed, timedAfter, timedOf, timedIn, gap, isTick, commandOf, commandsOf}
+use Rattle.stamps.specs.declared.one_record.CaptureRecord.{CaptureRecord}
+use Rattle.stamps.specs.Record.{captureRecord}
+use Rattle.stamps.specs.Capture.{recordsFrom, recordsIn, Timed, timed, timedAfter, timedOf, timedIn, gap, isTick, commandOf, commandsOf}
 use Rattle.capture.specs.Answer.{commandsSeen}
 use Rattle.capture.specs.Written.{stamped, allStamped, withoutTicks, NothingLost}
 

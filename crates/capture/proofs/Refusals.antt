@@ -18,10 +18,10 @@ use Rattle.records.proofs.Inverse.{kind-number}
 use Rattle.rules.specs.declared.verdict.Verdict as Verdicts
 use Rattle.rules.specs.Verdict.{judge}
 use Rattle.rules.proofs.laws.TestLaws.{neither}
-use Rattle.capture.specs.declared.one_record.CaptureRecord.{CaptureRecord}
+use Rattle.stamps.specs.declared.one_record.CaptureRecord.{CaptureRecord}
 use Rattle.capture.specs.declared.scan.Scanned.{Scanned}
 use Rattle.capture.specs.declared.answer.CaptureJudged.the-variants.{Verdict, Refused}
-use Rattle.capture.specs.Capture.{Timed, recordsFrom, recordsIn, gap, timedAfter, timedOf, timedIn, tooLate, badAfter, lowestAfter, lowest, isTick, commandOf, commandsOf}
+use Rattle.stamps.specs.Capture.{Timed, recordsFrom, recordsIn, gap, timedAfter, timedOf, timedIn, tooLate, badAfter, lowestAfter, lowest, isTick, commandOf, commandsOf}
 use Rattle.capture.specs.Answer.{notACapture, captureCount, commandsSeen, captureRefusal, positionOf, Captured, captured, LeavesCapture, Scans}
 use Rattle.records.proofs.Written.{Each, Readable, read-back, bytes-stand, read-whole}
 

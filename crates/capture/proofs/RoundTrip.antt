@@ -30,10 +30,10 @@ use Rattle.rules.proofs.laws.Numbers.{same?}
 use Rattle.rules.proofs.history.Judged.{holds}
 use Rattle.rules.proofs.history.Unnumbered.{judge-same, length-unnumbered}
 use Rattle.capture.specs.declared.answer.CaptureJudged.the-variants.{Verdict, Refused}
-use Rattle.capture.specs.Capture.{Timed, timed, timedAfter, timedOf, timedIn, gap, badAfter, lowestAfter, lowest, commandsOf}
+use Rattle.stamps.specs.Capture.{Timed, timed, timedAfter, timedOf, timedIn, gap, badAfter, lowestAfter, lowest, commandsOf}
 use Rattle.capture.specs.Answer.{notACapture, captureCount, commandsSeen, captureRefusal, Captured, captured}
 use Rattle.capture.specs.Written.{Sent, sends, ticks, cycleOf, recordOf, captureBytes, commandsSent, WrittenAs, ReadAgain}
-use Rattle.capture.proofs.Laws.{gap-cycles, stamps-differ}
+use Rattle.stamps.proofs.Laws.{gap-cycles, stamps-differ}
 use Rattle.records.proofs.Written.{Each}
 use Rattle.capture.proofs.Refusals.{refused-none}
 use Rattle.capture.proofs.Sent.{recordsOf, length-sent, count-sent, records-in}

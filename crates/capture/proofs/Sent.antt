@@ -8,9 +8,9 @@ use mathlib.Core.List.{List, [], _∷_, _++_}
 use lib.ListN.{length}
 use Rattle.records.specs.Command.{kindNumber}
 use Rattle.records.proofs.Inverse.{le16-of}
-use Rattle.capture.specs.declared.one_record.CaptureRecord.{CaptureRecord}
-use Rattle.capture.specs.Record.{recordAt}
-use Rattle.capture.specs.Capture.{recordsFrom, recordsIn}
+use Rattle.stamps.specs.declared.one_record.CaptureRecord.{CaptureRecord}
+use Rattle.stamps.specs.Record.{recordAt}
+use Rattle.stamps.specs.Capture.{recordsFrom, recordsIn}
 use Rattle.capture.specs.Answer.{captureCount}
 use Rattle.capture.specs.Written.{Sent, sends, ticks, recordOf, bytesSent, captureBytes}
 

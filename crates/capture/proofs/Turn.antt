@@ -15,11 +15,11 @@ use Rattle.records.specs.declared.command.Command.{Command}
 use Rattle.records.specs.Command.{kindOf, command, bytesOf, bytesOfAll}
 use Rattle.records.specs.Told.{over, putAt}
 use Rattle.rules.proofs.laws.TestLaws.{neither}
-use Rattle.capture.specs.declared.one_record.CaptureRecord.{CaptureRecord}
-use Rattle.capture.specs.Record.{recordAt}
-use Rattle.capture.specs.Capture.{recordsFrom, recordsIn, gap, timed, timedAfter, timedOf, timedIn, tooLate, lowestAfter, lowest, isTick, commandsOf}
+use Rattle.stamps.specs.declared.one_record.CaptureRecord.{CaptureRecord}
+use Rattle.stamps.specs.Record.{recordAt}
+use Rattle.stamps.specs.Capture.{recordsFrom, recordsIn, gap, timed, timedAfter, timedOf, timedIn, tooLate, lowestAfter, lowest, isTick, commandsOf}
 use Rattle.capture.specs.Answer.{captureCount, commandsSeen}
-use Rattle.capture.proofs.Laws.{gap-first}
+use Rattle.stamps.proofs.Laws.{gap-first}
 use Rattle.records.proofs.Written.{written-more, length-written}
 
 -- ---- before the first record stamp and cycle are 0

@@ -8,9 +8,9 @@ use Rattle.records.specs.Told.{Leaves}
 use Rattle.records.proofs.Unique.{one-answer, one-left}
 use Rattle.records.specs.declared.table.Table.{Table}
 use Rattle.capture.specs.declared.answer.CaptureJudged.{CaptureJudged}
-use Rattle.capture.specs.declared.one_record.CaptureRecord.{CaptureRecord}
-use Rattle.capture.specs.declared.one_record.CaptureRecordRead.{CaptureRecordRead}
-use Rattle.capture.specs.Record.{readCaptureRecord, writeCaptureRecord}
+use Rattle.stamps.specs.declared.one_record.CaptureRecord.{CaptureRecord}
+use Rattle.stamps.specs.declared.one_record.CaptureRecordRead.{CaptureRecordRead}
+use Rattle.stamps.specs.Record.{readCaptureRecord, writeCaptureRecord}
 use Rattle.capture.specs.Answer.{Captured, captured, LeavesCapture}
 
 pub one-captured : (w : Captured) (x y : CaptureJudged) (b d : List ℕ) → LeavesCapture w x b → LeavesCapture w y d → (x ≡ y) × (b ≡ d)

@@ -10,7 +10,7 @@ use lib.ListN.{getElem?}
 use Rattle.records.specs.declared.command.Command.{Command}
 use Rattle.records.specs.Command.{command}
 use Rattle.records.specs.declared.command.Kind.the-variants.{Act, Rda}
-use Rattle.capture.specs.Capture.{recordsFrom, gap, timedIn, lowest, commandsOf}
+use Rattle.stamps.specs.Capture.{recordsFrom, gap, timedIn, lowest, commandsOf}
 use Rattle.capture.specs.Answer.{commandsSeen, captureRefusal, captured}
 use Rattle.capture.specs.Written.{Sent, sends, ticks, cycleOf, commandsSent, WrittenAs}
 use Rattle.capture.specs.Worked.{wrapped, Worked}

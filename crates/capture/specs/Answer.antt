@@ -14,7 +14,7 @@ use Rattle.rules.specs.Verdict.{judge}
 use Rattle.capture.specs.declared.scan.Scanned.{Scanned}
 use Rattle.capture.specs.declared.answer.CaptureJudged.{CaptureJudged}
 use Rattle.capture.specs.declared.answer.CaptureJudged.the-variants.{Verdict, Refused}
-use Rattle.capture.specs.Capture.{timedIn, lowest, commandsOf}
+use Rattle.stamps.specs.Capture.{timedIn, lowest, commandsOf}
 
 -- "Number 7 (bytes not a multiple of 4, or over 69,632 records)"
 abbrev pub notACapture : ℕ → Bool

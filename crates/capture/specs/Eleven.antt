@@ -5,7 +5,7 @@ use mathlib.Core.Logic.{_⊎_}
 use mathlib.Core.Option.{some}
 use mathlib.Core.List.{List}
 use lib.ListN.{length, getElem?}
-use Rattle.capture.specs.Capture.{Timed, lowest}
+use Rattle.stamps.specs.Capture.{Timed, lowest}
 
 -- record i is such a record; ticks are records too, and the first has none before it
 abbrev pub Such : List Timed → ℕ → Type 0

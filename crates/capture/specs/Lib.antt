@@ -1,5 +1,3 @@
-pub mod Record
-pub mod Capture
 pub mod Answer
 pub mod Written
 pub mod Eleven

@@ -9,8 +9,8 @@ use Rattle.rules.specs.declared.verdict.Rule.the-variants.{Range}
 use Rattle.rules.specs.declared.verdict.Verdict.the-variants.{Accepted, Refused as Against}
 use Rattle.rules.specs.Verdict.{Legal}
 use Rattle.capture.specs.declared.answer.CaptureJudged.the-variants.{Verdict, Refused}
-use Rattle.capture.specs.Record.{captureRecord}
-use Rattle.capture.specs.Capture.{timedAfter, lowestAfter}
+use Rattle.stamps.specs.Record.{captureRecord}
+use Rattle.stamps.specs.Capture.{timedAfter, lowestAfter}
 use Rattle.capture.specs.Answer.{captured}
 use Rattle.capture.specs.Written.{Sent, sends, ticks, captureBytes, commandsSent, WrittenAs}
 

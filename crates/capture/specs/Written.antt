@@ -15,9 +15,9 @@ use Rattle.records.specs.Command.{kindNumber, bytesOfAll}
 use Rattle.rules.specs.declared.verdict.Verdict.the-variants.{Accepted}
 use Rattle.rules.specs.Verdict.{unnumbered}
 use Rattle.capture.specs.declared.answer.CaptureJudged.the-variants.{Verdict}
-use Rattle.capture.specs.declared.one_record.CaptureRecord.{CaptureRecord}
-use Rattle.capture.specs.Record.{captureRecord, bytesOfRecord}
-use Rattle.capture.specs.Capture.{recordsIn, timedIn, lowest, isTick}
+use Rattle.stamps.specs.declared.one_record.CaptureRecord.{CaptureRecord}
+use Rattle.stamps.specs.Record.{captureRecord, bytesOfRecord}
+use Rattle.stamps.specs.Capture.{recordsIn, timedIn, lowest, isTick}
 use Rattle.capture.specs.Answer.{notACapture, captureCount, commandsSeen, captured}
 
 -- what the analyser sends a record for: a command, or a tick at a cycle

@@ -1,7 +1,6 @@
 // The analyser trace: a capture record read and written, a capture checked (7, 11, 5), written as commands and judged; the table was admitted
 // before.
 pub mod answer;
-pub mod one_record;
 pub mod scan;
 pub mod trace;
 pub mod write;

@@ -1,15 +1,15 @@
 // Number 11, and how many commands a capture holds.
-use crate::one_record::cycle_after;
-use crate::one_record::is_tick;
-use crate::one_record::record_at;
 use records::tests::both_of;
 use records::tests::either_of;
+use stamps::one_record::cycle_after;
+use stamps::one_record::is_tick;
+use stamps::one_record::record_at;
 ghost use mathlib.Core.Path.{_≡_};
 ghost use mathlib.Core.Bool.{_&&_, _||_};
 ghost use Prim.Native.Nat.{_+_, _<_};
 ghost use lib.Dec.{eqb, ltb};
 ghost use Rattle.records.specs.Tests.{pick};
-ghost use Rattle.capture.specs.Capture.{tooLate};
+ghost use Rattle.stamps.specs.Capture.{tooLate};
 ghost use Rattle.capture.specs.Answer.{Scans};
 
 // The lowest record that number 11 names, or how many records there are; and the commands before it.

@@ -1,16 +1,16 @@
 // The capture written as command records.
-use crate::one_record::cycle_after;
-use crate::one_record::is_tick;
-use crate::one_record::record_at;
 use commands::command::kind_of;
 use commands::command::put_command;
 use records::command::Command;
+use stamps::one_record::cycle_after;
+use stamps::one_record::is_tick;
+use stamps::one_record::record_at;
 ghost use mathlib.Core.Path.{_≡_};
 ghost use Prim.Native.Nat.{_*_, _≤_};
 ghost use lib.ListN.{length};
 ghost use Rattle.records.specs.Told.{over};
 ghost use Rattle.records.specs.Command.{kindOf, command, bytesOfAll};
-ghost use Rattle.capture.specs.Capture.{timedIn, lowest};
+ghost use Rattle.stamps.specs.Capture.{timedIn, lowest};
 ghost use Rattle.capture.specs.Answer.{captureCount, commandsSeen};
 
 // A command of the capture: its transaction number is 0.

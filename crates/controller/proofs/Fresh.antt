@@ -28,7 +28,7 @@ use Rattle.rules.proofs.shown.Promises.{kept as promised}
 use Rattle.controller.specs.declared.run.RunReport.{RunReport}
 use Rattle.controller.specs.declared.run.RunAnswer.the-variants.{Ran}
 use Rattle.controller.specs.Controller.{tells, kept, freshController, Ranged}
-use Rattle.refusals.specs.Refused.{sound}
+use Rattle.sound.specs.Refused.{sound}
 use Rattle.controller.specs.Run.{RunLeft, written, runController}
 use Rattle.refusals.proofs.SoundKept.{fresh-sound}
 use Rattle.controller.proofs.Halves.{ran}

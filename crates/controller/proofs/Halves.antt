@@ -26,10 +26,10 @@ use Rattle.controller.specs.declared.controller.Controller.{Controller}
 use Rattle.controller.specs.declared.run.RunReport.{RunReport}
 use Rattle.controller.specs.declared.run.RunAnswer.the-variants.{Ran, Refused}
 use Rattle.controller.specs.Controller.{tells, kept, Ranged}
-use Rattle.refusals.specs.Refused.{runRefusal}
+use Rattle.sound.specs.Refused.{runRefusal}
 use Rattle.controller.specs.Run.{RunLeft, ranLeft, refusedLeft, runController}
 use Rattle.controller.specs.Promise.{Together}
-use Rattle.refusals.proofs.StoredKept.{stored-after, goes-now, next-cycle, run-keeps}
+use Rattle.sound.proofs.StoredKept.{stored-after, goes-now, next-cycle, run-keeps}
 use Rattle.controller.proofs.Inverse.{Held, held-lent, tells-kept, told-held}
 use Rattle.controller.proofs.Written.{written-append, written-at}
 

@@ -22,8 +22,8 @@ use Rattle.controller.specs.declared.controller.HostBank.{HostBank}
 use Rattle.controller.specs.declared.controller.HostGroup.{HostGroup}
 use Rattle.controller.specs.declared.controller.Controller.{Controller}
 use Rattle.controller.specs.Controller.{stampOf, numberOf, bankTells, bankKept, groupTells, groupKept, tells, kept, in32, Ranged}
-use Rattle.refusals.specs.Refused.{before, bankStamps, groupStamps, lastStamps, bankBefore, groupBefore}
-use Rattle.refusals.proofs.StoredKept.{Stored}
+use Rattle.sound.specs.Refused.{before, bankStamps, groupStamps, lastStamps, bankBefore, groupBefore}
+use Rattle.sound.proofs.StoredKept.{Stored}
 
 -- ---- from the controller: every number is as it was
 

@@ -25,7 +25,7 @@ use Rattle.timing.specs.Kept.{told}
 use Rattle.controller.specs.declared.controller.Controller.{Controller}
 use Rattle.controller.specs.declared.run.RunAnswer.the-variants.{Ran, Refused}
 use Rattle.controller.specs.Controller.{tells, kept}
-use Rattle.refusals.specs.Refused.{roomShort, sound, runRefusal}
+use Rattle.sound.specs.Refused.{roomShort, sound, runRefusal}
 use Rattle.controller.specs.Run.{runController, LeavesRun}
 use Rattle.refusals.proofs.SoundKept.{sound-tested}
 

@@ -7,7 +7,7 @@ use mathlib.Core.Logic.{_≢_}
 use mathlib.Core.List.{List, map}
 use lib.ListN.{getD, set, List·getD-map}
 use borrow.Author.Tests.{eq-eqb, ne-eqb}
-use Rattle.refusals.proofs.Laws.{Filled, fill-turn}
+use Rattle.sound.proofs.Laws.{Filled, fill-turn}
 use Rattle.timing.specs.Kept.{stampOf as keptStamp}
 use Rattle.timing.proofs.Telling.{map-set}
 use Rattle.controller.specs.declared.controller.HostBank.{HostBank}

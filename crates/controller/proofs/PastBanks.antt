@@ -21,7 +21,7 @@ use Rattle.controller.specs.declared.controller.Controller.{Controller}
 use Rattle.controller.specs.declared.run.RunReport.{RunReport}
 use Rattle.controller.specs.declared.run.RunAnswer.the-variants.{Ran}
 use Rattle.controller.specs.Controller.{bankTells, bankKept, groupTells, groupKept, tells, kept, Ranged}
-use Rattle.refusals.specs.Refused.{sound, runRefusal}
+use Rattle.sound.specs.Refused.{sound, runRefusal}
 use Rattle.controller.specs.Run.{RunLeft, ranLeft, refusedLeft, runController}
 use Rattle.controller.specs.Promise.{Keeps, SameRuns}
 use Rattle.controller.proofs.NotRefused.{not-refused}

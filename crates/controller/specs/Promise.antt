@@ -11,7 +11,7 @@ use Rattle.rules.specs.Promise.{SameTold}
 use Rattle.controller.specs.declared.controller.Controller.{Controller}
 use Rattle.controller.specs.declared.run.RunReport.{RunReport}
 use Rattle.controller.specs.Controller.{tells}
-use Rattle.refusals.specs.Refused.{sound}
+use Rattle.sound.specs.Refused.{sound}
 use Rattle.controller.specs.Run.{RunLeft}
 
 -- "n cycles and then m give the commands and state of n + m at once": `first` and `second` are the two runs, `whole` is the one

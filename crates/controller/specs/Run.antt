@@ -17,7 +17,7 @@ use Rattle.controller.specs.declared.controller.Controller.{Controller}
 use Rattle.controller.specs.declared.run.RunTold.{RunTold}
 use Rattle.controller.specs.declared.run.RunAnswer.the-variants.{Ran, Refused}
 use Rattle.controller.specs.Controller.{tells, kept}
-use Rattle.refusals.specs.Refused.{runRefusal}
+use Rattle.sound.specs.Refused.{runRefusal}
 
 pub record RunLeft : Type 0 where
   pub told : RunTold

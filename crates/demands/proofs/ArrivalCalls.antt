@@ -15,13 +15,13 @@ use Rattle.builder.specs.declared.build.BuildAnswer.the-variants.{Built, Refuse
 use Rattle.lists.specs.Check.{rangeFrom, checkList, checkBytes, checkInto}
 use Rattle.lists.specs.Decode.{decoding}
 use Rattle.lists.specs.Packed.{recordsOf}
-use Rattle.refusals.specs.Refused.{sound, runRefusal}
+use Rattle.sound.specs.Refused.{sound, runRefusal}
 use Rattle.controller.specs.Controller.{tells, kept}
 use Rattle.controller.specs.Run.{runController}
-use Rattle.desk.specs.Admit.{admitted}
-use Rattle.desk.specs.Transactions.{reading}
-use Rattle.desk.specs.Schedules.{BuildsChecked, Schedules}
-use Rattle.desk.specs.Running.{runsChecked, running}
+use Rattle.promises.specs.Admit.{admitted}
+use Rattle.promises.specs.Transactions.{reading}
+use Rattle.promises.specs.Schedules.{BuildsChecked, Schedules}
+use Rattle.promises.specs.Running.{runsChecked, running}
 use Rattle.demands.specs.Handed.{A, R, fine, out}
 use Rattle.demands.specs.ArrivalCalls.{laterRecords, arrivalLists, arrivalSchedules, arrivalRuns, pieceCalls, arrivalCalls}
 use Rattle.demands.proofs.CallLaws.{_⨾_, build-tells, bytes-tell, some, few-transactions, many-transactions, many-built, many-run}

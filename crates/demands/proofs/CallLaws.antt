@@ -27,7 +27,7 @@ use Rattle.judge.specs.declared.answer.Judged.the-variants.{Verdict, Refused as
 use Rattle.judge.specs.declared.answer.PatternJudged.{PatternJudged}
 use Rattle.judge.specs.Answer.{scheduleRefusal, judged}
 use Rattle.capture.specs.declared.answer.CaptureJudged.the-variants.{Verdict as CaptureSays, Refused as NotCaptured}
-use Rattle.capture.specs.Capture.{timedIn, lowest}
+use Rattle.stamps.specs.Capture.{timedIn, lowest}
 use Rattle.capture.specs.Answer.{notACapture, captureCount, commandsSeen, captureRefusal, positionOf, Captured, captured}
 use Rattle.builder.specs.declared.build.BuildAnswer.{BuildAnswer}
 use Rattle.builder.specs.declared.build.BuildAnswer.the-variants.{Refused as NotBuilt}
@@ -35,16 +35,16 @@ use Rattle.lists.specs.declared.check.Checked.{Checked}
 use Rattle.lists.specs.declared.check.Checked.the-variants.{Refused as NotFine}
 use Rattle.lists.specs.Check.{rangeFrom, checkList, checkBytes, checkInto}
 use Rattle.lists.specs.Decode.{decodedBy, decoding}
-use Rattle.desk.specs.Admit.{admitted}
-use Rattle.desk.specs.Judging.{judging, PatternTold}
-use Rattle.desk.specs.Tracing.{capturing}
-use Rattle.desk.specs.Transactions.{reading}
-use Rattle.desk.specs.Schedules.{BuildsChecked, Schedules}
-use Rattle.desk.specs.Running.{runsChecked, running}
-use Rattle.desk.specs.Numbers.{Numbers, judgedNumbers, patternNumbers, captureNumbers, readNumbers, buildNumbers, runNumbers}
+use Rattle.promises.specs.Admit.{admitted}
+use Rattle.promises.specs.Judging.{judging, PatternTold}
+use Rattle.promises.specs.Tracing.{capturing}
+use Rattle.promises.specs.Transactions.{reading}
+use Rattle.promises.specs.Schedules.{BuildsChecked, Schedules}
+use Rattle.promises.specs.Running.{runsChecked, running}
+use Rattle.promises.specs.Numbers.{Numbers, judgedNumbers, patternNumbers, captureNumbers, readNumbers, buildNumbers, runNumbers}
 use Rattle.demands.specs.Causes.{row, FirstRow, lowestOut, fewBytes, fewInto}
 use Rattle.demands.specs.Handed.{A, told, judgesBytes, Patterns, Traces, reads, Builds, BuildsBytes, runsBytes}
-use Rattle.desk.proofs.Unique.{only}
+use Rattle.promises.proofs.Unique.{only}
 use Rattle.demands.proofs.Causes.{causes}
 use Rattle.controller.specs.declared.controller.Controller.{Controller}
 

@@ -16,10 +16,10 @@ use Rattle.records.specs.Told.{refusal, firstFailed, over}
 use Rattle.records.specs.Command.{bytesOfAll}
 use Rattle.rules.specs.Verdict.{judge}
 use Rattle.capture.specs.declared.answer.CaptureJudged.the-variants.{Verdict, Refused as NotCaptured}
-use Rattle.capture.specs.Capture.{timedIn, lowest}
+use Rattle.stamps.specs.Capture.{timedIn, lowest}
 use Rattle.capture.specs.Answer.{notACapture, captureCount, commandsSeen, captureRefusal, positionOf, Captured, captured}
-use Rattle.desk.specs.Tracing.{capturing}
-use Rattle.desk.specs.Numbers.{captureNumbers}
+use Rattle.promises.specs.Tracing.{capturing}
+use Rattle.promises.specs.Numbers.{captureNumbers}
 use Rattle.demands.specs.Causes.{row, FirstRow, captureRows}
 
 module _ (τ : Table) (s b : List ℕ) where

@@ -36,16 +36,16 @@ use Rattle.lists.specs.Decode.{decodedBy, decoding}
 use Rattle.controller.specs.declared.controller.Controller.{Controller}
 use Rattle.controller.specs.Controller.{tells}
 use Rattle.controller.specs.Run.{RunLeft, ranLeft, refusedLeft, runController}
-use Rattle.refusals.specs.Refused.{sound, runRefusal}
-use Rattle.desk.specs.Admit.{admitted}
-use Rattle.desk.specs.Judging.{judging, PatternTold}
-use Rattle.desk.specs.Tracing.{capturing}
-use Rattle.desk.specs.Bounds.{bounding}
-use Rattle.desk.specs.Transactions.{reading}
-use Rattle.desk.specs.Schedules.{BuildsChecked, Schedules}
-use Rattle.desk.specs.Running.{starting, runsChecked, running}
-use Rattle.desk.specs.Serving.{ServesChecked, Serving}
-use Rattle.desk.specs.Numbers.{Numbers, telling, refusing, judgedNumbers, patternNumbers, captureNumbers, boundNumbers, readNumbers, buildNumbers, startNumbers, runNumbers, servesNumbers}
+use Rattle.sound.specs.Refused.{sound, runRefusal}
+use Rattle.promises.specs.Admit.{admitted}
+use Rattle.promises.specs.Judging.{judging, PatternTold}
+use Rattle.promises.specs.Tracing.{capturing}
+use Rattle.promises.specs.Bounds.{bounding}
+use Rattle.promises.specs.Transactions.{reading}
+use Rattle.promises.specs.Schedules.{BuildsChecked, Schedules}
+use Rattle.promises.specs.Running.{starting, runsChecked, running}
+use Rattle.promises.specs.Serving.{ServesChecked, Serving}
+use Rattle.promises.specs.Numbers.{Numbers, telling, refusing, judgedNumbers, patternNumbers, captureNumbers, boundNumbers, readNumbers, buildNumbers, startNumbers, runNumbers, servesNumbers}
 use Rattle.demands.specs.Causes.{Row, row, FirstRow, tableRows, listRows, fewBytes, fewInto, buildRows, runRows, scheduleRow, captureRows, Causes}
 use Rattle.demands.proofs.Captures.{capture-rows}
 use Rattle.demands.proofs.FirstRows.{one, two, three, tells-same, by-number, by-table, by-list}

@@ -43,21 +43,21 @@ use Rattle.lists.specs.Decode.{decodedBy, decoding}
 use Rattle.controller.specs.declared.controller.Controller.{Controller}
 use Rattle.controller.specs.declared.run.RunAnswer.{RunAnswer}
 use Rattle.controller.specs.Controller.{tells}
-use Rattle.refusals.specs.Refused.{runRefusal}
+use Rattle.sound.specs.Refused.{runRefusal}
 use Rattle.controller.specs.Run.{RunLeft, ranLeft, refusedLeft, runController}
 use Rattle.controller.proofs.Halves.{refused}
-use Rattle.desk.specs.declared.running.StartAnswer.{StartAnswer}
-use Rattle.desk.specs.Admit.{expecting, admitted, editionOf}
-use Rattle.desk.specs.Judging.{judging, PatternTold}
-use Rattle.desk.specs.Tracing.{capturing}
-use Rattle.desk.specs.Bounds.{bounding}
-use Rattle.desk.specs.Transactions.{reading}
-use Rattle.desk.specs.Schedules.{BuildsChecked, Schedules}
-use Rattle.desk.specs.Running.{starting, runsChecked, running}
-use Rattle.desk.specs.Serving.{ServesChecked, Serving}
-use Rattle.desk.specs.Numbers.{judgedNumbers, patternNumbers, captureNumbers, boundNumbers, readNumbers, buildNumbers, startNumbers, runNumbers, servesNumbers}
+use Rattle.promises.specs.declared.starting.StartAnswer.{StartAnswer}
+use Rattle.promises.specs.Admit.{expecting, admitted, editionOf}
+use Rattle.promises.specs.Judging.{judging, PatternTold}
+use Rattle.promises.specs.Tracing.{capturing}
+use Rattle.promises.specs.Bounds.{bounding}
+use Rattle.promises.specs.Transactions.{reading}
+use Rattle.promises.specs.Schedules.{BuildsChecked, Schedules}
+use Rattle.promises.specs.Running.{starting, runsChecked, running}
+use Rattle.promises.specs.Serving.{ServesChecked, Serving}
+use Rattle.promises.specs.Numbers.{judgedNumbers, patternNumbers, captureNumbers, boundNumbers, readNumbers, buildNumbers, startNumbers, runNumbers, servesNumbers}
 use Rattle.demands.specs.Demands.{EitherSize, NotAdmitted, Demand1}
-use Rattle.desk.proofs.Laws.{expected-read, read-accepted}
+use Rattle.promises.proofs.Laws.{expected-read, read-accepted}
 use Rattle.demands.proofs.Sizes.{either-size, neither-size}
 use Rattle.demands.proofs.Names.{list-names, bytes-names, into-names, NamesIts}
 use Rattle.demands.proofs.Causes.{causes}

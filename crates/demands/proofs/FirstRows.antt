@@ -21,8 +21,8 @@ use Rattle.records.specs.Transaction.{fitsAfter, fitsFrom}
 use Rattle.lists.specs.declared.check.Checked.{Checked}
 use Rattle.lists.specs.declared.check.Checked.the-variants.{Fine, Refused as NotFine}
 use Rattle.lists.specs.Check.{rangeFrom, checkSized}
-use Rattle.desk.specs.Admit.{expecting, admitted}
-use Rattle.desk.specs.Numbers.{Numbers, refusing}
+use Rattle.promises.specs.Admit.{expecting, admitted}
+use Rattle.promises.specs.Numbers.{Numbers, refusing}
 use Rattle.demands.specs.Causes.{Row, row, FirstRow, tableRows, lowestOut, listRows}
 
 -- an answer tells a number and a position

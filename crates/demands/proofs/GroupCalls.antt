@@ -18,23 +18,23 @@ use Rattle.rules.specs.WorkedGroups.{oneGroup}
 use Rattle.rules.proofs.patterns.FiveDecide.{five-legal}
 use Rattle.judge.specs.declared.answer.PatternJudged.the-variants.{Verdict as PatternVerdict, Refused as PatternNotJudged}
 use Rattle.judge.specs.Answer.{judged}
-use Rattle.capture.specs.Capture.{recordsFrom, gap, timedIn, lowest, commandsOf}
+use Rattle.stamps.specs.Capture.{recordsFrom, gap, timedIn, lowest, commandsOf}
 use Rattle.capture.specs.Answer.{commandsSeen, captureRefusal, captured}
 use Rattle.builder.specs.declared.build.BuildAnswer.the-variants.{Built, Refused as NotBuilt}
 use Rattle.builder.specs.Bound.{boundTold}
 use Rattle.lists.specs.Check.{rangeFrom, checkList, checkBytes, checkInto}
 use Rattle.lists.specs.Decode.{decoding}
 use Rattle.lists.specs.Packed.{recordsOf}
-use Rattle.refusals.specs.Refused.{sound, runRefusal}
+use Rattle.sound.specs.Refused.{sound, runRefusal}
 use Rattle.controller.specs.Controller.{tells, kept}
 use Rattle.controller.specs.Run.{runController}
-use Rattle.desk.specs.Admit.{admitted}
-use Rattle.desk.specs.Judging.{judging, PatternTold}
-use Rattle.desk.specs.Tracing.{capturing}
-use Rattle.desk.specs.Bounds.{bounding}
-use Rattle.desk.specs.Transactions.{reading}
-use Rattle.desk.specs.Schedules.{BuildsChecked, Schedules}
-use Rattle.desk.specs.Running.{starting, runsChecked, running}
+use Rattle.promises.specs.Admit.{admitted}
+use Rattle.promises.specs.Judging.{judging, PatternTold}
+use Rattle.promises.specs.Tracing.{capturing}
+use Rattle.promises.specs.Bounds.{bounding}
+use Rattle.promises.specs.Transactions.{reading}
+use Rattle.promises.specs.Schedules.{BuildsChecked, Schedules}
+use Rattle.promises.specs.Running.{starting, runsChecked, running}
 use Rattle.demands.specs.Handed.{D}
 use Rattle.demands.specs.GroupCalls.{within, across, groupRecords, groupVerdicts, groupSchedules, groupRuns, groupCalls}
 use Rattle.demands.proofs.CallLaws.{_⨾_, pattern-tells, build-tells, bytes-tell, some, refused-39}

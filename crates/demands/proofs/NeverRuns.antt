@@ -20,15 +20,15 @@ use Rattle.rules.specs.declared.state.State.{State}
 use Rattle.rules.specs.Queues.{actQueue, dataQueue}
 use Rattle.engine.specs.Run.{commandsLeft}
 use Rattle.rules.specs.Pieces.{overLent}
-use Rattle.refusals.specs.Refused.{banksBefore, groupsBefore, lastBefore, goneBacked, sound, runRefusal}
+use Rattle.sound.specs.Refused.{banksBefore, groupsBefore, lastBefore, goneBacked, sound, runRefusal}
 use Rattle.lists.specs.declared.check.Checked.{Checked}
 use Rattle.controller.specs.Controller.{tells, kept}
 use Rattle.controller.specs.Run.{runController}
-use Rattle.desk.specs.declared.running.StartAnswer.the-variants.{Refused as NotStarted}
-use Rattle.desk.specs.Admit.{admitted}
-use Rattle.desk.specs.Running.{noController, starting, runsChecked, running}
+use Rattle.promises.specs.declared.starting.StartAnswer.the-variants.{Refused as NotStarted}
+use Rattle.promises.specs.Admit.{admitted}
+use Rattle.promises.specs.Running.{noController, starting, runsChecked, running}
 use Rattle.demands.specs.Runs.{NeverRuns}
-use Rattle.desk.proofs.Laws.{read-accepted}
+use Rattle.promises.proofs.Laws.{read-accepted}
 
 -- no accepted table has edition 0
 some-edition : (τ : Table) → Accepted τ → 1 ≤ τ .edition

@@ -17,13 +17,13 @@ use Rattle.records.specs.Told.{refusal}
 use Rattle.records.specs.Little.{le16, num}
 use Rattle.records.specs.Table.{tableOf, withGroups, plainTableAt, tableAt, tableSize, tableRefusalBy, readTable}
 use Rattle.records.proofs.Inverse.{plain-at, group-at, numbersFrom}
-use Rattle.desk.specs.Admit.{expecting, admitted}
-use Rattle.desk.specs.Judging.{judging, PatternTold}
-use Rattle.desk.specs.Tracing.{capturing}
-use Rattle.desk.specs.Bounds.{bounding}
-use Rattle.desk.specs.Transactions.{reading}
-use Rattle.desk.specs.Schedules.{Schedules}
-use Rattle.desk.specs.Running.{starting, running}
+use Rattle.promises.specs.Admit.{expecting, admitted}
+use Rattle.promises.specs.Judging.{judging, PatternTold}
+use Rattle.promises.specs.Tracing.{capturing}
+use Rattle.promises.specs.Bounds.{bounding}
+use Rattle.promises.specs.Transactions.{reading}
+use Rattle.promises.specs.Schedules.{Schedules}
+use Rattle.promises.specs.Running.{starting, running}
 use Rattle.demands.specs.OneGroup.{OneGroupBytes, OneGroupAnswers}
 
 -- the numbers of the first 32 bytes are those of all

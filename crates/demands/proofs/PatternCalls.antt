@@ -14,10 +14,10 @@ use Rattle.rules.specs.Worked.{All}
 use Rattle.shortest.specs.declared.answer.ShortestAnswer.{ShortestAnswer}
 use Rattle.shortest.specs.declared.answer.ShortestAnswer.the-variants.{Pattern, Refused as NoPattern}
 use Rattle.shortest.specs.Answer.{limits, LeavesShortest}
-use Rattle.desk.specs.Admit.{admitted}
-use Rattle.desk.specs.Patterns.{ShortestTold}
-use Rattle.desk.specs.Numbers.{shortestNumbers}
-use Rattle.desk.proofs.Unique.{only}
+use Rattle.promises.specs.Admit.{admitted}
+use Rattle.promises.specs.Patterns.{ShortestTold}
+use Rattle.promises.specs.Numbers.{shortestNumbers}
+use Rattle.promises.proofs.Unique.{only}
 use Rattle.demands.specs.Handed.{A, ccd1, cut}
 use Rattle.demands.specs.PatternCalls.{two, NotSought, patternCalls}
 use Rattle.demands.proofs.CallLaws.{_⨾_, some}

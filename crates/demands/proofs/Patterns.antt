@@ -22,9 +22,9 @@ use Rattle.shortest.specs.declared.answer.ShortestAnswer.the-variants.{Pattern,
 use Rattle.shortest.specs.Shortest.{Shortest, NoneUpTo}
 use Rattle.shortest.specs.Answer.{isAsked, Cause}
 use Rattle.shortest.proofs.Calls.{pattern-stands}
-use Rattle.desk.specs.Admit.{admitted}
-use Rattle.desk.specs.Patterns.{ShortestTold}
-use Rattle.desk.specs.Numbers.{Numbers, telling, refusing, shortestNumbers}
+use Rattle.promises.specs.Admit.{admitted}
+use Rattle.promises.specs.Patterns.{ShortestTold}
+use Rattle.promises.specs.Numbers.{Numbers, telling, refusing, shortestNumbers}
 use Rattle.demands.specs.Causes.{row, FirstRow}
 use Rattle.demands.specs.Patterns.{shortestRows, Patterns}
 use Rattle.demands.proofs.FirstRows.{three, by-table}

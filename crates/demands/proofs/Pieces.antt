@@ -24,9 +24,9 @@ use Rattle.controller.specs.declared.run.RunAnswer.the-variants.{Ran}
 use Rattle.controller.specs.Run.{RunLeft, runController}
 use Rattle.controller.specs.Pieces.{Lot, allOf, allCycles, lotRun, AllRan, lastLeft, allWritten, AsWhole}
 use Rattle.controller.proofs.Pieces.{as-whole}
-use Rattle.desk.specs.Admit.{admitted}
-use Rattle.desk.specs.Running.{starting, runsChecked, running}
-use Rattle.desk.proofs.Laws.{read-accepted, running-same}
+use Rattle.promises.specs.Admit.{admitted}
+use Rattle.promises.specs.Running.{starting, runsChecked, running}
+use Rattle.promises.proofs.Laws.{read-accepted, running-same}
 use Rattle.demands.specs.Pieces.{ranOver, ranOverBytes, PiecesAsWhole}
 
 -- by what `admit` answered

@@ -29,11 +29,11 @@ use Rattle.controller.specs.declared.controller.Controller.{Controller}
 use Rattle.controller.specs.declared.run.RunReport.{RunReport}
 use Rattle.controller.specs.declared.run.RunAnswer.the-variants.{Ran}
 use Rattle.controller.specs.Run.{RunLeft}
-use Rattle.desk.specs.Admit.{admitted}
-use Rattle.desk.specs.Judging.{judging, PatternTold}
-use Rattle.desk.specs.Schedules.{BuildsChecked, Schedules}
-use Rattle.desk.specs.Running.{starting, runsChecked, running}
-use Rattle.desk.proofs.Laws.{read-accepted}
+use Rattle.promises.specs.Admit.{admitted}
+use Rattle.promises.specs.Judging.{judging, PatternTold}
+use Rattle.promises.specs.Schedules.{BuildsChecked, Schedules}
+use Rattle.promises.specs.Running.{starting, runsChecked, running}
+use Rattle.promises.proofs.Laws.{read-accepted}
 use Rattle.demands.specs.Pins.{StartKept, RunKept, PinsOfCalls}
 use Rattle.demands.proofs.Judges.{demand-2}
 use Rattle.demands.proofs.RunsOn.{by-check}

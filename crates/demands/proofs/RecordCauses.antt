@@ -15,9 +15,9 @@ use Rattle.records.specs.Little.{bytes16}
 use Rattle.records.specs.Table.{tableOf, groupTableOf, tableAt, inRange, tableSize, tableRefusal, tableRefusalBy, readTable, writeTable, writeGroupTable}
 use Rattle.records.specs.Transaction.{transactionAt, laterAt, fitsBy, transactionRefusal, laterRefusal, readTransaction, writeTransaction, readLater, writeLater, laterBytes, bytesOf as transactionBytes}
 use Rattle.records.specs.Command.{commandAt, commandRefusal, roomRefusal, readCommand, writeCommand, bytesOf as commandBytes}
-use Rattle.capture.specs.declared.one_record.CaptureRecordRead.the-variants.{Read as RecordIs, Refused as NoRecord}
-use Rattle.capture.specs.Record.{recordAt, bytesOfRecord, recordRefusal, readCaptureRecord, recordRoom, writeCaptureRecord}
-use Rattle.desk.specs.Numbers.{writtenNumbers, tableNumbers, transactionNumbers, commandNumbers, captureRecordNumbers}
+use Rattle.stamps.specs.declared.one_record.CaptureRecordRead.the-variants.{Read as RecordIs, Refused as NoRecord}
+use Rattle.stamps.specs.Record.{recordAt, bytesOfRecord, recordRefusal, readCaptureRecord, recordRoom, writeCaptureRecord}
+use Rattle.promises.specs.Numbers.{writtenNumbers, tableNumbers, transactionNumbers, commandNumbers, captureRecordNumbers}
 use Rattle.demands.specs.Causes.{RecordCauses}
 use Rattle.demands.proofs.FirstRows.{one, two, by-number}
 

@@ -24,10 +24,10 @@ use Rattle.controller.specs.Controller.{tells, kept, freshController}
 use Rattle.controller.specs.Run.{RunLeft, runController}
 use Rattle.controller.proofs.Halves.{ran, together}
 use Rattle.controller.proofs.Fresh.{fresh-ends}
-use Rattle.desk.specs.Admit.{admitted}
-use Rattle.desk.specs.Running.{starting, runsChecked, running}
+use Rattle.promises.specs.Admit.{admitted}
+use Rattle.promises.specs.Running.{starting, runsChecked, running}
 use Rattle.demands.specs.Runs.{RunsOn}
-use Rattle.desk.proofs.Laws.{read-accepted}
+use Rattle.promises.proofs.Laws.{read-accepted}
 
 at-end : (l : List Transaction) → getElem? l (length l) ≡ none
 at-end [] = refl

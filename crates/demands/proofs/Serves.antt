@@ -47,12 +47,12 @@ use Rattle.builder.specs.Build.{buildRefusal, LeavesBuild}
 use Rattle.lists.specs.declared.check.Checked.{Checked}
 use Rattle.lists.specs.Check.{checkList, checkBytes}
 use Rattle.lists.proofs.Checks.{bytes-list, fits-fine}
-use Rattle.desk.specs.Admit.{admitted}
-use Rattle.desk.specs.Judging.{judging}
-use Rattle.desk.specs.Bounds.{bounding}
-use Rattle.desk.specs.Schedules.{BuildsChecked, Schedules}
+use Rattle.promises.specs.Admit.{admitted}
+use Rattle.promises.specs.Judging.{judging}
+use Rattle.promises.specs.Bounds.{bounding}
+use Rattle.promises.specs.Schedules.{BuildsChecked, Schedules}
 use Rattle.demands.specs.Demands.{Demand3, Room}
-use Rattle.desk.proofs.Laws.{read-accepted, schedules-same}
+use Rattle.promises.proofs.Laws.{read-accepted, schedules-same}
 
 -- ---- the built schedule's bytes pass the judge
 

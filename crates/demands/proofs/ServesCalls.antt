@@ -26,10 +26,10 @@ use Rattle.serves.proofs.Worked.{found}
 use Rattle.lists.specs.declared.check.Checked.{Checked}
 use Rattle.lists.specs.Check.{rangeFrom, checkList, checkBytes}
 use Rattle.lists.specs.Packed.{recordsOf}
-use Rattle.desk.specs.Admit.{admitted}
-use Rattle.desk.specs.Serving.{ServesChecked, Serving}
-use Rattle.desk.specs.Numbers.{servesNumbers}
-use Rattle.desk.proofs.Unique.{only}
+use Rattle.promises.specs.Admit.{admitted}
+use Rattle.promises.specs.Serving.{ServesChecked, Serving}
+use Rattle.promises.specs.Numbers.{servesNumbers}
+use Rattle.promises.proofs.Unique.{only}
 use Rattle.demands.specs.Causes.{row, FirstRow}
 use Rattle.demands.specs.Handed.{A, D, R, ccd1, cut, fine, out, told, ServesTo, ServesToBytes}
 use Rattle.demands.specs.ServesCalls.{servesLent, servesBytes, servesCalls}

@@ -37,12 +37,12 @@ use Rattle.lists.specs.declared.check.Checked.{Checked}
 use Rattle.lists.specs.declared.check.Checked.the-variants.{Fine}
 use Rattle.lists.specs.Check.{checkList, checkBytes}
 use Rattle.lists.proofs.Checks.{fine-fits}
-use Rattle.desk.specs.Admit.{admitted}
-use Rattle.desk.specs.Judging.{judging}
-use Rattle.desk.specs.Schedules.{Schedules}
-use Rattle.desk.specs.Serving.{ServesChecked, Serving}
-use Rattle.desk.specs.Numbers.{Numbers, telling, verdictValues, judgedNumbers, servedValues, servesNumbers}
-use Rattle.desk.proofs.Laws.{read-accepted}
+use Rattle.promises.specs.Admit.{admitted}
+use Rattle.promises.specs.Judging.{judging}
+use Rattle.promises.specs.Schedules.{Schedules}
+use Rattle.promises.specs.Serving.{ServesChecked, Serving}
+use Rattle.promises.specs.Numbers.{Numbers, telling, verdictValues, judgedNumbers, servedValues, servesNumbers}
+use Rattle.promises.proofs.Laws.{read-accepted}
 use Rattle.demands.specs.ServesList.{ServesOn, StartServes, ServesOfCalls}
 use Rattle.demands.proofs.Judges.{demand-2, told}
 use Rattle.demands.proofs.Serves.{bytes-taken, bytes-same}

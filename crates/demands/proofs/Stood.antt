@@ -20,8 +20,8 @@ use Rattle.records.specs.Little.{bytes16}
 use Rattle.records.specs.Table.{tableOf, groupTableOf, tableRefusalBy, writeTable, writeGroupTable}
 use Rattle.records.specs.Transaction.{transactionRefusal, laterRefusal, writeTransaction, writeLater, laterBytes, bytesOf as transactionBytes}
 use Rattle.records.specs.Command.{roomRefusal, writeCommand, bytesOf as commandBytes}
-use Rattle.capture.specs.declared.one_record.CaptureRecord.{CaptureRecord}
-use Rattle.capture.specs.Record.{bytesOfRecord, recordRoom, writeCaptureRecord}
+use Rattle.stamps.specs.declared.one_record.CaptureRecord.{CaptureRecord}
+use Rattle.stamps.specs.Record.{bytesOfRecord, recordRoom, writeCaptureRecord}
 use Rattle.builder.specs.declared.build.BuildAnswer.the-variants.{Refused as NotBuilt}
 use Rattle.lists.specs.declared.check.Checked.{Checked}
 use Rattle.lists.specs.declared.check.Checked.the-variants.{Fine, Refused as NotFine}
@@ -31,9 +31,9 @@ use Rattle.controller.specs.declared.controller.Controller.{Controller}
 use Rattle.controller.specs.declared.run.RunAnswer.the-variants.{Refused as NotRun}
 use Rattle.controller.specs.Run.{RunLeft}
 use Rattle.controller.proofs.Halves.{refused}
-use Rattle.desk.specs.Transactions.{reading}
-use Rattle.desk.specs.Schedules.{BuildsChecked, Schedules}
-use Rattle.desk.specs.Running.{runsChecked, running}
+use Rattle.promises.specs.Transactions.{reading}
+use Rattle.promises.specs.Schedules.{BuildsChecked, Schedules}
+use Rattle.promises.specs.Running.{runsChecked, running}
 
 pub unread : (later : Bool) (a : TableRead) (s : List ℕ) (l : List Transaction) (x : Refusal) → reading later a s l .answer ≡ NotDone x → reading later a s l .list ≡ l
 unfolding reading

@@ -21,7 +21,7 @@ use Rattle.rules.specs.declared.verdict.Verdict.{Verdict}
 use Rattle.rules.specs.declared.verdict.Verdict.the-variants.{Refused as Broken}
 use Rattle.rules.specs.Verdict.{judge, unnumbered}
 use Rattle.capture.specs.declared.answer.CaptureJudged.the-variants.{Verdict as Says, Refused as NotCaptured}
-use Rattle.capture.specs.Capture.{recordsIn, timedIn, lowest}
+use Rattle.stamps.specs.Capture.{recordsIn, timedIn, lowest}
 use Rattle.capture.specs.Answer.{notACapture, captureCount, commandsSeen, captureRefusal, captured}
 use Rattle.capture.specs.Eleven.{Such}
 use Rattle.capture.specs.Written.{captureBytes, allStamped, withoutTicks}
@@ -29,8 +29,8 @@ use Rattle.capture.proofs.Refusals.{length-in}
 use Rattle.capture.proofs.Eleven.{names-lowest}
 use Rattle.capture.proofs.RoundTrip.{round-trip}
 use Rattle.capture.proofs.NothingLost.{nothing-lost}
-use Rattle.desk.specs.Admit.{admitted}
-use Rattle.desk.specs.Tracing.{capturing}
+use Rattle.promises.specs.Admit.{admitted}
+use Rattle.promises.specs.Tracing.{capturing}
 use Rattle.demands.specs.Traces.{Traces}
 use Rattle.demands.proofs.Captures.{said, refused, by}
 

@@ -12,9 +12,9 @@ use Rattle.rules.specs.WorkedArrivals.{readAt, arrivals, arrivedSchedule}
 use Rattle.lists.specs.Packed.{recordsOf}
 use Rattle.controller.specs.declared.controller.Controller.{Controller}
 use Rattle.controller.specs.Pieces.{Lot, AllRan, allWritten}
-use Rattle.desk.specs.Admit.{admitted}
-use Rattle.desk.specs.Transactions.{reading}
-use Rattle.desk.specs.Numbers.{telling, transactionNumbers}
+use Rattle.promises.specs.Admit.{admitted}
+use Rattle.promises.specs.Transactions.{reading}
+use Rattle.promises.specs.Numbers.{telling, transactionNumbers}
 use Rattle.demands.specs.Pieces.{ranOver, ranOverBytes}
 use Rattle.demands.specs.Handed.{A, R, fine, out, never, gone, lentBefore, told, reads, Builds, BuildsBytes, runs, runsBytes, Writes}
 

@@ -15,17 +15,17 @@ use Rattle.records.specs.Transaction.{readTransaction, writeTransaction}
 use Rattle.records.specs.Command.{command, bytesOfAll, readCommand, writeCommand}
 use Rattle.records.specs.House.{house, numbersA}
 use Rattle.rules.specs.Worked.{read, refresh, one, eleven, thenRef, All}
-use Rattle.capture.specs.Record.{captureRecord, readCaptureRecord, writeCaptureRecord}
+use Rattle.stamps.specs.Record.{captureRecord, readCaptureRecord, writeCaptureRecord}
 use Rattle.lists.specs.Check.{checkList}
 use Rattle.lists.specs.Packed.{recordsOf}
 use Rattle.controller.specs.declared.controller.Controller.{Controller}
-use Rattle.desk.specs.declared.running.StartAnswer.the-variants.{Refused as NotStarted}
-use Rattle.desk.specs.Admit.{admitted}
-use Rattle.desk.specs.Tracing.{capturing}
-use Rattle.desk.specs.Transactions.{reading}
-use Rattle.desk.specs.Running.{starting, running}
+use Rattle.promises.specs.declared.starting.StartAnswer.the-variants.{Refused as NotStarted}
+use Rattle.promises.specs.Admit.{admitted}
+use Rattle.promises.specs.Tracing.{capturing}
+use Rattle.promises.specs.Transactions.{reading}
+use Rattle.promises.specs.Running.{starting, running}
 use Rattle.demands.specs.Runs.{NeverRuns}
-use Rattle.desk.specs.Numbers.{telling, tableNumbers, transactionNumbers, commandNumbers, captureRecordNumbers, captureNumbers, startNumbers}
+use Rattle.promises.specs.Numbers.{telling, tableNumbers, transactionNumbers, commandNumbers, captureRecordNumbers, captureNumbers, startNumbers}
 use Rattle.demands.specs.GroupCalls.{groupCalls}
 use Rattle.demands.specs.ArrivalCalls.{arrivalCalls}
 use Rattle.demands.specs.ServesCalls.{servesCalls}

@@ -16,25 +16,25 @@ use Rattle.records.specs.Command.{readCommand, writeCommand}
 use Rattle.rules.specs.Queues.{actQueue, dataQueue}
 use Rattle.rules.specs.Pieces.{isLate}
 use Rattle.judge.specs.declared.answer.PatternJudged.{PatternJudged}
-use Rattle.capture.specs.declared.one_record.CaptureRecord.{CaptureRecord}
-use Rattle.capture.specs.Record.{readCaptureRecord, writeCaptureRecord}
-use Rattle.capture.specs.Capture.{timedIn, lowest}
+use Rattle.stamps.specs.declared.one_record.CaptureRecord.{CaptureRecord}
+use Rattle.stamps.specs.Record.{readCaptureRecord, writeCaptureRecord}
+use Rattle.stamps.specs.Capture.{timedIn, lowest}
 use Rattle.capture.specs.Answer.{commandsSeen}
 use Rattle.serves.specs.declared.answer.ServesAnswer.{ServesAnswer}
 use Rattle.builder.specs.declared.build.BuildAnswer.{BuildAnswer}
 use Rattle.lists.specs.Check.{checkList, checkBytes}
-use Rattle.refusals.specs.Refused.{sound}
+use Rattle.sound.specs.Refused.{sound}
 use Rattle.controller.specs.declared.controller.Controller.{Controller}
 use Rattle.controller.specs.Controller.{tells}
-use Rattle.desk.specs.Admit.{admitted}
-use Rattle.desk.specs.Judging.{judging, PatternTold}
-use Rattle.desk.specs.Tracing.{capturing}
-use Rattle.desk.specs.Bounds.{bounding}
-use Rattle.desk.specs.Transactions.{reading}
-use Rattle.desk.specs.Schedules.{Schedules}
-use Rattle.desk.specs.Running.{starting, running}
-use Rattle.desk.specs.Serving.{Serving}
-use Rattle.desk.specs.Numbers.{Numbers, writtenNumbers, tableNumbers, transactionNumbers, commandNumbers, captureRecordNumbers, judgedNumbers, patternNumbers, captureNumbers, servesNumbers, boundNumbers, readNumbers, buildNumbers, startNumbers, runNumbers}
+use Rattle.promises.specs.Admit.{admitted}
+use Rattle.promises.specs.Judging.{judging, PatternTold}
+use Rattle.promises.specs.Tracing.{capturing}
+use Rattle.promises.specs.Bounds.{bounding}
+use Rattle.promises.specs.Transactions.{reading}
+use Rattle.promises.specs.Schedules.{Schedules}
+use Rattle.promises.specs.Running.{starting, running}
+use Rattle.promises.specs.Serving.{Serving}
+use Rattle.promises.specs.Numbers.{Numbers, writtenNumbers, tableNumbers, transactionNumbers, commandNumbers, captureRecordNumbers, judgedNumbers, patternNumbers, captureNumbers, servesNumbers, boundNumbers, readNumbers, buildNumbers, startNumbers, runNumbers}
 
 -- a row: its number, its position, and whether it applies
 pub record Row : Type 0 where

@@ -37,9 +37,9 @@ use Rattle.rules.specs.Demands.{FineTo}
 use Rattle.judge.specs.declared.answer.Judged.the-variants.{Verdict}
 use Rattle.judge.specs.declared.answer.PatternJudged.{PatternJudged}
 use Rattle.judge.specs.Answer.{scheduleRefusal, patternRefusal}
-use Rattle.capture.specs.declared.one_record.CaptureRecord.{CaptureRecord}
+use Rattle.stamps.specs.declared.one_record.CaptureRecord.{CaptureRecord}
 use Rattle.capture.specs.declared.answer.CaptureJudged.the-variants.{Refused as NotCaptured}
-use Rattle.capture.specs.Record.{writeCaptureRecord}
+use Rattle.stamps.specs.Record.{writeCaptureRecord}
 use Rattle.serves.specs.declared.answer.ServesAnswer.{ServesAnswer}
 use Rattle.builder.specs.declared.bound.BoundAnswer.the-variants.{Bound}
 use Rattle.builder.specs.declared.build.BuildAnswer.{BuildAnswer}
@@ -49,16 +49,16 @@ use Rattle.lists.specs.declared.check.Checked.{Checked}
 use Rattle.lists.specs.Check.{checkList, checkBytes}
 use Rattle.controller.specs.declared.controller.Controller.{Controller}
 use Rattle.controller.specs.declared.run.RunAnswer.the-variants.{Refused as NotRun}
-use Rattle.desk.specs.Admit.{admitted, editionOf}
-use Rattle.desk.specs.Judging.{judging, PatternTold}
-use Rattle.desk.specs.Tracing.{capturing}
-use Rattle.desk.specs.Bounds.{bounding}
-use Rattle.desk.specs.Transactions.{reading}
-use Rattle.desk.specs.Schedules.{Schedules}
-use Rattle.desk.specs.Running.{starting, running}
-use Rattle.desk.specs.Serving.{Serving}
+use Rattle.promises.specs.Admit.{admitted, editionOf}
+use Rattle.promises.specs.Judging.{judging, PatternTold}
+use Rattle.promises.specs.Tracing.{capturing}
+use Rattle.promises.specs.Bounds.{bounding}
+use Rattle.promises.specs.Transactions.{reading}
+use Rattle.promises.specs.Schedules.{Schedules}
+use Rattle.promises.specs.Running.{starting, running}
+use Rattle.promises.specs.Serving.{Serving}
 use Rattle.demands.specs.Causes.{Causes, RecordCauses}
-use Rattle.desk.specs.Numbers.{telling, ruleNumber, commandNumbers, judgedNumbers, patternNumbers, captureNumbers, servesNumbers, boundNumbers, readNumbers, buildNumbers, startNumbers, runNumbers}
+use Rattle.promises.specs.Numbers.{telling, ruleNumber, commandNumbers, judgedNumbers, patternNumbers, captureNumbers, servesNumbers, boundNumbers, readNumbers, buildNumbers, startNumbers, runNumbers}
 
 -- a table's bytes are 32 or 40
 abbrev pub EitherSize : List ℕ → Type 0

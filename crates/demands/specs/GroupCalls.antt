@@ -13,12 +13,12 @@ use Rattle.records.specs.Command.{command, bytesOfAll}
 use Rattle.records.specs.House.{numbersA, numbersD}
 use Rattle.rules.specs.Worked.{read, All}
 use Rattle.rules.specs.WorkedGroups.{hiddenAct, hiddenWrite, hiddenRead, oneGroup}
-use Rattle.capture.specs.Record.{captureRecord}
+use Rattle.stamps.specs.Record.{captureRecord}
 use Rattle.lists.specs.Check.{checkList}
 use Rattle.lists.specs.Packed.{recordsOf}
-use Rattle.desk.specs.Admit.{admitted}
-use Rattle.desk.specs.Running.{starting, running}
-use Rattle.desk.specs.Numbers.{telling, tableNumbers, startNumbers}
+use Rattle.promises.specs.Admit.{admitted}
+use Rattle.promises.specs.Running.{starting, running}
+use Rattle.promises.specs.Numbers.{telling, tableNumbers, startNumbers}
 use Rattle.demands.specs.Handed.{A, D, inGroups, alone, fine, trace, never, gone, reached, lentBefore, told, judges, judgesBytes, Patterns, Traces, bounds, reads, Builds, BuildsBytes, runs, runsBytes, Writes}
 
 -- table D but for its banks and groups

@@ -13,21 +13,21 @@ use Rattle.records.specs.Command.{bytesOfAll}
 use Rattle.records.specs.House.{house, numbersA, numbersB, numbersC, numbersD}
 use Rattle.rules.specs.Worked.{read}
 use Rattle.judge.specs.declared.answer.PatternJudged.{PatternJudged}
-use Rattle.capture.specs.declared.one_record.CaptureRecord.{CaptureRecord}
-use Rattle.capture.specs.Record.{captureRecord, bytesOfRecord}
+use Rattle.stamps.specs.declared.one_record.CaptureRecord.{CaptureRecord}
+use Rattle.stamps.specs.Record.{captureRecord, bytesOfRecord}
 use Rattle.serves.specs.declared.answer.ServesAnswer.{ServesAnswer}
 use Rattle.builder.specs.declared.build.BuildAnswer.{BuildAnswer}
 use Rattle.lists.specs.Check.{checkList, checkBytes}
 use Rattle.controller.specs.declared.controller.Controller.{Controller}
-use Rattle.desk.specs.Admit.{admitted}
-use Rattle.desk.specs.Judging.{judging, PatternTold}
-use Rattle.desk.specs.Tracing.{capturing}
-use Rattle.desk.specs.Bounds.{bounding}
-use Rattle.desk.specs.Transactions.{reading}
-use Rattle.desk.specs.Schedules.{Schedules}
-use Rattle.desk.specs.Running.{running}
-use Rattle.desk.specs.Serving.{Serving}
-use Rattle.desk.specs.Numbers.{Numbers, refusing, writtenNumbers, judgedNumbers, patternNumbers, captureNumbers, servesNumbers, boundNumbers, readNumbers, buildNumbers, runNumbers}
+use Rattle.promises.specs.Admit.{admitted}
+use Rattle.promises.specs.Judging.{judging, PatternTold}
+use Rattle.promises.specs.Tracing.{capturing}
+use Rattle.promises.specs.Bounds.{bounding}
+use Rattle.promises.specs.Transactions.{reading}
+use Rattle.promises.specs.Schedules.{Schedules}
+use Rattle.promises.specs.Running.{running}
+use Rattle.promises.specs.Serving.{Serving}
+use Rattle.promises.specs.Numbers.{Numbers, refusing, writtenNumbers, judgedNumbers, patternNumbers, captureNumbers, servesNumbers, boundNumbers, readNumbers, buildNumbers, runNumbers}
 
 -- ---- what is handed in
 

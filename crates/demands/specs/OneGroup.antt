@@ -14,13 +14,13 @@ use Rattle.judge.specs.declared.answer.PatternJudged.{PatternJudged}
 use Rattle.builder.specs.declared.build.BuildAnswer.{BuildAnswer}
 use Rattle.lists.specs.declared.check.Checked.{Checked}
 use Rattle.controller.specs.declared.controller.Controller.{Controller}
-use Rattle.desk.specs.Admit.{admitted}
-use Rattle.desk.specs.Judging.{judging, PatternTold}
-use Rattle.desk.specs.Tracing.{capturing}
-use Rattle.desk.specs.Bounds.{bounding}
-use Rattle.desk.specs.Transactions.{reading}
-use Rattle.desk.specs.Schedules.{Schedules}
-use Rattle.desk.specs.Running.{starting, running}
+use Rattle.promises.specs.Admit.{admitted}
+use Rattle.promises.specs.Judging.{judging, PatternTold}
+use Rattle.promises.specs.Tracing.{capturing}
+use Rattle.promises.specs.Bounds.{bounding}
+use Rattle.promises.specs.Transactions.{reading}
+use Rattle.promises.specs.Schedules.{Schedules}
+use Rattle.promises.specs.Running.{starting, running}
 
 -- the last four numbers: one group, and CCD, RRD and WTR again
 pub record OneGroupBytes (table : List ℕ) : Type 0 where

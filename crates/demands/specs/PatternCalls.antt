@@ -7,9 +7,9 @@ use mathlib.Core.List.{List, [], _∷_}
 use lib.ListN.{replicate}
 use Rattle.records.specs.Little.{bytes16}
 use Rattle.shortest.specs.declared.answer.ShortestAnswer.{ShortestAnswer}
-use Rattle.desk.specs.Admit.{admitted}
-use Rattle.desk.specs.Patterns.{ShortestTold}
-use Rattle.desk.specs.Numbers.{Numbers, shortestNumbers}
+use Rattle.promises.specs.Admit.{admitted}
+use Rattle.promises.specs.Patterns.{ShortestTold}
+use Rattle.promises.specs.Numbers.{Numbers, shortestNumbers}
 use Rattle.demands.specs.Handed.{A, ccd1, cut, told}
 
 abbrev pub two : List ℕ

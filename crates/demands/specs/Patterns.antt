@@ -15,9 +15,9 @@ use Rattle.shortest.specs.declared.answer.ShortestAnswer.{ShortestAnswer}
 use Rattle.shortest.specs.declared.answer.ShortestAnswer.the-variants.{Pattern, Refused as NoPattern}
 use Rattle.shortest.specs.Shortest.{Shortest, NoneUpTo}
 use Rattle.shortest.specs.Answer.{isAsked}
-use Rattle.desk.specs.Admit.{admitted, editionOf}
-use Rattle.desk.specs.Patterns.{ShortestTold}
-use Rattle.desk.specs.Numbers.{shortestNumbers}
+use Rattle.promises.specs.Admit.{admitted, editionOf}
+use Rattle.promises.specs.Patterns.{ShortestTold}
+use Rattle.promises.specs.Numbers.{shortestNumbers}
 use Rattle.demands.specs.Causes.{Row, row, FirstRow, tableRows}
 
 -- 4: "Inputs outside these limits, a type not read or write, or BI above banks"; 5: "room for BI × (1 + BC) records"; 13, where `none` says whether no

@@ -10,8 +10,8 @@ use Rattle.lists.specs.Packed.{recordsOf}
 use Rattle.controller.specs.declared.controller.Controller.{Controller}
 use Rattle.controller.specs.Run.{RunLeft}
 use Rattle.controller.specs.Pieces.{Lot, AsWhole}
-use Rattle.desk.specs.Admit.{admitted}
-use Rattle.desk.specs.Running.{starting, running}
+use Rattle.promises.specs.Admit.{admitted}
+use Rattle.promises.specs.Running.{starting, running}
 
 -- what `run` leaves of a controller, over a lent run of records
 abbrev pub ranOver : ℕ → List ℕ → Controller → List Transaction → ℕ → List ℕ → RunLeft

@@ -25,11 +25,11 @@ use Rattle.lists.specs.declared.check.Checked.{Checked}
 use Rattle.lists.specs.Check.{checkList, checkBytes}
 use Rattle.controller.specs.declared.run.RunReport.{RunReport}
 use Rattle.controller.specs.declared.run.RunAnswer.the-variants.{Ran}
-use Rattle.desk.specs.Admit.{admitted}
-use Rattle.desk.specs.Judging.{judging, PatternTold}
-use Rattle.desk.specs.Tracing.{capturing}
-use Rattle.desk.specs.Schedules.{Schedules}
-use Rattle.desk.specs.Running.{starting, running}
+use Rattle.promises.specs.Admit.{admitted}
+use Rattle.promises.specs.Judging.{judging, PatternTold}
+use Rattle.promises.specs.Tracing.{capturing}
+use Rattle.promises.specs.Schedules.{Schedules}
+use Rattle.promises.specs.Running.{starting, running}
 
 -- the n commands that stand at a buffer's start keep the pins
 abbrev pub StartKept : Table → ℕ → List ℕ → Type 0

@@ -24,8 +24,8 @@ use Rattle.controller.specs.declared.run.RunAnswer.the-variants.{Ran}
 use Rattle.controller.specs.Controller.{tells, Ranged}
 use Rattle.controller.specs.Run.{RunLeft}
 use Rattle.controller.specs.Promise.{Together}
-use Rattle.desk.specs.Admit.{admitted}
-use Rattle.desk.specs.Running.{starting, nothingRun, running}
+use Rattle.promises.specs.Admit.{admitted}
+use Rattle.promises.specs.Running.{starting, nothingRun, running}
 
 -- `check` is that of a list's records, or of its bytes, records of 4 or of 8
 pub record RunsOn (expected : ℕ) (table : List ℕ) (τ : Table) (check : Table → Checked) (l : List Transaction) : Type 0 where

@@ -14,9 +14,9 @@ use Rattle.serves.specs.declared.answer.ServesAnswer.{ServesAnswer}
 use Rattle.serves.specs.Worked.{three, without, tooSoon, outsideBefore}
 use Rattle.lists.specs.Check.{checkList}
 use Rattle.lists.specs.Packed.{recordsOf}
-use Rattle.desk.specs.Admit.{admitted}
-use Rattle.desk.specs.Serving.{Serving}
-use Rattle.desk.specs.Numbers.{telling, servesNumbers}
+use Rattle.promises.specs.Admit.{admitted}
+use Rattle.promises.specs.Serving.{Serving}
+use Rattle.promises.specs.Numbers.{telling, servesNumbers}
 use Rattle.demands.specs.Handed.{A, D, R, ccd1, cut, fine, out, told, ServesTo, ServesToBytes}
 
 -- of a lent run of records

@@ -21,11 +21,11 @@ use Rattle.builder.specs.declared.build.BuildAnswer.the-variants.{Built}
 use Rattle.lists.specs.declared.check.Checked.{Checked}
 use Rattle.lists.specs.declared.check.Checked.the-variants.{Fine}
 use Rattle.lists.specs.Check.{checkList, checkBytes}
-use Rattle.desk.specs.Admit.{admitted}
-use Rattle.desk.specs.Judging.{judging}
-use Rattle.desk.specs.Schedules.{Schedules}
-use Rattle.desk.specs.Serving.{Serving}
-use Rattle.desk.specs.Numbers.{telling, judgedNumbers, servesNumbers}
+use Rattle.promises.specs.Admit.{admitted}
+use Rattle.promises.specs.Judging.{judging}
+use Rattle.promises.specs.Schedules.{Schedules}
+use Rattle.promises.specs.Serving.{Serving}
+use Rattle.promises.specs.Numbers.{telling, judgedNumbers, servesNumbers}
 
 -- of a list in which numbers 3 and 4 find nothing to refuse, a schedule's bytes s, whose size number 7 lets pass, and what is answered
 pub record ServesOn (expected : ℕ) (table : List ℕ) (τ : Table) (l : List Transaction) (s : List ℕ) (r : ServesAnswer) : Type 0 where

@@ -14,12 +14,12 @@ use Rattle.rules.specs.declared.verdict.Rule.{Rule}
 use Rattle.rules.specs.declared.verdict.Verdict.the-variants.{Accepted, Refused as Broken}
 use Rattle.rules.specs.Verdict.{judge, Legal, unnumbered}
 use Rattle.capture.specs.declared.answer.CaptureJudged.the-variants.{Verdict as Says, Refused as NotCaptured}
-use Rattle.capture.specs.Capture.{recordsIn, timedIn}
+use Rattle.stamps.specs.Capture.{recordsIn, timedIn}
 use Rattle.capture.specs.Answer.{commandsSeen}
 use Rattle.capture.specs.Eleven.{Such}
 use Rattle.capture.specs.Written.{Sent, captureBytes, WrittenAs, allStamped, withoutTicks}
-use Rattle.desk.specs.Admit.{admitted}
-use Rattle.desk.specs.Tracing.{capturing}
+use Rattle.promises.specs.Admit.{admitted}
+use Rattle.promises.specs.Tracing.{capturing}
 
 -- of a table that is admitted; s is a capture's bytes, b what the room for the commands holds before the call
 pub record Traces (expected : ℕ) (table : List ℕ) (τ : Table) : Type 0 where

@@ -3,7 +3,8 @@ use admission::admit::admit;
 use controller::controller::Controller;
 use controller::controller::start_of;
 use controller::run::RunTold;
-use records::refusal::Refusal;
+use promises::starting::StartAnswer;
+use promises::starting::StartTold;
 use records::table::TableRead;
 use runner::running::run_records;
 use tables::table::table_of;
@@ -12,20 +13,8 @@ ghost use mathlib.Core.Path.{_≡_};
 ghost use Rattle.records.specs.Transaction.{transactionsIn, laterIn};
 ghost use Rattle.lists.specs.Check.{checkBytes};
 ghost use Rattle.controller.specs.Run.{LeavesRun};
-ghost use Rattle.desk.specs.Admit.{admitted};
-ghost use Rattle.desk.specs.Running.{starting, running};
-
-// The table's edition, or the refusal.
-pub enum StartAnswer {
-    Started(u16),
-    Refused(Refusal),
-}
-
-// A refused start hands out a controller of edition 0, which no table has: number 9 refuses every run of it.
-pub struct StartTold {
-    pub controller: Controller,
-    pub answer: StartAnswer,
-}
+ghost use Rattle.promises.specs.Admit.{admitted};
+ghost use Rattle.promises.specs.Running.{starting, running};
 
 // Numbers 1, 2 and 10; then a fresh controller.
 pub fn start(expected: u16, table: &[u8]) -> StartTold

@@ -4,8 +4,8 @@ use scheduler::schedules::schedule_records;
 ghost use mathlib.Core.Bool.{true, false};
 ghost use Rattle.records.specs.Transaction.{transactionsIn, laterIn};
 ghost use Rattle.lists.specs.Check.{checkBytes};
-ghost use Rattle.desk.specs.Admit.{admitted};
-ghost use Rattle.desk.specs.Schedules.{Schedules};
+ghost use Rattle.promises.specs.Admit.{admitted};
+ghost use Rattle.promises.specs.Schedules.{Schedules};
 
 // Of records of 4 bytes.
 pub fn schedule_bytes(

@@ -9,9 +9,9 @@ ghost use mathlib.Core.Bool.{true, false};
 ghost use Rattle.records.specs.Transaction.{transactionsIn, laterIn};
 ghost use Rattle.lists.specs.Check.{checkBytes};
 ghost use Rattle.controller.specs.Run.{LeavesRun};
-ghost use Rattle.desk.specs.Admit.{admitted};
-ghost use Rattle.desk.specs.Schedules.{Schedules};
-ghost use Rattle.desk.specs.Running.{running};
+ghost use Rattle.promises.specs.Admit.{admitted};
+ghost use Rattle.promises.specs.Schedules.{Schedules};
+ghost use Rattle.promises.specs.Running.{running};
 
 // The schedule, of records of 4 bytes.
 pub fn schedule_straight_bytes(

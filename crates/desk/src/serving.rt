@@ -4,8 +4,8 @@ use service::serving::serves_records;
 ghost use mathlib.Core.Bool.{true, false};
 ghost use Rattle.records.specs.Transaction.{transactionsIn, laterIn};
 ghost use Rattle.lists.specs.Check.{checkBytes};
-ghost use Rattle.desk.specs.Admit.{admitted};
-ghost use Rattle.desk.specs.Serving.{Serving};
+ghost use Rattle.promises.specs.Admit.{admitted};
+ghost use Rattle.promises.specs.Serving.{Serving};
 
 // Of records of 4 bytes.
 pub fn serves_bytes(expected: u16, table: &[u8], list: &[u8], schedule: &[u8]) -> ServesAnswer

@@ -17,7 +17,7 @@ use Rattle.rules.specs.Square.{groupOf}
 use Rattle.rules.specs.State.{bankOf, groupAt, actsFar, dataFar, rule7, rule11, rule12, actTestsOf, actTests, dataTestsOf, dataTests, testsBy, breaksNone}
 use Rattle.rules.proofs.laws.TestLaws.{true-false}
 use Rattle.heads.specs.declared.head.Head.{Head}
-use Rattle.timing.proofs.Grouped.{Rest, act-rest, data-rest}
+use Rattle.grouped.proofs.Grouped.{Rest, act-rest, data-rest}
 use Rattle.choices.specs.Choose.{commandOf, seenAt, dataFree, actFree}
 
 -- what code found of the groups, y: it asked them all where the own group lets the command go, x, and the table has more than one

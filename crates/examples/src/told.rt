@@ -1,12 +1,12 @@
 // What the calls answer, a line each.
 use builder::bound::BoundAnswer;
 use builder::build::BuildAnswer;
-use desk::numbers::rule_number;
 use judge::answer::Judged;
 use judge::answer::PatternJudged;
 use prints::count;
 use prints::first;
 use prints::text;
+use promises::numbers::rule_number;
 use records::refusal::Refusal;
 use records::refusal::Written;
 use records::table::TableRead;

@@ -36,14 +36,14 @@ use Rattle.lists.proofs.Checks.{into-256, into-list, fine-fits}
 use Rattle.builder.specs.declared.build.BuildAnswer.{BuildAnswer}
 use Rattle.builder.specs.declared.build.BuildAnswer.the-variants.{Built, Refused as NotBuilt}
 use Rattle.builder.specs.Build.{LeavesBuild}
-use Rattle.desk.specs.Admit.{admitted}
-use Rattle.desk.specs.Schedules.{NothingBuilt, BuildsChecked, Schedules}
-use Rattle.desk.specs.Tracing.{capturing}
-use Rattle.desk.specs.Patterns.{ShortestTold}
-use Rattle.desk.proofs.Room.{shortest-few}
-use Rattle.desk.proofs.Laws.{read-accepted}
+use Rattle.promises.specs.Admit.{admitted}
+use Rattle.promises.specs.Schedules.{NothingBuilt, BuildsChecked, Schedules}
+use Rattle.promises.specs.Tracing.{capturing}
+use Rattle.promises.specs.Patterns.{ShortestTold}
+use Rattle.promises.proofs.Room.{shortest-few}
+use Rattle.promises.proofs.Laws.{read-accepted}
 use Rattle.answers.specs.Answers.{countOf, recordsFound}
-use Rattle.answers.specs.Verdicts.{commandsWritten}
+use Rattle.verdict_answers.specs.Verdicts.{commandsWritten}
 
 module _ (l : List Transaction) (b₀ b f₀ f : List ℕ) where
   -- 256 transactions of at most 16 ACTs and 256 data commands

@@ -8,18 +8,18 @@ use Rattle.records.specs.Table.{readTable, writeTable, writeGroupTable}
 use Rattle.records.specs.Transaction.{transaction, arriving, readTransaction, writeTransaction, readLater, writeLater, listOf}
 use Rattle.records.specs.Command.{command, kindOf, readCommand, writeCommand}
 use Rattle.records.proofs.Unique.{one-answer}
-use Rattle.capture.specs.Record.{captureRecord, readCaptureRecord, writeCaptureRecord}
+use Rattle.stamps.specs.Record.{captureRecord, readCaptureRecord, writeCaptureRecord}
 use Rattle.lists.specs.Check.{checkList, checkBytes}
-use Rattle.desk.specs.Admit.{admitted}
-use Rattle.desk.specs.Judging.{judging}
-use Rattle.desk.specs.Tracing.{capturing}
-use Rattle.desk.specs.Bounds.{bounding}
-use Rattle.desk.specs.Transactions.{reading}
-use Rattle.desk.specs.Running.{starting, running}
-use Rattle.desk.proofs.Unique.{only as desk-only}
+use Rattle.promises.specs.Admit.{admitted}
+use Rattle.promises.specs.Judging.{judging}
+use Rattle.promises.specs.Tracing.{capturing}
+use Rattle.promises.specs.Bounds.{bounding}
+use Rattle.promises.specs.Transactions.{reading}
+use Rattle.promises.specs.Running.{starting, running}
+use Rattle.promises.proofs.Unique.{only as desk-only}
 use Rattle.answers.specs.declared.answer.Answer.{Answer}
 use Rattle.answers.specs.Answers.{ofWritten, ofTable, ofTransaction, ofCommand, ofCaptureRecord, ofRead, ofBuild, ofBound, shortestOf, startOf, ofRun, runOf}
-use Rattle.answers.specs.Verdicts.{verdictOf, patternOf, captureOf, servesOf}
+use Rattle.verdict_answers.specs.Verdicts.{verdictOf, patternOf, captureOf, servesOf}
 use Rattle.host.specs.Promises.{Writes}
 use Rattle.host.specs.Only.{OnlyRecord, Only}
 

@@ -7,8 +7,8 @@ use Rattle.records.specs.declared.transaction.Transaction.{Transaction}
 use Rattle.records.specs.Transaction.{listOf}
 use Rattle.lists.specs.Check.{checkList, checkBytes}
 use Rattle.controller.specs.declared.controller.Controller.{Controller}
-use Rattle.desk.specs.Admit.{admitted}
-use Rattle.desk.specs.Running.{running}
+use Rattle.promises.specs.Admit.{admitted}
+use Rattle.promises.specs.Running.{running}
 use Rattle.answers.specs.declared.answer.Answer.{Answer}
 use Rattle.answers.specs.declared.answer.RunAnswer.{RunAnswer}
 use Rattle.host.specs.Promises.{Scheduled, RunsIn, RunsBack}

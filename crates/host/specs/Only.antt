@@ -8,15 +8,15 @@ use Rattle.records.specs.declared.transaction.Transaction.{Transaction}
 use Rattle.records.specs.Table.{readTable, writeTable, writeGroupTable}
 use Rattle.records.specs.Transaction.{transaction, arriving, readTransaction, writeTransaction, readLater, writeLater, listOf}
 use Rattle.records.specs.Command.{command, kindOf, readCommand, writeCommand}
-use Rattle.capture.specs.Record.{captureRecord, readCaptureRecord, writeCaptureRecord}
+use Rattle.stamps.specs.Record.{captureRecord, readCaptureRecord, writeCaptureRecord}
 use Rattle.lists.specs.Check.{checkList, checkBytes}
 use Rattle.controller.specs.declared.controller.Controller.{Controller}
-use Rattle.desk.specs.Admit.{admitted}
-use Rattle.desk.specs.Judging.{judging}
-use Rattle.desk.specs.Tracing.{capturing}
-use Rattle.desk.specs.Bounds.{bounding}
-use Rattle.desk.specs.Transactions.{reading}
-use Rattle.desk.specs.Running.{starting, running}
+use Rattle.promises.specs.Admit.{admitted}
+use Rattle.promises.specs.Judging.{judging}
+use Rattle.promises.specs.Tracing.{capturing}
+use Rattle.promises.specs.Bounds.{bounding}
+use Rattle.promises.specs.Transactions.{reading}
+use Rattle.promises.specs.Running.{starting, running}
 use Rattle.answers.specs.declared.answer.Answer.{Answer}
 use Rattle.answers.specs.declared.reader.TableAnswer.{TableAnswer}
 use Rattle.answers.specs.declared.reader.TransactionAnswer.{TransactionAnswer}
@@ -24,12 +24,12 @@ use Rattle.answers.specs.declared.reader.CommandAnswer.{CommandAnswer}
 use Rattle.answers.specs.declared.reader.CaptureRecordAnswer.{CaptureRecordAnswer}
 use Rattle.answers.specs.declared.answer.StartAnswer.{StartAnswer}
 use Rattle.answers.specs.declared.answer.RunAnswer.{RunAnswer}
-use Rattle.answers.specs.declared.verdict.VerdictAnswer.{VerdictAnswer}
-use Rattle.answers.specs.declared.verdict.CaptureAnswer.{CaptureAnswer}
-use Rattle.answers.specs.declared.verdict.ServesAnswer.{ServesAnswer}
+use Rattle.verdict_answers.specs.declared.verdict.VerdictAnswer.{VerdictAnswer}
+use Rattle.verdict_answers.specs.declared.verdict.CaptureAnswer.{CaptureAnswer}
+use Rattle.verdict_answers.specs.declared.verdict.ServesAnswer.{ServesAnswer}
 use Rattle.answers.specs.declared.patterns.PatternAnswer.{PatternAnswer}
 use Rattle.answers.specs.Answers.{ofTable, ofTransaction, ofCommand, ofCaptureRecord, ofBound, startOf}
-use Rattle.answers.specs.Verdicts.{verdictOf}
+use Rattle.verdict_answers.specs.Verdicts.{verdictOf}
 use Rattle.host.specs.Promises.{Writes, PatternSaid, Traces, PatternFound, ReadsInto, Scheduled, ServesSaid, RunsIn, RunsBack}
 
 -- x and y are two results that keep the promise; b and d, f and g, c and e are a buffer or a controller as either leaves it. First the calls

@@ -15,18 +15,18 @@ use Rattle.lists.specs.Decode.{Decoding}
 use Rattle.builder.specs.declared.build.BuildAnswer.{BuildAnswer}
 use Rattle.controller.specs.declared.controller.Controller.{Controller}
 use Rattle.controller.specs.Run.{RunLeft}
-use Rattle.desk.specs.Judging.{PatternTold}
-use Rattle.desk.specs.Patterns.{ShortestTold}
-use Rattle.desk.specs.Schedules.{Schedules}
-use Rattle.desk.specs.Serving.{Serving}
+use Rattle.promises.specs.Judging.{PatternTold}
+use Rattle.promises.specs.Patterns.{ShortestTold}
+use Rattle.promises.specs.Schedules.{Schedules}
+use Rattle.promises.specs.Serving.{Serving}
 use Rattle.answers.specs.declared.answer.Answer.{Answer}
 use Rattle.answers.specs.declared.answer.RunAnswer.{RunAnswer}
-use Rattle.answers.specs.declared.verdict.VerdictAnswer.{VerdictAnswer}
-use Rattle.answers.specs.declared.verdict.CaptureAnswer.{CaptureAnswer}
-use Rattle.answers.specs.declared.verdict.ServesAnswer.{ServesAnswer}
+use Rattle.verdict_answers.specs.declared.verdict.VerdictAnswer.{VerdictAnswer}
+use Rattle.verdict_answers.specs.declared.verdict.CaptureAnswer.{CaptureAnswer}
+use Rattle.verdict_answers.specs.declared.verdict.ServesAnswer.{ServesAnswer}
 use Rattle.answers.specs.declared.patterns.PatternAnswer.{PatternAnswer}
 use Rattle.answers.specs.Answers.{ofWritten, ofRead, ofBuild, shortestOf, ofRun, runOf}
-use Rattle.answers.specs.Verdicts.{patternOf, captureOf, servesOf}
+use Rattle.verdict_answers.specs.Verdicts.{patternOf, captureOf, servesOf}
 
 -- one record written: r is the answer, b what the buffer holds as the call returns
 abbrev pub Writes : Wrote → Answer → List ℕ → Type 0

@@ -1,10 +1,10 @@
 // By when must a transaction finish?
 use answers::answer::Answer;
 use answers::answer::of_bound;
-use desk::bounding::bound;
+use judgements::bounding::bound;
 ghost use mathlib.Core.Path.{_≡_};
-ghost use Rattle.desk.specs.Admit.{admitted};
-ghost use Rattle.desk.specs.Bounds.{bounding};
+ghost use Rattle.promises.specs.Admit.{admitted};
+ghost use Rattle.promises.specs.Bounds.{bounding};
 ghost use Rattle.answers.specs.Answers.{ofBound};
 
 #[no_mangle]

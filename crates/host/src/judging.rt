@@ -1,13 +1,13 @@
 // Is the schedule legal and, if not, which record breaks which rule first? And is a pattern, however often it is repeated?
-use answers::verdict::VerdictAnswer;
-use answers::verdict::pattern_of;
-use answers::verdict::verdict_of;
-use desk::judging::judge;
-use desk::judging::judge_pattern;
+use judgements::judging::judge;
+use judgements::judging::judge_pattern;
+use verdict_answers::verdict::VerdictAnswer;
+use verdict_answers::verdict::pattern_of;
+use verdict_answers::verdict::verdict_of;
 ghost use mathlib.Core.Path.{_≡_};
-ghost use Rattle.desk.specs.Admit.{admitted};
-ghost use Rattle.desk.specs.Judging.{judging};
-ghost use Rattle.answers.specs.Verdicts.{verdictOf};
+ghost use Rattle.promises.specs.Admit.{admitted};
+ghost use Rattle.promises.specs.Judging.{judging};
+ghost use Rattle.verdict_answers.specs.Verdicts.{verdictOf};
 ghost use Rattle.host.specs.Promises.{PatternSaid};
 
 #[no_mangle]

@@ -1,8 +1,8 @@
 // What is the shortest pattern for a type, BI and BC?
 use answers::patterns::PatternAnswer;
 use answers::patterns::shortest_of;
-use desk::patterns::shortest_pattern;
-ghost use Rattle.desk.specs.Admit.{admitted};
+use judgements::patterns::shortest_pattern;
+ghost use Rattle.promises.specs.Admit.{admitted};
 ghost use Rattle.host.specs.Promises.{PatternFound};
 
 #[no_mangle]

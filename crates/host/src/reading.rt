@@ -5,8 +5,8 @@ use desk::read_later_transactions;
 use desk::read_transactions;
 use records::transaction::Transaction;
 ghost use mathlib.Core.Bool.{true, false};
-ghost use Rattle.desk.specs.Admit.{admitted};
-ghost use Rattle.desk.specs.Transactions.{reading};
+ghost use Rattle.promises.specs.Admit.{admitted};
+ghost use Rattle.promises.specs.Transactions.{reading};
 ghost use Rattle.host.specs.Promises.{ReadsInto};
 
 // Those of 4 bytes. The transactions go to the run's start.

@@ -15,8 +15,8 @@ ghost use mathlib.Core.Bool.{true, false};
 ghost use mathlib.Core.Path.{_≡_};
 ghost use Rattle.records.specs.Transaction.{transactionsIn, laterIn};
 ghost use Rattle.lists.specs.Check.{checkList, checkBytes};
-ghost use Rattle.desk.specs.Admit.{admitted};
-ghost use Rattle.desk.specs.Running.{starting, running};
+ghost use Rattle.promises.specs.Admit.{admitted};
+ghost use Rattle.promises.specs.Running.{starting, running};
 ghost use Rattle.answers.specs.Answers.{startOf};
 ghost use Rattle.host.specs.Promises.{RunsIn, RunsBack};
 

@@ -8,7 +8,7 @@ use records::transaction::Transaction;
 ghost use mathlib.Core.Bool.{true, false};
 ghost use Rattle.records.specs.Transaction.{transactionsIn, laterIn};
 ghost use Rattle.lists.specs.Check.{checkList, checkBytes};
-ghost use Rattle.desk.specs.Admit.{admitted};
+ghost use Rattle.promises.specs.Admit.{admitted};
 ghost use Rattle.host.specs.Promises.{Scheduled};
 
 // Of transactions of 4 bytes.

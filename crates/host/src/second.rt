@@ -15,8 +15,8 @@ use records::transaction::Transaction;
 ghost use mathlib.Core.Bool.{true, false};
 ghost use Rattle.records.specs.Transaction.{transactionsIn, laterIn};
 ghost use Rattle.lists.specs.Check.{checkList, checkBytes};
-ghost use Rattle.desk.specs.Admit.{admitted};
-ghost use Rattle.desk.specs.Running.{running};
+ghost use Rattle.promises.specs.Admit.{admitted};
+ghost use Rattle.promises.specs.Running.{running};
 ghost use Rattle.host.specs.Promises.{Scheduled, RunsIn, RunsBack};
 
 // The schedule, of transactions of 4 bytes.

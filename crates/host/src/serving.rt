@@ -1,14 +1,14 @@
 // Does a schedule serve a list?
-use answers::verdict::ServesAnswer;
-use answers::verdict::serves_of;
 use desk::serves;
 use desk::serving::serves_bytes;
 use desk::serving::serves_later_bytes;
 use records::transaction::Transaction;
+use verdict_answers::verdict::ServesAnswer;
+use verdict_answers::verdict::serves_of;
 ghost use mathlib.Core.Bool.{true, false};
 ghost use Rattle.records.specs.Transaction.{transactionsIn, laterIn};
 ghost use Rattle.lists.specs.Check.{checkList, checkBytes};
-ghost use Rattle.desk.specs.Admit.{admitted};
+ghost use Rattle.promises.specs.Admit.{admitted};
 ghost use Rattle.host.specs.Promises.{ServesSaid};
 
 // Of transactions of 4 bytes.

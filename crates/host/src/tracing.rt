@@ -1,9 +1,9 @@
 // A caller's logic analyser trace, straight into the judge.
-use answers::verdict::CaptureAnswer;
-use answers::verdict::capture_of;
-use desk::tracing::judge_capture;
-ghost use Rattle.desk.specs.Admit.{admitted};
-ghost use Rattle.desk.specs.Tracing.{capturing};
+use judgements::tracing::judge_capture;
+use verdict_answers::verdict::CaptureAnswer;
+use verdict_answers::verdict::capture_of;
+ghost use Rattle.promises.specs.Admit.{admitted};
+ghost use Rattle.promises.specs.Tracing.{capturing};
 ghost use Rattle.host.specs.Promises.{Traces};
 
 #[no_mangle]

@@ -25,7 +25,7 @@ use Rattle.lists.specs.Decode.{stored}
 use Rattle.lists.proofs.Checks.{over-list}
 use Rattle.lists.proofs.Packing.{held-whole}
 use Rattle.lists.proofs.Storing.{stored-none, plan-room, plan-decodes}
-use Rattle.refusals.specs.Refused.{runRefusal}
+use Rattle.sound.specs.Refused.{runRefusal}
 use Rattle.builder.specs.declared.build.BuildAnswer.{BuildAnswer}
 use Rattle.serves.specs.declared.answer.ServesAnswer.{ServesAnswer}
 use Rattle.controller.specs.declared.controller.Controller.{Controller}

@@ -28,9 +28,9 @@ use Rattle.lists.specs.declared.check.Checked.{Checked}
 use Rattle.lists.specs.declared.check.Checked.the-variants.{Fine, Refused as NotFine}
 use Rattle.lists.specs.Check.{checkBytes}
 use Rattle.lists.proofs.Checks.{into-256, into-list, fine-fits}
-use Rattle.desk.specs.Admit.{admitted}
-use Rattle.desk.specs.Schedules.{BuildsChecked, Schedules}
-use Rattle.desk.proofs.Laws.{read-accepted}
+use Rattle.promises.specs.Admit.{admitted}
+use Rattle.promises.specs.Schedules.{BuildsChecked, Schedules}
+use Rattle.promises.proofs.Laws.{read-accepted}
 use Rattle.lines.specs.Lines.{scheduleText}
 use Rattle.listed.specs.Listing.{answerText, ListsCall}
 use Rattle.listed.specs.Shows.{ShowsSchedule, Shows}

@@ -17,9 +17,9 @@ use Rattle.records.specs.Command.{commandsFrom}
 use Rattle.builder.specs.declared.build.BuildAnswer.{BuildAnswer}
 use Rattle.builder.specs.declared.build.BuildAnswer.the-variants.{Built, Refused}
 use Rattle.lists.specs.Check.{checkBytes}
-use Rattle.desk.specs.Admit.{admitted}
-use Rattle.desk.specs.Schedules.{Schedules}
-use Rattle.desk.proofs.Room.{built-room}
+use Rattle.promises.specs.Admit.{admitted}
+use Rattle.promises.specs.Schedules.{Schedules}
+use Rattle.promises.proofs.Room.{built-room}
 use Rattle.text.specs.Puts.{Writes}
 use Rattle.lines.specs.Lines.{scheduleText, refusedLine}
 use Rattle.listed.specs.Listing.{answerText, ListsCall, ListsBehind, Lists}

@@ -10,7 +10,7 @@ use Rattle.records.specs.Tests.{pick}
 use Rattle.records.specs.Told.{refusal, over}
 use Rattle.records.specs.Little.{num}
 use Rattle.builder.specs.declared.build.BuildAnswer.{BuildAnswer}
-use Rattle.desk.proofs.Unique.{only as desk-only}
+use Rattle.promises.proofs.Unique.{only as desk-only}
 use Rattle.lines.specs.Lines.{refusedLine}
 use Rattle.listed.specs.Listing.{answerText, ListsCall, ListsBehind, Lists}
 use Rattle.listed.specs.Only.{Only}

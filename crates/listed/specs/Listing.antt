@@ -15,8 +15,8 @@ use Rattle.records.specs.Command.{commandsFrom}
 use Rattle.builder.specs.declared.build.BuildAnswer.{BuildAnswer}
 use Rattle.builder.specs.declared.build.BuildAnswer.the-variants.{Built, Refused}
 use Rattle.lists.specs.Check.{checkBytes}
-use Rattle.desk.specs.Admit.{admitted}
-use Rattle.desk.specs.Schedules.{Schedules}
+use Rattle.promises.specs.Admit.{admitted}
+use Rattle.promises.specs.Schedules.{Schedules}
 use Rattle.lines.specs.Lines.{scheduleText, refusedLine}
 
 -- what is printed for an answer of the desk's call: the commands stand in the room, the finishing cycles in their slice

@@ -10,7 +10,7 @@ use Rattle.records.specs.declared.command.Command.{Command}
 use Rattle.records.specs.Transaction.{transactionsIn}
 use Rattle.rules.specs.CycleRule.{Built}
 use Rattle.engine.specs.Build.{finishesFrom}
-use Rattle.desk.specs.Admit.{admitted}
+use Rattle.promises.specs.Admit.{admitted}
 use Rattle.lines.specs.Lines.{scheduleText, refusedLine}
 
 -- the text of a built schedule, under the table that was admitted

@@ -19,8 +19,8 @@ use Rattle.shortest.specs.declared.answer.ShortestAnswer.{ShortestAnswer}
 use Rattle.shortest.specs.declared.answer.ShortestAnswer.the-variants.{Pattern, Refused}
 use Rattle.shortest.specs.Answer.{isAsked, shortestRefusal, Cause, LeavesShortest}
 use Rattle.shortest.proofs.Calls.{asked-few, pattern-stands}
-use Rattle.desk.specs.Admit.{admitted}
-use Rattle.desk.specs.Patterns.{ShortestTold}
+use Rattle.promises.specs.Admit.{admitted}
+use Rattle.promises.specs.Patterns.{ShortestTold}
 use Rattle.lines.specs.Lines.{refusedLine}
 use Rattle.patterned.specs.Pattern.{patternText, answerText, Told}
 use Rattle.patterned.specs.Shows.{Shows4, Shows13, ShowsPattern, Shows}

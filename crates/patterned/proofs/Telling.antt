@@ -14,9 +14,9 @@ use Rattle.records.specs.declared.refusal.Refusal.{Refusal}
 use Rattle.records.specs.Command.{commandsFrom}
 use Rattle.shortest.specs.declared.answer.ShortestAnswer.{ShortestAnswer}
 use Rattle.shortest.specs.declared.answer.ShortestAnswer.the-variants.{Pattern, Refused}
-use Rattle.desk.specs.Admit.{admitted}
-use Rattle.desk.specs.Patterns.{ShortestTold}
-use Rattle.desk.proofs.Room.{shortest-few}
+use Rattle.promises.specs.Admit.{admitted}
+use Rattle.promises.specs.Patterns.{ShortestTold}
+use Rattle.promises.proofs.Room.{shortest-few}
 use Rattle.text.specs.Decimal.{decimal}
 use Rattle.text.specs.Puts.{Puts, Writes}
 use Rattle.text.proofs.Digits.{at-most, then-long}

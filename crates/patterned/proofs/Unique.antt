@@ -10,7 +10,7 @@ use Rattle.records.specs.Tests.{pick}
 use Rattle.records.specs.Told.{refusal, over}
 use Rattle.records.specs.Little.{num}
 use Rattle.shortest.specs.declared.answer.ShortestAnswer.{ShortestAnswer}
-use Rattle.desk.proofs.Unique.{only as desk-only}
+use Rattle.promises.proofs.Unique.{only as desk-only}
 use Rattle.lines.specs.Lines.{refusedLine}
 use Rattle.patterned.specs.Pattern.{answerText, Told, PatternOf}
 use Rattle.patterned.specs.Only.{Only}

@@ -12,8 +12,8 @@ use Rattle.records.specs.declared.command.Command.{Command}
 use Rattle.records.specs.Command.{commandsFrom}
 use Rattle.shortest.specs.declared.answer.ShortestAnswer.{ShortestAnswer}
 use Rattle.shortest.specs.declared.answer.ShortestAnswer.the-variants.{Pattern, Refused}
-use Rattle.desk.specs.Admit.{admitted}
-use Rattle.desk.specs.Patterns.{ShortestTold}
+use Rattle.promises.specs.Admit.{admitted}
+use Rattle.promises.specs.Patterns.{ShortestTold}
 use Rattle.text.specs.Decimal.{decimal}
 use Rattle.lines.specs.Words.{editionWord, commandsWord, newline}
 use Rattle.lines.specs.Lines.{refusedLine, commandLines}

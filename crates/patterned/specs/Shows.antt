@@ -13,7 +13,7 @@ use Rattle.records.specs.declared.refusal.Refusal.{Refusal}
 use Rattle.records.specs.declared.command.Command.{Command}
 use Rattle.shortest.specs.Shortest.{Shortest, NoneUpTo}
 use Rattle.shortest.specs.Answer.{isAsked}
-use Rattle.desk.specs.Admit.{admitted}
+use Rattle.promises.specs.Admit.{admitted}
 use Rattle.lines.specs.Lines.{refusedLine}
 use Rattle.patterned.specs.Pattern.{patternText}
 

@@ -19,7 +19,7 @@ use Rattle.rules.proofs.queues.Fit.{Fits, AllFit, plain-count}
 use Rattle.rules.proofs.queues.Queue.{actSum}
 use Rattle.heads.specs.declared.head.Head.{Head}
 use Rattle.heads.specs.Head.{dueOf}
-use Rattle.refusals.specs.Refused.{goneBacked}
+use Rattle.sound.specs.Refused.{goneBacked}
 
 -- the places of the ACTs ascend from lo on, up to hi
 abbrev Ascends : ℕ → ℕ → List Due → Type 0

@@ -1,5 +1,2 @@
-pub mod Laws
-pub mod StoredKept
 pub mod Backed
 pub mod SoundKept
-pub mod FirstNew

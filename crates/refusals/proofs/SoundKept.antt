@@ -27,9 +27,9 @@ use Rattle.rules.proofs.queues.Queue.{Place, actDue, dataDue, actPlace, dataPla
 use Rattle.rules.proofs.laws.DataKinds.{not-in-acts, is-data, act-queued, act-no-data}
 use Rattle.rules.proofs.queues.Heads.{test-at}
 use Rattle.rules.proofs.history.Legal.{goes-all}
-use Rattle.refusals.specs.Refused.{banksBefore, groupsBefore, lastBefore, backed, sound}
+use Rattle.sound.specs.Refused.{banksBefore, groupsBefore, lastBefore, backed, sound}
 use Rattle.refusals.proofs.Backed.{in-list}
-use Rattle.refusals.proofs.StoredKept.{Stored, stored-later, stored-after, goes-now, next-cycle, run-keeps, every-map}
+use Rattle.sound.proofs.StoredKept.{Stored, stored-later, stored-after, goes-now, next-cycle, run-keeps, every-map}
 
 -- the tests of number 9 but that of the cycle
 pub record Tested (τ : Table) (l : List Transaction) (s : State) : Type 0 where

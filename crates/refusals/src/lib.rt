@@ -1,4 +1,2 @@
 // What a run from a state's numbers refuses: numbers 5, 9 and 12; nothing is run here.
-pub mod late;
 pub mod refused;
-pub mod stored;

@@ -1,9 +1,4 @@
 // Numbers 5, 9 and 12 of a run.
-use crate::late::is_late;
-use crate::late::is_over;
-use crate::stored::banks_before;
-use crate::stored::groups_before;
-use crate::stored::last_before;
 use distances::square::less;
 use distances::square::wide;
 use heads::due::Counts;
@@ -12,6 +7,11 @@ use records::refusal::first_failed;
 use records::table::Table;
 use records::tests::both_of;
 use records::tests::not_of;
+use sound::late::is_late;
+use sound::late::is_over;
+use sound::stored::banks_before;
+use sound::stored::groups_before;
+use sound::stored::last_before;
 use timing::kept::Kept;
 ghost use mathlib.Core.Path.{_≡_};
 ghost use mathlib.Core.Bool.{not};
@@ -22,7 +22,7 @@ ghost use Rattle.records.specs.Told.{firstFailed};
 ghost use Rattle.records.specs.Transaction.{laterFrom};
 ghost use Rattle.heads.specs.Queue.{Listed, Counted};
 ghost use Rattle.timing.specs.Kept.{told};
-ghost use Rattle.refusals.specs.Refused.{roomShort, goneBacked, soundBy, runRefusal};
+ghost use Rattle.sound.specs.Refused.{roomShort, goneBacked, soundBy, runRefusal};
 
 pub fn lesser(a: u64, b: u64) -> u64
     ensures { λ r. ⌜ r ≡ min a b ⌝ }

@@ -16,8 +16,8 @@ ghost use lib.ListN.{length};
 ghost use Rattle.io.specs.Counts.{Counts};
 ghost use Rattle.records.specs.Transaction.{recordCount, listOf};
 ghost use Rattle.lists.specs.Check.{checkBytes};
-ghost use Rattle.desk.specs.Admit.{admitted};
-ghost use Rattle.desk.specs.Schedules.{Schedules};
+ghost use Rattle.promises.specs.Admit.{admitted};
+ghost use Rattle.promises.specs.Schedules.{Schedules};
 
 // The transactions have 8 bytes where `later`, else 4. A list that fits has at most 256 of them, so that more slots than 256 are as good as 256.
 pub(crate) fn lines(later: bool, expected: u16, table: &[u8], room: u16, slots: u16, list: &[u8]) {

@@ -18,8 +18,8 @@ ghost use lib.ListN.{length};
 ghost use Rattle.records.specs.Transaction.{listOf};
 ghost use Rattle.lists.specs.Check.{checkBytes};
 ghost use Rattle.controller.specs.Run.{LeavesRun};
-ghost use Rattle.desk.specs.Admit.{admitted};
-ghost use Rattle.desk.specs.Running.{running};
+ghost use Rattle.promises.specs.Admit.{admitted};
+ghost use Rattle.promises.specs.Running.{running};
 
 // The transactions have 8 bytes where `later`, else 4.
 pub(crate) fn lines(

@@ -1,10 +1,10 @@
 // The least length, and the pattern of that length that comes first.
 use crate::search::search;
 use distances::square::distances;
+use lifts::hope::hope;
 use records::command::Command;
 use records::command::Kind;
 use records::table::Table;
-use shortest::hope::hope;
 use shortest::place::records_of;
 ghost use Prim.Native.Nat.{suc, _*_, _≤_, _<_};
 ghost use Rattle.rules.specs.State.{Held};

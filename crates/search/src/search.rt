@@ -1,8 +1,8 @@
 // The search: each cycle in turn, with fewer cycles left at each deeper call.
+use lifts::hope::hope;
 use records::command::Command;
 use records::table::Table;
 use records::tests::both_of;
-use shortest::hope::hope;
 use shortest::place::class_of;
 use shortest::place::count;
 use shortest::place::kind_at;

@@ -3,7 +3,6 @@
 // Standard input, of which 131,072 bytes are read at most, is a sequence of cases, `[call][expected: u16][t: u8][l: u16][n: u16][t bytes][l bytes][n bytes]`.
 // The t bytes are the table, the n bytes are the schedule. Call 1 takes the l bytes as transactions of 4 bytes each, call 2 as transactions of 8.
 // The line is `case` for any other call, and for a case that the input cuts short, which is the last.
-use desk::numbers::rule_number;
 use desk::serves_bytes;
 use desk::serves_later_bytes;
 use libc::STDIN_FILENO;
@@ -11,6 +10,7 @@ use prints::long;
 use prints::number;
 use prints::refusal;
 use prints::text;
+use promises::numbers::rule_number;
 use records::little::num_at;
 use records::refusal::Refusal;
 use serves::answer::Served;

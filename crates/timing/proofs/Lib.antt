@@ -1,3 +1,2 @@
 pub mod Leaves
 pub mod Telling
-pub mod Grouped

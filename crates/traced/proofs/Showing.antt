@@ -18,11 +18,11 @@ use Rattle.records.specs.declared.command.Command.{Command}
 use Rattle.records.specs.Command.{bytesOfAll}
 use Rattle.rules.specs.Verdict.{judge}
 use Rattle.capture.specs.declared.answer.CaptureJudged.the-variants.{Verdict as Says, Refused}
-use Rattle.capture.specs.Capture.{timedIn, lowest}
+use Rattle.stamps.specs.Capture.{timedIn, lowest}
 use Rattle.capture.specs.Answer.{notACapture, captureCount, commandsSeen, captureRefusal, positionOf, Captured, captured}
 use Rattle.capture.proofs.Refusals.{few-records, few-commands, at-most, stand-seen}
-use Rattle.desk.specs.Admit.{admitted}
-use Rattle.desk.specs.Tracing.{capturing}
+use Rattle.promises.specs.Admit.{admitted}
+use Rattle.promises.specs.Tracing.{capturing}
 use Rattle.traced.specs.Trace.{traceText, answerText, leftText, emptyRoom, callText}
 use Rattle.traced.proofs.Telling.{room-size}
 use Rattle.traced.specs.Shows.{Shows7, Shows11, ShowsVerdict, Shows}

@@ -26,9 +26,9 @@ use Rattle.capture.specs.declared.answer.CaptureJudged.{CaptureJudged}
 use Rattle.capture.specs.declared.answer.CaptureJudged.the-variants.{Verdict as Says, Refused}
 use Rattle.capture.specs.Answer.{positionOf, commandsSeen, captureRefusal, Captured, captured, LeavesCapture}
 use Rattle.capture.proofs.Refusals.{taken}
-use Rattle.desk.specs.Admit.{admitted}
-use Rattle.desk.specs.Numbers.{ruleNumber}
-use Rattle.desk.specs.Tracing.{capturing}
+use Rattle.promises.specs.Admit.{admitted}
+use Rattle.promises.specs.Numbers.{ruleNumber}
+use Rattle.promises.specs.Tracing.{capturing}
 use Rattle.text.specs.Puts.{Puts}
 use Rattle.text.proofs.Putting.{puts-then}
 use Rattle.lines.proofs.Long.{broken-most}

@@ -11,9 +11,9 @@ use Rattle.records.specs.declared.table.Table.{Table}
 use Rattle.records.specs.declared.table.TableRead.the-variants.{Read, Refused}
 use Rattle.records.specs.declared.refusal.Refusal.{Refusal}
 use Rattle.rules.specs.Verdict.{judge}
-use Rattle.capture.specs.Capture.{timedIn, lowest}
+use Rattle.stamps.specs.Capture.{timedIn, lowest}
 use Rattle.capture.specs.Answer.{notACapture, captureCount, commandsSeen}
-use Rattle.desk.specs.Admit.{admitted}
+use Rattle.promises.specs.Admit.{admitted}
 use Rattle.lines.specs.Lines.{refusedLine}
 use Rattle.traced.specs.Trace.{traceText}
 

@@ -15,9 +15,9 @@ use Rattle.rules.specs.declared.verdict.Verdict.the-variants.{Accepted, Refused
 use Rattle.capture.specs.declared.answer.CaptureJudged.{CaptureJudged}
 use Rattle.capture.specs.declared.answer.CaptureJudged.the-variants.{Verdict as Says, Refused}
 use Rattle.capture.specs.Answer.{Captured}
-use Rattle.desk.specs.Admit.{admitted}
-use Rattle.desk.specs.Numbers.{ruleNumber}
-use Rattle.desk.specs.Tracing.{capturing}
+use Rattle.promises.specs.Admit.{admitted}
+use Rattle.promises.specs.Numbers.{ruleNumber}
+use Rattle.promises.specs.Tracing.{capturing}
 use Rattle.lines.specs.Lines.{acceptedLine, brokenLine, refusedLine, commandsText}
 
 -- "A verdict is acceptance, or a refusal that carries the rule inside it with the record number": `accepted`, or `record N breaks rule R`

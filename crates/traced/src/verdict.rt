@@ -1,8 +1,8 @@
 // The text of a capture that was judged.
-use desk::numbers::rule_number;
 use lines::answer::put_commands;
 use lines::line::put_accepted_line;
 use lines::line::put_broken_line;
+use promises::numbers::rule_number;
 use rules::verdict::Verdict;
 ghost use Prim.Native.Nat.{_+_, _*_, _≤_};
 ghost use lib.ListN.{length};

@@ -5,7 +5,6 @@
 // length. The line is `case` for any other call, and for a case that the input cuts short, which is the last.
 use desk::judge;
 use desk::judge_pattern;
-use desk::numbers::rule_number;
 use judge::answer::Judged;
 use judge::answer::PatternJudged;
 use libc::STDIN_FILENO;
@@ -13,6 +12,7 @@ use prints::long;
 use prints::number;
 use prints::refused;
 use prints::text;
+use promises::numbers::rule_number;
 use records::little::from_le32;
 use records::little::num_at;
 use records::refusal::Refusal;

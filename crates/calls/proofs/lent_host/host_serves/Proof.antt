@@ -42,11 +42,11 @@ use denote.Triple.Walked.{Stays, stay-none, stay-none-slice, walkOf, goes-none, 
 use denote.Exit.{yes}
 use Rattle.calls.proofs.Lend.{In, Part, lends-shared, shared-back, ends-unsaid}
 use Rattle.records.specs.declared.transaction.Transaction.{Transaction}
-use Rattle.answers.specs.declared.verdict.ServesAnswer.{ServesAnswer}
+use Rattle.verdict_answers.specs.declared.verdict.ServesAnswer.{ServesAnswer}
 use Rattle.records.proofs.transaction.Transaction as T
 use Rattle.records.proofs.transaction.Transaction.Laws as T′
-use Rattle.answers.proofs.verdict.ServesAnswer as R
-use Rattle.answers.proofs.verdict.ServesAnswer.Laws as R′
+use Rattle.verdict_answers.proofs.verdict.ServesAnswer as R
+use Rattle.verdict_answers.proofs.verdict.ServesAnswer.Laws as R′
 use Rattle.host.proofs.serving.skv_serves as h
 use Rattle.host.proofs.serving.skv_serves.Symbol as h-def
 use Rattle.host.proofs.serving.skv_serves.Symbol.{name as #skv-serves}

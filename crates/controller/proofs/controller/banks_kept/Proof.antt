@@ -4,7 +4,7 @@ use Prim.Native.Nat.{_-_}
 use mathlib.Core.Path.{refl, _∙_}
 use mathlib.Core.List.{map}
 use lib.ListN.{length-map}
-use Rattle.refusals.proofs.Laws.{Filled, fill-start, fill-end}
+use Rattle.sound.proofs.Laws.{Filled, fill-start, fill-end}
 use Rattle.timing.specs.Kept.{toldBank, shutKept}
 use Rattle.controller.specs.Controller.{bankKept}
 use Rattle.controller.proofs.Numbers.{held-turn}

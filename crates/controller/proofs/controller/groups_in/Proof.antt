@@ -2,7 +2,7 @@ use borrow.Author.Needs.{needs}
 use Prim.Native.Nat.{_-_}
 use mathlib.Core.Path.{refl}
 use mathlib.Core.List.{map}
-use Rattle.refusals.proofs.Laws.{Filled, fill-start, fill-end}
+use Rattle.sound.proofs.Laws.{Filled, fill-start, fill-end}
 use Rattle.timing.specs.Kept.{toldGroup}
 use Rattle.controller.specs.Controller.{groupTells}
 use Rattle.controller.proofs.Numbers.{zeroGroup, in-turn}

@@ -1,5 +1,5 @@
 use borrow.Author.Needs.{needs}
-use Rattle.desk.proofs.Told.{start-read, start-refused}
+use Rattle.promises.proofs.Told.{start-read, start-refused}
 use Rattle.desk.proofs.running.start.Statement.{statement}
 use Rattle.desk.proofs.running.start.Tie as tie
 

@@ -41,8 +41,8 @@ use denote.Exit.{yes}
 use Rattle.records.specs.declared.transaction.Transaction.{Transaction}
 use Rattle.lists.specs.declared.decode.Decoded.{Decoded}
 use Rattle.lists.specs.Decode.{Decodes}
-use Rattle.desk.specs.Admit.{admitted}
-use Rattle.desk.specs.Transactions.{reading}
+use Rattle.promises.specs.Admit.{admitted}
+use Rattle.promises.specs.Transactions.{reading}
 use Rattle.answers.specs.declared.answer.Answer.{Answer}
 use Rattle.answers.specs.Answers.{ofRead}
 use Rattle.records.proofs.transaction.Transaction as T

@@ -40,8 +40,8 @@ use denote.Exit.{yes}
 use Rattle.records.specs.declared.transaction.Transaction.{Transaction}
 use Rattle.lists.specs.Check.{checkList}
 use Rattle.builder.specs.declared.build.BuildAnswer.{BuildAnswer}
-use Rattle.desk.specs.Admit.{admitted}
-use Rattle.desk.specs.Schedules.{Schedules}
+use Rattle.promises.specs.Admit.{admitted}
+use Rattle.promises.specs.Schedules.{Schedules}
 use Rattle.answers.specs.declared.answer.Answer.{Answer}
 use Rattle.answers.specs.Answers.{countOf, ofBuild}
 use Rattle.host.proofs.Laws.{few-of-list}

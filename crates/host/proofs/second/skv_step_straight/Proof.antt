@@ -41,8 +41,8 @@ use Rattle.records.specs.declared.transaction.Transaction.{Transaction}
 use Rattle.lists.specs.Check.{checkList}
 use Rattle.controller.specs.declared.controller.Controller.{Controller}
 use Rattle.answers.specs.declared.answer.Answer.{Answer}
-use Rattle.desk.specs.Admit.{admitted}
-use Rattle.desk.specs.Running.{running}
+use Rattle.promises.specs.Admit.{admitted}
+use Rattle.promises.specs.Running.{running}
 use Rattle.host.specs.Promises.{RunsIn}
 use Rattle.records.proofs.transaction.Transaction as T
 use Rattle.controller.proofs.controller.Controller as S

@@ -39,23 +39,23 @@ use denote.Exit.{yes}
 use Rattle.records.specs.declared.transaction.Transaction.{Transaction}
 use Rattle.lists.specs.Check.{checkList}
 use Rattle.serves.specs.declared.answer.ServesAnswer.{ServesAnswer as ServesTold}
-use Rattle.desk.specs.Admit.{admitted}
-use Rattle.desk.specs.Serving.{Serving}
-use Rattle.answers.specs.declared.verdict.ServesAnswer.{ServesAnswer}
-use Rattle.answers.specs.Verdicts.{servesOf}
+use Rattle.promises.specs.Admit.{admitted}
+use Rattle.promises.specs.Serving.{Serving}
+use Rattle.verdict_answers.specs.declared.verdict.ServesAnswer.{ServesAnswer}
+use Rattle.verdict_answers.specs.Verdicts.{servesOf}
 use Rattle.records.proofs.transaction.Transaction as T
 use Rattle.serves.proofs.answer.ServesAnswer as R
 use Rattle.serves.proofs.answer.ServesAnswer.Laws as R′
-use Rattle.answers.proofs.verdict.ServesAnswer as N
-use Rattle.answers.proofs.verdict.ServesAnswer.Laws as N′
+use Rattle.verdict_answers.proofs.verdict.ServesAnswer as N
+use Rattle.verdict_answers.proofs.verdict.ServesAnswer.Laws as N′
 use Rattle.lending.proofs.serving.serves as g
 use Rattle.lending.proofs.serving.serves.Symbol as g-def
 use Rattle.lending.proofs.serving.serves.Symbol.{name as #serves}
 use Rattle.lending.proofs.serving.serves.Met as g-thm
-use Rattle.answers.proofs.verdict.serves_of as h
-use Rattle.answers.proofs.verdict.serves_of.Symbol as h-def
-use Rattle.answers.proofs.verdict.serves_of.Symbol.{name as #serves-of}
-use Rattle.answers.proofs.verdict.serves_of.Met as h-thm
+use Rattle.verdict_answers.proofs.verdict.serves_of as h
+use Rattle.verdict_answers.proofs.verdict.serves_of.Symbol as h-def
+use Rattle.verdict_answers.proofs.verdict.serves_of.Symbol.{name as #serves-of}
+use Rattle.verdict_answers.proofs.verdict.serves_of.Met as h-thm
 use Rattle.host.proofs.serving.skv_serves.Key.{name as #skv-serves}
 use Rattle.host.proofs.serving.skv_serves as f
 use Rattle.host.proofs.serving.skv_serves.Statement as stated
@@ -186,4 +186,4 @@ skv-serves-spec 𝓤 H 𝓜 𝓖 𝓡 =
     (tables 𝓤 H 𝓜 𝓡 code.env .C) (tables 𝓤 H 𝓜 𝓡 code.env .Λ) #skv-serves code.function (code.unfolded 𝓤 H 𝓜 𝓡)
     (meets 𝓤 H (𝓖 .A) (givenOf 𝓤 H 𝓜 𝓖) (𝓜 .mem) (𝓡 .run) (tablesOf 𝓤 H 𝓜 (tables 𝓤 H 𝓜 𝓡 code.env))
     (cited 𝓤 H (Work 𝓤 H (𝓖 .A) (𝓜 .mem) (𝓡 .run)) 𝓜 𝓡 code.env #serves g-def.routine code.calls-lending·serving·serves (g-thm.met 𝓤 H 𝓜 𝓖 𝓡))
-    (cited 𝓤 H (Numbers 𝓤 H (𝓖 .A) (𝓜 .mem) (𝓡 .run)) 𝓜 𝓡 code.env #serves-of h-def.routine code.calls-answers·verdict·serves-of (h-thm.met 𝓤 H 𝓜 𝓖 𝓡)))
+    (cited 𝓤 H (Numbers 𝓤 H (𝓖 .A) (𝓜 .mem) (𝓡 .run)) 𝓜 𝓡 code.env #serves-of h-def.routine code.calls-verdict_answers·verdict·serves-of (h-thm.met 𝓤 H 𝓜 𝓖 𝓡)))

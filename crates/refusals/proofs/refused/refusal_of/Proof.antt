@@ -3,7 +3,7 @@ use denote.Ref.{now}
 use Rattle.rules.proofs.laws.Ranges.{held, ranges}
 use Rattle.timing.specs.Kept.{told}
 use Rattle.heads.proofs.Laws.{length-from}
-use Rattle.refusals.specs.Refused.{runRefusal, sound}
+use Rattle.sound.specs.Refused.{runRefusal, sound}
 use Rattle.refusals.proofs.refused.refusal_of.Statement.{statement}
 use Rattle.refusals.proofs.refused.refusal_of.Tie as tie
 

@@ -1,5 +1,5 @@
 use borrow.Author.Needs.{needs}
-use Rattle.desk.proofs.Room.{built-room}
+use Rattle.promises.proofs.Room.{built-room}
 use Rattle.runs.proofs.build.lines.Statement.{statement}
 use Rattle.runs.proofs.build.lines.Tie as tie
 

@@ -2,7 +2,7 @@ use borrow.Author.Needs.{needs}
 use denote.Ref.{now}
 use Rattle.records.specs.declared.table.Table.{Table}
 use Rattle.lists.specs.Check.{checkBytes}
-use Rattle.desk.proofs.Room.{ran-room}
+use Rattle.promises.proofs.Room.{ran-room}
 use Rattle.runs.proofs.run.lines.Statement.{statement}
 use Rattle.runs.proofs.run.lines.Tie as tie
 

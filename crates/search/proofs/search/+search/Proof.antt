@@ -12,7 +12,7 @@ use Rattle.shortest.proofs.Searching.{Choosing, turn-start, turn-skip, turn-sha
 use Rattle.search.proofs.search.search.Reads as search′
 use Rattle.search.proofs.search.search.Kinds as search-kinds
 use Rattle.search.proofs.search.+search.Lts-search as search-lts
-use Rattle.shortest.proofs.hope.hope.Reads as hope-reads
+use Rattle.lifts.proofs.hope.hope.Reads as hope-reads
 use Rattle.shortest.proofs.place.class_of.Reads as class-of-reads
 use Rattle.shortest.proofs.place.count.Reads as count-reads
 use Rattle.shortest.proofs.place.kind_at.Reads as kind-at-reads

@@ -1,2 +1,0 @@
--- Each case of each answer, with its figures.
-pub mod Cases

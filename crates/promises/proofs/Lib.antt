@@ -1,0 +1,5 @@
+pub mod Laws
+pub mod Told
+pub mod Unique
+pub mod Alike
+pub mod Room

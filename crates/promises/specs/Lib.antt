@@ -1,0 +1,12 @@
+pub mod Admit
+pub mod Judging
+pub mod Tracing
+pub mod Patterns
+pub mod Bounds
+pub mod Transactions
+pub mod Schedules
+pub mod Serving
+pub mod Running
+pub mod Numbers
+pub mod Only
+pub mod Alike

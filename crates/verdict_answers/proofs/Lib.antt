@@ -1,0 +1,2 @@
+-- Each answer's number and values.
+pub mod Cases
