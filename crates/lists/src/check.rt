@@ -7,7 +7,7 @@ use records::refusal::refuse;
 use records::table::Table;
 use records::tests::both_of;
 use records::transaction::Transaction;
-use transactions::transaction::fits_by;
+use ranges::fitting::fits_by;
 ghost use mathlib.Core.Path.{_≡_};
 ghost use Prim.Native.Nat.{_≤_};
 ghost use lib.ListN.{length};

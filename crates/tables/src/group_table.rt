@@ -1,5 +1,5 @@
 // The table of 40 bytes: its writer. Reading it is `table::read_table`, which takes either size.
-use crate::table::table_refusal;
+use ranges::range::table_refusal;
 use records::little::put_16;
 use records::refusal::Written;
 use records::refusal::refuse;

@@ -1,9 +1,0 @@
-use borrow.Author.Needs.{needs}
-use Rattle.tables.proofs.table.groups_in_range.Statement.{statement}
-use Rattle.tables.proofs.table.groups_in_range.Tie as tie
-
-returns : tie.Need-returns
-returns c = rw (c .both-of4 .ensures, c .before .both-of3 .ensures, c .before .before .before .both-of2 .ensures, c .before .before .before .before .both-of .ensures, c .before .before .before .before .before .is-within4 .ensures, c .before .before .before .before .before .before .is-within3 .ensures, c .before .before .before .before .before .before .before .is-within2 .ensures, c .before .before .before .before .before .before .before .before .is-within .ensures)
-
-pub groups-in-range-spec : {M : Type 1} → statement M
-groups-in-range-spec = tie.close (tie.spec (λ c κs. search needs) (λ c κs. search needs) (λ c κs. search needs) (λ c κs. search needs) (λ c κs. search needs) (λ c κs. search needs) (λ c κs. search needs) (λ c κs. search needs) returns)
