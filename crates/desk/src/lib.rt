@@ -3,7 +3,6 @@
 pub mod running;
 pub mod schedules;
 pub mod second;
-pub mod serving;
 
 pub use commands::command::read_command;
 pub use commands::command::write_command;
@@ -20,7 +19,7 @@ pub use lending::running::step;
 pub use lending::running::step_straight;
 pub use lending::schedules::schedule;
 pub use lending::schedules::schedule_straight;
-pub use lending::serving::serves;
+pub use judgements::serving::serves;
 pub use running::run_bytes;
 pub use running::run_later_bytes;
 pub use running::start;
@@ -30,8 +29,8 @@ pub use second::run_straight_bytes;
 pub use second::run_straight_later_bytes;
 pub use second::schedule_straight_bytes;
 pub use second::schedule_straight_later_bytes;
-pub use serving::serves_bytes;
-pub use serving::serves_later_bytes;
+pub use judgements::serving::serves_bytes;
+pub use judgements::serving::serves_later_bytes;
 pub use stamps::one_record::read_capture_record;
 pub use stamps::one_record::write_capture_record;
 pub use tables::group_table::write_group_table;

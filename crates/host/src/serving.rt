@@ -1,7 +1,7 @@
 // Does a schedule serve a list?
 use desk::serves;
-use desk::serving::serves_bytes;
-use desk::serving::serves_later_bytes;
+use judgements::serving::serves_bytes;
+use judgements::serving::serves_later_bytes;
 use records::transaction::Transaction;
 use verdict_answers::verdict::ServesAnswer;
 use verdict_answers::verdict::serves_of;

@@ -27,7 +27,6 @@ use Rattle.lists.proofs.Packing.{held-whole}
 use Rattle.lists.proofs.Storing.{stored-none, plan-room, plan-decodes}
 use Rattle.sound.specs.Refused.{runRefusal}
 use Rattle.builder.specs.declared.build.BuildAnswer.{BuildAnswer}
-use Rattle.serves.specs.declared.answer.ServesAnswer.{ServesAnswer}
 use Rattle.controller.specs.declared.controller.Controller.{Controller}
 use Rattle.controller.specs.declared.run.RunTold.{RunTold}
 use Rattle.controller.specs.Controller.{tells}
@@ -36,7 +35,6 @@ use Rattle.admission.specs.declared.admit.WayIn.{WayIn}
 use Rattle.admission.specs.Admit.{admitted, noWay, wayIn, LetIn}
 use Rattle.scheduler.specs.Schedules.{BuildsChecked, Schedules}
 use Rattle.runner.specs.Running.{runsChecked, running, Runs, hasRun}
-use Rattle.service.specs.Serving.{ServesChecked, Serving}
 use Rattle.admission.proofs.Laws.{read-accepted}
 
 -- ---- the way in
@@ -67,10 +65,10 @@ let-in expected table n w e =
 -- ---- gathered, a list is scheduled and run as it would be itself
 
 module _ (l : List Transaction) where
-  over : (τ : Table) → leb (length l) 256 ≡ false → NotFine (refusal 3 0 (τ .edition)) ≡ checkList τ l
+  pub over : (τ : Table) → leb (length l) 256 ≡ false → NotFine (refusal 3 0 (τ .edition)) ≡ checkList τ l
   over τ t = over-list τ l (leb-false (length l) 256 t)
 
-  abbrev by : Bool → Table → WayIn
+  abbrev pub by : Bool → Table → WayIn
   by b τ = pick b (record { n = length l; table = Read τ }) (noWay (refusal 3 0 (τ .edition)))
 
   -- ---- a schedule
@@ -90,24 +88,6 @@ module _ (l : List Transaction) where
 
     pub schedules-lent : (a : TableRead) (w : WayIn) → w ≡ wayIn (length l) a → (s : List ℕ) → s ≡ packed (w .n) l → Built w s → Schedules (λ τ. checkList τ l) a l b₀ b f₀ f r
     schedules-lent a w e s k h = schedules a (subst (λ (z : WayIn). Built z (packed (z .n) l)) e (subst (λ (z : List ℕ). Built w z) k h))
-
-  -- ---- does a schedule serve it
-
-  module _ (s : List ℕ) (r : ServesAnswer) where
-    abbrev Told : WayIn → List ℕ → Type 0
-    Told w p = Serving (λ τ. checkList τ (held (w .n) p)) (w .table) (held (w .n) p) s r
-
-    served : (a : TableRead) → Told (wayIn (length l) a) (packed (wayIn (length l) a .n) l) → Serving (λ τ. checkList τ l) a l s r
-    unfolding Serving ServesChecked
-    served (Read τ) = on (leb (length l) 256) refl
-      where
-        on : (y : Bool) → leb (length l) 256 ≡ y → Told (by y τ) (packed (by y τ .n) l) → ServesChecked (checkList τ l) τ l s r
-        on true t h = subst (λ (m : List Transaction). ServesChecked (checkList τ m) τ m s r) (held-whole l) h
-        on false t h = subst (λ (d : Checked). ServesChecked d τ l s r) (over τ t) h
-    served (Refused x) = λ h. h
-
-    pub serves-lent : (a : TableRead) (w : WayIn) → w ≡ wayIn (length l) a → (p : List ℕ) → p ≡ packed (w .n) l → Told w p → Serving (λ τ. checkList τ l) a l s r
-    serves-lent a w e p k h = served a (subst (λ (z : WayIn). Told z (packed (z .n) l)) e (subst (λ (z : List ℕ). Told w z) k h))
 
   -- ---- a run
 

@@ -2,4 +2,3 @@
 // hand on. The desk exports them.
 pub mod running;
 pub mod schedules;
-pub mod serving;

@@ -48,10 +48,10 @@ use Rattle.records.proofs.transaction.Transaction as T
 use Rattle.records.proofs.transaction.Transaction.Laws as T′
 use Rattle.serves.proofs.answer.ServesAnswer as R
 use Rattle.serves.proofs.answer.ServesAnswer.Laws as R′
-use Rattle.lending.proofs.serving.serves as h
-use Rattle.lending.proofs.serving.serves.Symbol as h-def
-use Rattle.lending.proofs.serving.serves.Symbol.{name as #serves}
-use Rattle.lending.proofs.serving.serves.Met as h-thm
+use Rattle.judgements.proofs.serving.serves as h
+use Rattle.judgements.proofs.serving.serves.Symbol as h-def
+use Rattle.judgements.proofs.serving.serves.Symbol.{name as #serves}
+use Rattle.judgements.proofs.serving.serves.Met as h-thm
 use Rattle.calls.proofs.lent.lent_serves.Key.{name as #lent-serves}
 use Rattle.calls.proofs.lent.lent_serves as f
 use Rattle.calls.proofs.lent.lent_serves.Statement as stated
@@ -184,4 +184,4 @@ lent-serves-spec 𝓤 H 𝓜 𝓖 𝓡 =
     entered 𝓤 H (tripleOf 𝓤 H (𝓖 .A) f.signature (f.spec 𝓤 H (𝓖 .A) (𝓜 .mem) (𝓡 .run)))
     (tables 𝓤 H 𝓜 𝓡 code.env .C) (tables 𝓤 H 𝓜 𝓡 code.env .Λ) #lent-serves code.function (code.unfolded 𝓤 H 𝓜 𝓡)
     (meets 𝓤 H (𝓖 .A) (givenOf 𝓤 H 𝓜 𝓖) (𝓜 .mem) (𝓡 .run) (tablesOf 𝓤 H 𝓜 (tables 𝓤 H 𝓜 𝓡 code.env))
-    (cited 𝓤 H (Work 𝓤 H (𝓖 .A) (𝓜 .mem) (𝓡 .run)) 𝓜 𝓡 code.env #serves h-def.routine code.calls-lending·serving·serves (h-thm.met 𝓤 H 𝓜 𝓖 𝓡)))
+    (cited 𝓤 H (Work 𝓤 H (𝓖 .A) (𝓜 .mem) (𝓡 .run)) 𝓜 𝓡 code.env #serves h-def.routine code.calls-judgements·serving·serves (h-thm.met 𝓤 H 𝓜 𝓖 𝓡)))

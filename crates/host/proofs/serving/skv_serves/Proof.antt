@@ -48,10 +48,10 @@ use Rattle.serves.proofs.answer.ServesAnswer as R
 use Rattle.serves.proofs.answer.ServesAnswer.Laws as R′
 use Rattle.verdict_answers.proofs.verdict.ServesAnswer as N
 use Rattle.verdict_answers.proofs.verdict.ServesAnswer.Laws as N′
-use Rattle.lending.proofs.serving.serves as g
-use Rattle.lending.proofs.serving.serves.Symbol as g-def
-use Rattle.lending.proofs.serving.serves.Symbol.{name as #serves}
-use Rattle.lending.proofs.serving.serves.Met as g-thm
+use Rattle.judgements.proofs.serving.serves as g
+use Rattle.judgements.proofs.serving.serves.Symbol as g-def
+use Rattle.judgements.proofs.serving.serves.Symbol.{name as #serves}
+use Rattle.judgements.proofs.serving.serves.Met as g-thm
 use Rattle.verdict_answers.proofs.verdict.serves_of as h
 use Rattle.verdict_answers.proofs.verdict.serves_of.Symbol as h-def
 use Rattle.verdict_answers.proofs.verdict.serves_of.Symbol.{name as #serves-of}
@@ -185,5 +185,5 @@ skv-serves-spec 𝓤 H 𝓜 𝓖 𝓡 =
     entered 𝓤 H (tripleOf 𝓤 H (𝓖 .A) f.signature (f.spec 𝓤 H (𝓖 .A) (𝓜 .mem) (𝓡 .run)))
     (tables 𝓤 H 𝓜 𝓡 code.env .C) (tables 𝓤 H 𝓜 𝓡 code.env .Λ) #skv-serves code.function (code.unfolded 𝓤 H 𝓜 𝓡)
     (meets 𝓤 H (𝓖 .A) (givenOf 𝓤 H 𝓜 𝓖) (𝓜 .mem) (𝓡 .run) (tablesOf 𝓤 H 𝓜 (tables 𝓤 H 𝓜 𝓡 code.env))
-    (cited 𝓤 H (Work 𝓤 H (𝓖 .A) (𝓜 .mem) (𝓡 .run)) 𝓜 𝓡 code.env #serves g-def.routine code.calls-lending·serving·serves (g-thm.met 𝓤 H 𝓜 𝓖 𝓡))
+    (cited 𝓤 H (Work 𝓤 H (𝓖 .A) (𝓜 .mem) (𝓡 .run)) 𝓜 𝓡 code.env #serves g-def.routine code.calls-judgements·serving·serves (g-thm.met 𝓤 H 𝓜 𝓖 𝓡))
     (cited 𝓤 H (Numbers 𝓤 H (𝓖 .A) (𝓜 .mem) (𝓡 .run)) 𝓜 𝓡 code.env #serves-of h-def.routine code.calls-verdict_answers·verdict·serves-of (h-thm.met 𝓤 H 𝓜 𝓖 𝓡)))

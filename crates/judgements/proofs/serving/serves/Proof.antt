@@ -1,4 +1,4 @@
--- `lending::serving::serves` meets its contract: a walk of its MIR, by hand. `admit_lent` is told the list's length alone; `gather` makes bytes of as many records as it lets in; `serves_held` does the work, and its answer is the result.
+-- `judgements::serving::serves` meets its contract: a walk of its MIR, by hand. `admit_lent` is told the list's length alone; `gather` makes bytes of as many records as it lets in; `serves_held` does the work, and its answer is the result.
 -- Assumes nothing.
 use mathlib.Core.Path.{_≡_, refl, ap}
 use Prim.Native.Nat.{ℕ, _<_, _^_}
@@ -46,8 +46,9 @@ use Rattle.serves.specs.declared.answer.ServesAnswer.{ServesAnswer}
 use Rattle.admission.specs.declared.admit.WayIn.{WayIn}
 use Rattle.admission.specs.Admit.{admitted, LetIn}
 use Rattle.service.specs.Serving.{Serving}
 use Rattle.lending.proofs.Gathering.{Way, Gather, val, Let, Packs, to-admit, goes-admit, said-admit, to-gather, goes-gather, said-gather}
-use Rattle.lending.proofs.Lent.{way-room, let-in, serves-lent}
+use Rattle.lending.proofs.Lent.{way-room, let-in}
+use Rattle.judgements.proofs.LentServes.{serves-lent}
 use Rattle.records.proofs.transaction.Transaction as T
 use Rattle.serves.proofs.answer.ServesAnswer as R
 use Rattle.serves.proofs.answer.ServesAnswer.Laws as R′
@@ -65,10 +66,10 @@ use Rattle.service.proofs.serving.serves_held as h
 use Rattle.service.proofs.serving.serves_held.Symbol as h-def
 use Rattle.service.proofs.serving.serves_held.Symbol.{name as #serves-held}
 use Rattle.service.proofs.serving.serves_held.Met as h-thm
-use Rattle.lending.proofs.serving.serves.Key.{name as #serves}
-use Rattle.lending.proofs.serving.serves as f
-use Rattle.lending.proofs.serving.serves.Statement as stated
-use Rattle.lending.proofs.serving.serves.Code as code
+use Rattle.judgements.proofs.serving.serves.Key.{name as #serves}
+use Rattle.judgements.proofs.serving.serves as f
+use Rattle.judgements.proofs.serving.serves.Statement as stated
+use Rattle.judgements.proofs.serving.serves.Code as code
 
 abbrev stayed : Stays (f.ended .signature .params) (f.ended .kept)
 stayed = (stay-none (λ _. u16) yes, (stay-none-slice (0 ∷ []) tt (plain (λ _. u8)) yes, (stay-none-slice (1 ∷ []) tt (plain (λ _. T.the-row)) yes, (stay-none-slice (2 ∷ []) tt (plain (λ _. u8)) yes, tt))))
