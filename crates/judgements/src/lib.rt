@@ -3,5 +3,5 @@
 pub mod bounding;
 pub mod judging;
 pub mod patterns;
-pub mod tracing;
 pub mod serving;
+pub mod tracing;

@@ -2,12 +2,12 @@
 use crate::record::count_of;
 use crate::record::is_whole;
 use crate::record::kth;
+use ranges::fitting::fits_by;
 use records::refusal::Refusal;
 use records::refusal::refuse;
 use records::table::Table;
 use records::tests::both_of;
 use records::transaction::Transaction;
-use ranges::fitting::fits_by;
 ghost use mathlib.Core.Path.{_≡_};
 ghost use Prim.Native.Nat.{_≤_};
 ghost use lib.ListN.{length};

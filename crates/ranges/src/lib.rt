@@ -1,3 +1,3 @@
 // The tests of a table's numbers and of a transaction's, with the refusal's number. They read no byte.
-pub mod range;
 pub mod fitting;
+pub mod range;

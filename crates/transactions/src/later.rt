@@ -1,7 +1,7 @@
 // The transaction of 8 bytes, which "adds a 32-bit arrival" (document 02, request 9).
 use crate::transaction::put_transaction;
-use ranges::fitting::refusal_by;
 use crate::transaction::transaction_at;
+use ranges::fitting::refusal_by;
 use records::little::num_32_at;
 use records::little::put_32;
 use records::refusal::Written;

@@ -1,2 +1,2 @@
 -- The laws of lending a local.
-mod Lend
+pub mod Lend
