@@ -1,6 +1,6 @@
 // Does a schedule serve a list?
 use admission::admit::admit_lent;
-use lists::packed::gather;
+use packing::packed::gather;
 use records::transaction::Transaction;
 use serves::answer::ServesAnswer;
 use service::serving::serves_held;

@@ -31,7 +31,7 @@ use Rattle.admission.specs.declared.admit.WayIn.{WayIn}
 use Rattle.admission.specs.Admit.{admitted, wayIn}
 use Rattle.records.proofs.transaction.Transaction as T
 use Rattle.admission.proofs.admit.admit_lent as e
-use Rattle.lists.proofs.packed.gather as g
+use Rattle.packing.proofs.packed.gather as g
 
 -- the contracts
 module _ {M : Type 1} (𝓤 : URA M) (H : Heap 𝓤) (A : Atoms 𝓤) (mem : Memory → SProp 𝓤) (run : Routine → Fun 𝓤) where

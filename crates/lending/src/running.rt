@@ -2,7 +2,7 @@
 use admission::admit::admit_lent;
 use controller::controller::Controller;
 use controller::run::RunAnswer;
-use lists::packed::gather;
+use packing::packed::gather;
 use records::transaction::Transaction;
 use runner::running::has_run;
 use runner::running::run_held;

@@ -1,7 +1,7 @@
 // The schedule of a lent run of records, with a finishing cycle for each transaction, by either engine.
 use admission::admit::admit_lent;
 use builder::build::BuildAnswer;
-use lists::packed::gather;
+use packing::packed::gather;
 use records::transaction::Transaction;
 use scheduler::schedules::schedule_held;
 ghost use Rattle.lists.specs.Check.{checkList};

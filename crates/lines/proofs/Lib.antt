@@ -1,3 +1,2 @@
 -- What is shown of the listing's lines.
 pub mod Long
-pub mod Turns

@@ -2,8 +2,8 @@
 // most 25, 256 finishes of at most 39, and a first line.
 use builder::build::BuildAnswer;
 use desk::schedule_straight_bytes;
-use lines::answer::put_refusal;
-use lines::answer::put_schedule;
+use printed::answer::put_refusal;
+use printed::answer::put_schedule;
 use records::little::num_at;
 use records::refusal::refuse;
 ghost use Prim.Native.Nat.{_≤_};

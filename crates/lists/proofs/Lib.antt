@@ -3,5 +3,4 @@ pub mod Checks
 pub mod Packing
 pub mod Storing
 pub mod While
-pub mod LocalArray
 pub mod Promises

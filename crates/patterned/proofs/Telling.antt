@@ -23,7 +23,7 @@ use Rattle.text.proofs.Digits.{at-most, then-long}
 use Rattle.text.proofs.Putting.{puts-then}
 use Rattle.lines.specs.Words.{newline}
 use Rattle.lines.specs.Lines.{refusedLine, commandLines}
-use Rattle.lines.proofs.Turns.{commands-count}
+use Rattle.printed.proofs.Turns.{commands-count}
 use Rattle.patterned.specs.Pattern.{lengthLine, patternText, answerText, Told, PatternOf}
 
 -- ---- the first line, and the records behind it

@@ -4,7 +4,7 @@ pub mod line;
 
 use desk::shortest_pattern;
 use line::put_pattern;
-use lines::answer::put_refusal;
+use printed::answer::put_refusal;
 use records::little::num_at;
 use records::refusal::refuse;
 use shortest::answer::ShortestAnswer;

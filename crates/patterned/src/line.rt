@@ -1,5 +1,5 @@
 // The text of a pattern.
-use lines::many::put_command_lines;
+use printed::many::put_command_lines;
 use text::put_number;
 use text::put_number_then;
 use text::put_word;

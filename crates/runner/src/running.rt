@@ -7,7 +7,7 @@ use controller::run::RunTold;
 use controller::run::run_controller;
 use lists::check::Checked;
 use lists::check::check_bytes;
-use lists::packed::widen;
+use packing::packed::widen;
 use records::table::Table;
 use records::table::TableRead;
 use straight::run::run_straight;

@@ -5,7 +5,7 @@ use builder::build::BuildAnswer;
 use builder::build::build_schedule;
 use lists::check::Checked;
 use lists::check::check_bytes;
-use lists::packed::widen;
+use packing::packed::widen;
 use records::table::Table;
 use records::table::TableRead;
 use straight::build::build_straight;

@@ -3,7 +3,7 @@ use admission::admit::WayIn;
 use admission::admit::admit;
 use lists::check::Checked;
 use lists::check::check_bytes;
-use lists::packed::widen;
+use packing::packed::widen;
 use pass::schedule::serves_schedule;
 use records::table::Table;
 use records::table::TableRead;

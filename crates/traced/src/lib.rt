@@ -4,7 +4,7 @@ pub mod verdict;
 
 use capture::answer::CaptureJudged;
 use desk::judge_capture;
-use lines::answer::put_refusal;
+use printed::answer::put_refusal;
 use records::little::num_at;
 use records::refusal::refuse;
 use verdict::put_trace;

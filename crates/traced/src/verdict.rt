@@ -1,7 +1,7 @@
 // The text of a capture that was judged.
-use lines::answer::put_commands;
 use lines::line::put_accepted_line;
 use lines::line::put_broken_line;
+use printed::answer::put_commands;
 use promises::numbers::rule_number;
 use rules::verdict::Verdict;
 ghost use Prim.Native.Nat.{_+_, _*_, _≤_};

@@ -58,10 +58,10 @@ use Rattle.admission.proofs.admit.admit_lent as e
 use Rattle.admission.proofs.admit.admit_lent.Symbol as e-def
 use Rattle.admission.proofs.admit.admit_lent.Symbol.{name as #admit-lent}
 use Rattle.admission.proofs.admit.admit_lent.Met as e-thm
-use Rattle.lists.proofs.packed.gather as g
-use Rattle.lists.proofs.packed.gather.Symbol as g-def
-use Rattle.lists.proofs.packed.gather.Symbol.{name as #gather}
-use Rattle.lists.proofs.packed.gather.Met as g-thm
+use Rattle.packing.proofs.packed.gather as g
+use Rattle.packing.proofs.packed.gather.Symbol as g-def
+use Rattle.packing.proofs.packed.gather.Symbol.{name as #gather}
+use Rattle.packing.proofs.packed.gather.Met as g-thm
 use Rattle.service.proofs.serving.serves_held as h
 use Rattle.service.proofs.serving.serves_held.Symbol as h-def
 use Rattle.service.proofs.serving.serves_held.Symbol.{name as #serves-held}
@@ -206,6 +206,6 @@ serves-spec 𝓤 H 𝓜 𝓖 𝓡 =
     (tables 𝓤 H 𝓜 𝓡 code.env .C) (tables 𝓤 H 𝓜 𝓡 code.env .Λ) #serves code.function (code.unfolded 𝓤 H 𝓜 𝓡)
     (meets 𝓤 H (𝓖 .A) (givenOf 𝓤 H 𝓜 𝓖) (𝓜 .mem) (𝓡 .run) (tablesOf 𝓤 H 𝓜 (tables 𝓤 H 𝓜 𝓡 code.env)) (
       cited 𝓤 H (Way 𝓤 H (𝓖 .A) (𝓜 .mem) (𝓡 .run)) 𝓜 𝓡 code.env #admit-lent e-def.routine code.calls-admission·admit·admit-lent (e-thm.met 𝓤 H 𝓜 𝓖 𝓡),
-      cited 𝓤 H (Gather 𝓤 H (𝓖 .A) (𝓜 .mem) (𝓡 .run)) 𝓜 𝓡 code.env #gather g-def.routine code.calls-lists·packed·gather (g-thm.met 𝓤 H 𝓜 𝓖 𝓡),
+      cited 𝓤 H (Gather 𝓤 H (𝓖 .A) (𝓜 .mem) (𝓡 .run)) 𝓜 𝓡 code.env #gather g-def.routine code.calls-packing·packed·gather (g-thm.met 𝓤 H 𝓜 𝓖 𝓡),
       cited 𝓤 H (Held 𝓤 H (𝓖 .A) (𝓜 .mem) (𝓡 .run)) 𝓜 𝓡 code.env #serves-held h-def.routine code.calls-service·serving·serves-held (h-thm.met 𝓤 H 𝓜 𝓖 𝓡),
     ))

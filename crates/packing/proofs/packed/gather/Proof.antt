@@ -1,4 +1,4 @@
--- `lists::packed::gather` meets its contract: a walk of its MIR, by hand, with a loop (`While.antt`). The local array lies in memory as its bytes (`LocalArray.antt`). A turn opens the slice and copies the k-th struct out, lends the bytes for the one call of `put`, which is passed
+-- `packing::packed::gather` meets its contract: a walk of its MIR, by hand, with a loop (`While.antt`). The local array lies in memory as its bytes (`LocalArray.antt`). A turn opens the slice and copies the k-th struct out, lends the bytes for the one call of `put`, which is passed
 -- the struct's five numbers, and takes them back as `put` left them. The slice's reference is Copy, and a copy is opened.
 -- The invariant at k: k is at most n, and the bytes are the first k, packed. The measure is what is left.
 -- Assumes nothing.
@@ -52,18 +52,18 @@ use Rattle.records.specs.Told.{putAt}
 use Rattle.records.specs.Transaction.{laterBytes}
 use Rattle.records.proofs.transaction.Transaction as T
 use Rattle.records.proofs.transaction.Transaction.Laws as T′
 use Rattle.lists.specs.Packed.{packed, noTransaction}
 use Rattle.lists.proofs.Packing.{packed-none, packed-more, length-packed}
-use Rattle.lists.proofs.LocalArray.{arrayOf, zeros-own, cells-of, array-of, big-lit}
+use Rattle.packing.proofs.LocalArray.{arrayOf, zeros-own, cells-of, array-of, big-lit}
 use Rattle.lists.proofs.While.{tests, whiles}
-use Rattle.lists.proofs.packed.put as g
-use Rattle.lists.proofs.packed.put.Symbol as g-def
-use Rattle.lists.proofs.packed.put.Symbol.{name as #put}
-use Rattle.lists.proofs.packed.put.Met as g-thm
-use Rattle.lists.proofs.packed.gather.Key.{name as #gather}
-use Rattle.lists.proofs.packed.gather as f
-use Rattle.lists.proofs.packed.gather.Statement as stated
-use Rattle.lists.proofs.packed.gather.Code as code
+use Rattle.packing.proofs.packed.put as g
+use Rattle.packing.proofs.packed.put.Symbol as g-def
+use Rattle.packing.proofs.packed.put.Symbol.{name as #put}
+use Rattle.packing.proofs.packed.put.Met as g-thm
+use Rattle.packing.proofs.packed.gather.Key.{name as #gather}
+use Rattle.packing.proofs.packed.gather as f
+use Rattle.packing.proofs.packed.gather.Statement as stated
+use Rattle.packing.proofs.packed.gather.Code as code
 
 abbrev stayed : Stays (f.ended .signature .params) (f.ended .kept)
 stayed = (stay-none-slice (0 ∷ []) tt (plain (λ _. T.the-row)) yes, (stay-none (λ _. usize) yes, tt))
@@ -233,4 +233,4 @@ gather-spec 𝓤 H 𝓜 𝓖 𝓡 =
     entered 𝓤 H (tripleOf 𝓤 H (𝓖 .A) f.signature (f.spec 𝓤 H (𝓖 .A) (𝓜 .mem) (𝓡 .run)))
     (tables 𝓤 H 𝓜 𝓡 code.env .C) (tables 𝓤 H 𝓜 𝓡 code.env .Λ) #gather code.function (code.unfolded 𝓤 H 𝓜 𝓡)
     (meets 𝓤 H (𝓖 .A) (givenOf 𝓤 H 𝓜 𝓖) (𝓜 .mem) (𝓡 .run) (tablesOf 𝓤 H 𝓜 (tables 𝓤 H 𝓜 𝓡 code.env))
-    (cited 𝓤 H (Put 𝓤 H (𝓖 .A) (𝓜 .mem) (𝓡 .run)) 𝓜 𝓡 code.env #put g-def.routine code.calls-lists·packed·put (g-thm.met 𝓤 H 𝓜 𝓖 𝓡)))
+    (cited 𝓤 H (Put 𝓤 H (𝓖 .A) (𝓜 .mem) (𝓡 .run)) 𝓜 𝓡 code.env #put g-def.routine code.calls-packing·packed·put (g-thm.met 𝓤 H 𝓜 𝓖 𝓡)))

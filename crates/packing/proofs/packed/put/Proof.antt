@@ -3,9 +3,9 @@ use native.Mathlib.Omega.{arith}
 use mathlib.Core.Path.{_∙_}
 use denote.Ref.{now}
 use lib.ListN.{length-set}
 use Rattle.lists.proofs.Packing.{put-eight, length-eight}
-use Rattle.lists.proofs.packed.put.Statement.{statement}
-use Rattle.lists.proofs.packed.put.Tie as tie
+use Rattle.packing.proofs.packed.put.Statement.{statement}
+use Rattle.packing.proofs.packed.put.Tie as tie
 
 put-32-requires : tie.Need-put-32-requires
 put-32-requires c κs = simp length-set (omega arith)

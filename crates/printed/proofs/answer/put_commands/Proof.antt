@@ -1,9 +1,9 @@
 use borrow.Author.Needs.{needs}
 use native.Mathlib.Omega.{arith}
 use Rattle.lines.proofs.Long.{first-most}
-use Rattle.lines.proofs.Turns.{commands-put}
-use Rattle.lines.proofs.answer.put_commands.Statement.{statement}
-use Rattle.lines.proofs.answer.put_commands.Tie as tie
+use Rattle.printed.proofs.Turns.{commands-put}
+use Rattle.printed.proofs.answer.put_commands.Statement.{statement}
+use Rattle.printed.proofs.answer.put_commands.Tie as tie
 
 pub put-commands-spec : {M : Type 1} → statement M
 put-commands-spec =

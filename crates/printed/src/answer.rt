@@ -1,14 +1,14 @@
 // The whole text of an answer, from the buffer's start: a schedule's, or a refusal's; and how every other text begins.
-use crate::line::put_first_line;
-use crate::line::put_refused_line;
 use crate::many::put_command_lines;
 use crate::many::put_finish_lines;
+use lines::line::put_first_line;
+use lines::line::put_refused_line;
 use records::refusal::Refusal;
 ghost use Prim.Native.Nat.{_+_, _*_, _≤_};
 ghost use lib.ListN.{length, take};
 ghost use Rattle.records.specs.Command.{commandsFrom};
 ghost use Rattle.text.specs.Puts.{Puts};
 ghost use Rattle.lines.specs.Lines.{commandsText, scheduleText, refusedLine};
 
 pub fn put_commands(out: &mut [u8], edition: u16, commands: &[u8], written: usize) -> usize
     requires { ⌜ (8 * written ≤ length (now commands)) × (44 + 25 * written ≤ length (now out)) ⌝ }

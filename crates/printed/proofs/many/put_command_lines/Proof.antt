@@ -7,11 +7,11 @@ use Rattle.records.specs.declared.command.Command.{Command}
 use Rattle.records.specs.Command.{commandsFrom}
 use Rattle.text.specs.Puts.{Puts}
 use Rattle.text.proofs.Putting.{puts-nothing}
 use Rattle.lines.specs.Lines.{commandLine, commandLines}
 use Rattle.lines.proofs.Long.{command-most}
-use Rattle.lines.proofs.Turns.{command-turn, command-end}
-use Rattle.lines.proofs.many.put_command_lines.Statement.{statement}
-use Rattle.lines.proofs.many.put_command_lines.Tie as tie
+use Rattle.printed.proofs.Turns.{command-turn, command-end}
+use Rattle.printed.proofs.many.put_command_lines.Statement.{statement}
+use Rattle.printed.proofs.many.put_command_lines.Tie as tie
 
 abbrev Inv-loop : tie.InvT-loop
 Inv-loop out₀ at s n next₀ i₀ out next i = (i ≤ n) × (next ≤ at + 25 * i) × Puts (commandLines (commandsFrom s i 0)) at next out₀ out

@@ -4,11 +4,11 @@ use denote.Ref.{now}
 use lib.ListN.{getD, take}
 use Rattle.text.specs.Puts.{Puts}
 use Rattle.text.proofs.Putting.{puts-nothing}
 use Rattle.lines.specs.Lines.{finishLines}
 use Rattle.lines.proofs.Long.{finish-most}
-use Rattle.lines.proofs.Turns.{finish-turn, finish-end}
-use Rattle.lines.proofs.many.put_finish_lines.Statement.{statement}
-use Rattle.lines.proofs.many.put_finish_lines.Tie as tie
+use Rattle.printed.proofs.Turns.{finish-turn, finish-end}
+use Rattle.printed.proofs.many.put_finish_lines.Statement.{statement}
+use Rattle.printed.proofs.many.put_finish_lines.Tie as tie
 
 abbrev Inv-loop : tie.InvT-loop
 Inv-loop out₀ at s n next₀ i₀ out next i = (i ≤ n) × (next ≤ at + 39 * i) × Puts (finishLines 0 (take i s)) at next out₀ out

@@ -1,7 +1,7 @@
 use mathlib.Core.Path.{refl}
 use Rattle.lists.specs.Packed.{packed}
-use Rattle.lists.proofs.packed.none_packed.Statement.{statement}
-use Rattle.lists.proofs.packed.none_packed.Tie as tie
+use Rattle.packing.proofs.packed.none_packed.Statement.{statement}
+use Rattle.packing.proofs.packed.none_packed.Tie as tie
 
 returns : tie.Need-returns
 unfolding packed

@@ -1,8 +1,8 @@
 use borrow.Author.Needs.{needs}
 use native.Mathlib.Omega.{arith}
-use Rattle.lines.proofs.Turns.{schedule-put}
-use Rattle.lines.proofs.answer.put_schedule.Statement.{statement}
-use Rattle.lines.proofs.answer.put_schedule.Tie as tie
+use Rattle.printed.proofs.Turns.{schedule-put}
+use Rattle.printed.proofs.answer.put_schedule.Statement.{statement}
+use Rattle.printed.proofs.answer.put_schedule.Tie as tie
 
 pub put-schedule-spec : {M : Type 1} → statement M
 put-schedule-spec =

@@ -7,10 +7,10 @@ use lib.ListN.{length}
 use denote.Ref.{now}
 use Rattle.records.specs.Told.{putAt}
 use Rattle.records.specs.Transaction.{arriving, laterBytes, transactionsIn}
 use Rattle.lists.specs.Packed.{packed}
 use Rattle.lists.proofs.Packing.{packed-none, length-packed, widened-more}
-use Rattle.lists.proofs.packed.widen.Statement.{statement}
-use Rattle.lists.proofs.packed.widen.Tie as tie
+use Rattle.packing.proofs.packed.widen.Statement.{statement}
+use Rattle.packing.proofs.packed.widen.Tie as tie
 
 abbrev Inv-loop : tie.InvT-loop
 Inv-loop s n bytes₀ k₀ bytes k = (k ≤ n) × (bytes ≡ packed k (transactionsIn s))

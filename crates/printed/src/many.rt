@@ -1,12 +1,12 @@
 // A line for each command, and one for each finish.
-use crate::line::put_command_line;
-use crate::line::put_finish_line;
 use commands::command::command_at;
+use lines::line::put_command_line;
+use lines::line::put_finish_line;
 ghost use Prim.Native.Nat.{_+_, _*_, _≤_};
 ghost use lib.ListN.{length, take};
 ghost use Rattle.records.specs.Command.{commandsFrom};
 ghost use Rattle.text.specs.Puts.{Puts};
 ghost use Rattle.lines.specs.Lines.{commandLines, finishLines};
 
 // No command's line is longer than 25 bytes.
 pub fn put_command_lines(out: &mut [u8], at: usize, s: &[u8], n: usize) -> usize

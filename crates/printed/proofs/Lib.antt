@@ -1,0 +1,2 @@
+-- The turns of the loops that write line after line.
+pub mod Turns
