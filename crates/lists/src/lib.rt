@@ -1,4 +1,5 @@
-// Lists of transactions, as bytes and decoded: numbers 3 and 4, and the lent runs of records, gathered and stored; the table was admitted before.
+// Lists of transactions, as bytes and decoded: numbers 3 and 4, and what is read stored in lent places. To pack a decoded list is `packing`'s; the
+// table was admitted before.
 pub mod check;
 pub mod decode;
 pub mod record;

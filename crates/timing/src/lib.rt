@@ -1,3 +1,3 @@
-// The running state in plain numbers, the rules read off it, and the state after a command; judge and engines share it, and it knows neither queues
-// nor bytes.
+// The running state in plain numbers, the rules read off a bank of it, and a bank after a command; judge and engines share it. What the groups decide
+// is `grouped`'s; it knows neither queues nor bytes.
 pub mod kept;
