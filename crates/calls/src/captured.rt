@@ -1,10 +1,10 @@
 // Captures: the host's judge of them, and its reader and writer of one record.
+use crate::told::buffer;
+use crate::told::numbers;
 use answers::reader::CaptureRecordAnswer;
 use host::one_record::skv_read_capture_record;
 use host::one_record::skv_write_capture_record;
 use host::tracing::skv_judge_capture;
-use lent_calls::told::buffer;
-use lent_calls::told::numbers;
 use prints::long;
 use prints::number;
 use prints::text;

@@ -1,7 +1,7 @@
 // The shortest pattern, by the host's call.
+use crate::told::buffer;
 use answers::patterns::PatternAnswer;
 use host::patterns::skv_shortest_pattern;
-use lent_calls::told::buffer;
 use prints::long;
 use prints::text;
 

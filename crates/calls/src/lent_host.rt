@@ -1,4 +1,5 @@
 // The same of the host's forms.
+use crate::told::answered;
 use answers::answer::Answer;
 use answers::answer::RunAnswer;
 use controller::controller::Controller;
@@ -8,7 +9,6 @@ use host::running::skv_run;
 use host::running::skv_step;
 use host::schedules::skv_schedule;
 use host::serving::skv_serves;
-use lent_calls::told::answered;
 use records::transaction::Transaction;
 use verdict_answers::verdict::ServesAnswer;
 

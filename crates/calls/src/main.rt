@@ -3,11 +3,13 @@
 mod captured;
 mod each;
 mod found;
+mod lent;
 mod lent_host;
 mod lent_straight;
 mod one_record;
 mod serving;
 mod straight;
+mod told;
 mod whole;
 
 use each::capture;

@@ -1,4 +1,6 @@
 // The host's readers and writers of one record.
+use crate::told::buffer;
+use crate::told::numbers;
 use answers::reader::CommandAnswer;
 use answers::reader::TableAnswer;
 use answers::reader::TransactionAnswer;
@@ -13,8 +15,6 @@ use host::one_record::skv_write_group_table;
 use host::one_record::skv_write_later;
 use host::one_record::skv_write_table;
 use host::one_record::skv_write_transaction;
-use lent_calls::told::buffer;
-use lent_calls::told::numbers;
 use prints::long;
 use prints::number;
 use prints::text;

@@ -1,11 +1,11 @@
 // Does a schedule serve a list?
+use crate::lent::lent_schedule;
+use crate::lent::lent_serves;
 use crate::lent_host::host_serves;
+use crate::told::built;
+use crate::told::refused;
 use host::serving::skv_serves_bytes;
 use host::serving::skv_serves_later_bytes;
-use lent_calls::lent::lent_schedule;
-use lent_calls::lent::lent_serves;
-use lent_calls::told::built;
-use lent_calls::told::refused;
 use prints::long;
 use prints::number;
 use prints::text;

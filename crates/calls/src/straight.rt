@@ -2,15 +2,15 @@
 use crate::lent_straight::host_run_straight;
 use crate::lent_straight::host_schedule_straight;
 use crate::lent_straight::host_step_straight;
+use crate::told::buffer;
+use crate::told::longs;
+use crate::told::numbers;
 use crate::whole::host_ran;
 use controller::controller::Controller;
 use host::second::skv_run_straight_bytes;
 use host::second::skv_run_straight_later_bytes;
 use host::second::skv_schedule_straight_bytes;
 use host::second::skv_schedule_straight_later_bytes;
-use lent_calls::told::buffer;
-use lent_calls::told::longs;
-use lent_calls::told::numbers;
 use prints::text;
 use records::transaction::Transaction;
 

@@ -42,17 +42,17 @@ use denote.Triple.Spec.{Meets, tripleOf}
 use denote.Triple.Table.{entered, cited}
 use denote.Triple.Walked.{Stays, stay-none, stay-none-slice, walkOf, goes-none, goes-none-slice, Walks, walked, walk-meets}
 use denote.Exit.{yes}
-use Rattle.lent_calls.proofs.Lend.{In, lends-array, array-back, last-said, ends-unsaid}
+use Rattle.calls.proofs.Lend.{In, lends-array, array-back, last-said, ends-unsaid}
 use Rattle.records.specs.declared.transaction.Transaction.{Transaction}
 use Rattle.records.proofs.transaction.Transaction as T
 use Rattle.records.proofs.transaction.Transaction.Laws as T′
 use Rattle.answers.specs.declared.answer.Answer.{Answer}
 use Rattle.answers.proofs.answer.Answer as N
 use Rattle.answers.proofs.answer.Answer.Laws as N′
-use Rattle.lent_calls.proofs.told.answered as g
-use Rattle.lent_calls.proofs.told.answered.Symbol as g-def
-use Rattle.lent_calls.proofs.told.answered.Symbol.{name as #answered}
-use Rattle.lent_calls.proofs.told.answered.Met as g-thm
+use Rattle.calls.proofs.told.answered as g
+use Rattle.calls.proofs.told.answered.Symbol as g-def
+use Rattle.calls.proofs.told.answered.Symbol.{name as #answered}
+use Rattle.calls.proofs.told.answered.Met as g-thm
 use Rattle.host.proofs.reading.skv_read_transactions as h
 use Rattle.host.proofs.reading.skv_read_transactions.Symbol as h-def
 use Rattle.host.proofs.reading.skv_read_transactions.Symbol.{name as #skv-read-transactions}
@@ -210,5 +210,5 @@ host-read-spec 𝓤 H 𝓜 𝓖 𝓡 =
     entered 𝓤 H (tripleOf 𝓤 H (𝓖 .A) f.signature (f.spec 𝓤 H (𝓖 .A) (𝓜 .mem) (𝓡 .run)))
     (tables 𝓤 H 𝓜 𝓡 code.env .C) (tables 𝓤 H 𝓜 𝓡 code.env .Λ) #host-read code.function (code.unfolded 𝓤 H 𝓜 𝓡)
     (meets 𝓤 H (𝓖 .A) (givenOf 𝓤 H 𝓜 𝓖) (𝓜 .mem) (𝓡 .run) (tablesOf 𝓤 H 𝓜 (tables 𝓤 H 𝓜 𝓡 code.env))
-    (cited 𝓤 H (Tell 𝓤 H (𝓖 .A) (𝓜 .mem) (𝓡 .run)) 𝓜 𝓡 code.env #answered g-def.routine code.calls-lent-calls·told·answered (g-thm.met 𝓤 H 𝓜 𝓖 𝓡))
+    (cited 𝓤 H (Tell 𝓤 H (𝓖 .A) (𝓜 .mem) (𝓡 .run)) 𝓜 𝓡 code.env #answered g-def.routine code.calls-calls·told·answered (g-thm.met 𝓤 H 𝓜 𝓖 𝓡))
     (cited 𝓤 H (Work 𝓤 H (𝓖 .A) (𝓜 .mem) (𝓡 .run)) 𝓜 𝓡 code.env #skv-read-transactions h-def.routine code.calls-host·reading·skv-read-transactions (h-thm.met 𝓤 H 𝓜 𝓖 𝓡)))

@@ -40,7 +40,7 @@ use denote.Triple.Spec.{Meets, tripleOf}
 use denote.Triple.Table.{entered, cited}
 use denote.Triple.Walked.{Stays, stay-none, stay-none-slice, walkOf, goes-none, goes-none-slice, Walks, walked, walk-meets}
 use denote.Exit.{yes}
-use Rattle.lent_calls.proofs.Lend.{In, Part, lends-shared, shared-back, ends-unsaid}
+use Rattle.calls.proofs.Lend.{In, Part, lends-shared, shared-back, ends-unsaid}
 use Rattle.records.specs.declared.transaction.Transaction.{Transaction}
 use Rattle.verdict_answers.specs.declared.verdict.ServesAnswer.{ServesAnswer}
 use Rattle.records.proofs.transaction.Transaction as T

@@ -42,7 +42,7 @@ use denote.Triple.Spec.{Meets, tripleOf}
 use denote.Triple.Table.{entered, cited}
 use denote.Triple.Walked.{Stays, stay-none, stay-none-slice, gave-slice, walkOf, goes-none, goes-none-slice, goes-gave-slice, Walks, walked, walk-meets}
 use denote.Exit.{yes}
-use Rattle.lent_calls.proofs.Lend.{In, Part, lends-shared, shared-back, lends-local, local-back, last-said, ends-unsaid}
+use Rattle.calls.proofs.Lend.{In, Part, lends-shared, shared-back, lends-local, local-back, last-said, ends-unsaid}
 use Rattle.records.specs.declared.transaction.Transaction.{Transaction}
 use Rattle.controller.specs.declared.controller.Controller.{Controller}
 use Rattle.records.proofs.transaction.Transaction as T

@@ -1,4 +1,4 @@
--- `lent_calls::lent::lent_serves` meets its contract: a walk of its MIR, by hand. The list lies in a local, which is lent to `serves` and taken back.
+-- `calls::lent::lent_serves` meets its contract: a walk of its MIR, by hand. The list lies in a local, which is lent to `serves` and taken back.
 -- Assumes nothing.
 use mathlib.Core.Path.{_≡_, refl}
 use Prim.Native.Nat.{ℕ, _<_, _^_}
@@ -41,7 +41,7 @@ use denote.Triple.Spec.{Meets, tripleOf}
 use denote.Triple.Table.{entered, cited}
 use denote.Triple.Walked.{Stays, stay-none, stay-none-slice, walkOf, goes-none, goes-none-slice, Walks, walked, walk-meets}
 use denote.Exit.{yes}
-use Rattle.lent_calls.proofs.Lend.{In, Part, lends-shared, shared-back, ends-unsaid}
+use Rattle.calls.proofs.Lend.{In, Part, lends-shared, shared-back, ends-unsaid}
 use Rattle.records.specs.declared.transaction.Transaction.{Transaction}
 use Rattle.serves.specs.declared.answer.ServesAnswer.{ServesAnswer}
 use Rattle.records.proofs.transaction.Transaction as T
@@ -52,10 +52,10 @@ use Rattle.judgements.proofs.serving.serves as h
 use Rattle.judgements.proofs.serving.serves.Symbol as h-def
 use Rattle.judgements.proofs.serving.serves.Symbol.{name as #serves}
 use Rattle.judgements.proofs.serving.serves.Met as h-thm
-use Rattle.lent_calls.proofs.lent.lent_serves.Key.{name as #lent-serves}
-use Rattle.lent_calls.proofs.lent.lent_serves as f
-use Rattle.lent_calls.proofs.lent.lent_serves.Statement as stated
-use Rattle.lent_calls.proofs.lent.lent_serves.Code as code
+use Rattle.calls.proofs.lent.lent_serves.Key.{name as #lent-serves}
+use Rattle.calls.proofs.lent.lent_serves as f
+use Rattle.calls.proofs.lent.lent_serves.Statement as stated
+use Rattle.calls.proofs.lent.lent_serves.Code as code
 
 abbrev stayed : Stays (f.ended .signature .params) (f.ended .kept)
 stayed = (stay-none (λ _. u16) yes, (stay-none-slice (0 ∷ []) tt (plain (λ _. u8)) yes, (stay-none (λ _. Array T.the-row 3) yes, (stay-none-slice (1 ∷ []) tt (plain (λ _. u8)) yes, tt))))

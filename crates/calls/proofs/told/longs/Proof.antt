@@ -2,8 +2,8 @@ use borrow.Author.Needs.{needs}
 use native.Mathlib.Omega.{arith}
 use Prim.Native.Nat.{_≤_, _-_}
 use lib.ListN.{length}
-use Rattle.lent_calls.proofs.told.longs.Statement.{statement}
-use Rattle.lent_calls.proofs.told.longs.Tie as tie
+use Rattle.calls.proofs.told.longs.Statement.{statement}
+use Rattle.calls.proofs.told.longs.Tie as tie
 
 abbrev Inv-loop : tie.InvT-loop
 Inv-loop s i₀ i = i ≤ length s

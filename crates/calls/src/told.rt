@@ -18,7 +18,7 @@ use records::refusal::Refusal;
 use records::transaction::Transaction;
 use verdict_answers::verdict::VerdictAnswer;
 
-pub fn decoded(answer: Decoded, list: [Transaction; 3]) {
+pub(crate) fn decoded(answer: Decoded, list: [Transaction; 3]) {
     match answer {
         Decoded::Done(edition, n) => {
             number(edition);
@@ -29,7 +29,7 @@ pub fn decoded(answer: Decoded, list: [Transaction; 3]) {
     transactions(list);
 }
 
-pub fn answered(answer: Answer, list: [Transaction; 3]) {
+pub(crate) fn answered(answer: Answer, list: [Transaction; 3]) {
     numbers(answer);
     transactions(list);
 }
@@ -53,7 +53,7 @@ fn transaction(x: Transaction) {
     long(x.arrival);
 }
 
-pub fn built(answer: BuildAnswer) {
+pub(crate) fn built(answer: BuildAnswer) {
     match answer {
         BuildAnswer::Built(edition, commands) => {
             number(edition);
@@ -63,7 +63,7 @@ pub fn built(answer: BuildAnswer) {
     }
 }
 
-pub fn started(told: StartTold) {
+pub(crate) fn started(told: StartTold) {
     let answer = told.answer;
     let c = told.controller;
     match answer {
@@ -73,7 +73,7 @@ pub fn started(told: StartTold) {
     controller(c);
 }
 
-pub fn ran(told: RunTold) {
+pub(crate) fn ran(told: RunTold) {
     let answer = told.answer;
     let c = told.controller;
     match answer {
@@ -87,7 +87,7 @@ pub fn ran(told: RunTold) {
     controller(c);
 }
 
-pub fn numbers(a: Answer) {
+pub(crate) fn numbers(a: Answer) {
     long(a.refused);
     long(a.position);
     long(a.edition);
@@ -95,7 +95,7 @@ pub fn numbers(a: Answer) {
     long(a.cycles);
 }
 
-pub fn verdict(a: VerdictAnswer) {
+pub(crate) fn verdict(a: VerdictAnswer) {
     long(a.refused);
     long(a.position);
     long(a.edition);
@@ -105,14 +105,14 @@ pub fn verdict(a: VerdictAnswer) {
     text(b"\n");
 }
 
-pub fn refused(r: Refusal) {
+pub(crate) fn refused(r: Refusal) {
     text(b" refused");
     long(r.number as u32);
     long(r.position);
     number(r.edition);
 }
 
-pub fn controller(c: Controller) {
+pub(crate) fn controller(c: Controller) {
     let banks = c.banks;
     let groups = c.groups;
     text(b" ,");
@@ -164,13 +164,13 @@ fn one_group(group: HostGroup) {
 }
 
 // A buffer, and the line's end.
-pub fn buffer(room: &[u8]) {
+pub(crate) fn buffer(room: &[u8]) {
     text(b" ");
     hex(room);
     text(b"\n");
 }
 
-pub fn longs(s: &[u32]) {
+pub(crate) fn longs(s: &[u32]) {
     let mut i = 0;
     while i < s.len() {
         long(s[i]);

@@ -1,2 +1,2 @@
 -- The laws of lending a local.
-pub mod Lend
+mod Lend

@@ -1,4 +1,4 @@
--- `lent_calls::lent::lent_read_later` meets its contract: a walk of its MIR, by hand. The places lie in a local, which is lent to `read_later_transactions` and taken back with what was read.
+-- `calls::lent::lent_read` meets its contract: a walk of its MIR, by hand. The places lie in a local, which is lent to `read_transactions` and taken back with what was read.
 -- Assumes nothing.
 use mathlib.Core.Path.{refl, ap, subst}
 use Prim.Native.Nat.{ℕ, _<_, _^_}
@@ -43,25 +43,25 @@ use denote.Triple.Spec.{Meets, tripleOf}
 use denote.Triple.Table.{entered, cited}
 use denote.Triple.Walked.{Stays, stay-none, stay-none-slice, walkOf, goes-none, goes-none-slice, Walks, walked, walk-meets}
 use denote.Exit.{yes}
-use Rattle.lent_calls.proofs.Lend.{In, lends-array, array-back, last-said, ends-unsaid}
+use Rattle.calls.proofs.Lend.{In, lends-array, array-back, last-said, ends-unsaid}
 use Rattle.records.specs.declared.transaction.Transaction.{Transaction}
 use Rattle.records.proofs.transaction.Transaction as T
 use Rattle.records.proofs.transaction.Transaction.Laws as T′
 use Rattle.lists.specs.declared.decode.Decoded.{Decoded}
 use Rattle.lists.proofs.decode.Decoded as N
 use Rattle.lists.proofs.decode.Decoded.Laws as N′
-use Rattle.lent_calls.proofs.told.decoded as g
-use Rattle.lent_calls.proofs.told.decoded.Symbol as g-def
-use Rattle.lent_calls.proofs.told.decoded.Symbol.{name as #decoded}
-use Rattle.lent_calls.proofs.told.decoded.Met as g-thm
-use Rattle.decoding.proofs.reading.read_later_transactions as h
-use Rattle.decoding.proofs.reading.read_later_transactions.Symbol as h-def
-use Rattle.decoding.proofs.reading.read_later_transactions.Symbol.{name as #read-later-transactions}
-use Rattle.decoding.proofs.reading.read_later_transactions.Met as h-thm
-use Rattle.lent_calls.proofs.lent.lent_read_later.Key.{name as #lent-read-later}
-use Rattle.lent_calls.proofs.lent.lent_read_later as f
-use Rattle.lent_calls.proofs.lent.lent_read_later.Statement as stated
-use Rattle.lent_calls.proofs.lent.lent_read_later.Code as code
+use Rattle.calls.proofs.told.decoded as g
+use Rattle.calls.proofs.told.decoded.Symbol as g-def
+use Rattle.calls.proofs.told.decoded.Symbol.{name as #decoded}
+use Rattle.calls.proofs.told.decoded.Met as g-thm
+use Rattle.decoding.proofs.reading.read_transactions as h
+use Rattle.decoding.proofs.reading.read_transactions.Symbol as h-def
+use Rattle.decoding.proofs.reading.read_transactions.Symbol.{name as #read-transactions}
+use Rattle.decoding.proofs.reading.read_transactions.Met as h-thm
+use Rattle.calls.proofs.lent.lent_read.Key.{name as #lent-read}
+use Rattle.calls.proofs.lent.lent_read as f
+use Rattle.calls.proofs.lent.lent_read.Statement as stated
+use Rattle.calls.proofs.lent.lent_read.Code as code
 
 abbrev stayed : Stays (f.ended .signature .params) (f.ended .kept)
 stayed = (stay-none (λ _. u16) yes, (stay-none-slice (0 ∷ []) tt (plain (λ _. u8)) yes, (stay-none-slice (1 ∷ []) tt (plain (λ _. u8)) yes, (stay-none (λ _. Array T.the-row 3) yes, tt))))
@@ -136,7 +136,7 @@ module _ {M : Type 1} (𝓤 : URA M) (H : Heap 𝓤) (A : Atoms 𝓤) (W : Given
       qed W [] ∵ nothing ! $ owned ! (Array T.the-row 3) (Is (Array T.the-row 3)) (array-makes 𝓤 H A W T.the-row (LL.makes T.the-type T′.the-plain 𝓤 H A) 3) ys _ isy $ fjoin ! $
       owned ! N.the-row (Is N.the-row) (EL.makes N.the-type N′.the-plain 𝓤 H A) d _ isd $ fjoin ! $ nothing ! $ join ! $ frame ! $ done !
 
-  module _ (C : Calls 𝓤 H) (Λ : Loops 𝓤 H) (fm : FmC 𝓤 H (W .laws) C) (known-g : Triple 𝓤 (C #decoded) (Tell 𝓤 H A at-mem run)) (known-h : Triple 𝓤 (C #read-later-transactions) (Work 𝓤 H A at-mem run)) where
+  module _ (C : Calls 𝓤 H) (Λ : Loops 𝓤 H) (fm : FmC 𝓤 H (W .laws) C) (known-g : Triple 𝓤 (C #decoded) (Tell 𝓤 H A at-mem run)) (known-h : Triple 𝓤 (C #read-transactions) (Work 𝓤 H A at-mem run)) where
     walk : expected < 2 ^ 16 → Room u8 (length (now table)) → Room u8 (length (now bytes)) → Is (Array T.the-row 3) list (vals list)
         → ent 𝓤 (onEntry 𝓤 H A f.signature (κ₀, (κ₁, tt)) (q₀, (q₁, tt)) x at) (WpFn 𝓤 H C Λ code.function (vint w16 expected ∷ val table ∷ val bytes ∷ only (vals list) ∷ []) Post)
     walk ge gt gb is =
@@ -190,14 +190,14 @@ module _ {M : Type 1} (𝓤 : URA M) (H : Heap 𝓤) (A : Atoms 𝓤) (W : Given
         keep ! (4 ∷ 3 ∷ 7 ∷ 8 ∷ []) $ by ! (exits ge is))))))))))))))))))))))))
 
 module _ {M : Type 1} (𝓤 : URA M) (H : Heap 𝓤) (A : Atoms 𝓤) (W : Given 𝓤 H A) (at-mem : Memory → SProp 𝓤) (run : Routine → Fun 𝓤) where
-  walks : (C : Calls 𝓤 H) (Λ : Loops 𝓤 H) → FmC 𝓤 H (W .laws) C → Triple 𝓤 (C #decoded) (Tell 𝓤 H A at-mem run) → Triple 𝓤 (C #read-later-transactions) (Work 𝓤 H A at-mem run) → Walks 𝓤 H A f.ended stayed (WpFn 𝓤 H C Λ code.function) (f.clauses 𝓤 H A at-mem run)
+  walks : (C : Calls 𝓤 H) (Λ : Loops 𝓤 H) → FmC 𝓤 H (W .laws) C → Triple 𝓤 (C #decoded) (Tell 𝓤 H A at-mem run) → Triple 𝓤 (C #read-transactions) (Work 𝓤 H A at-mem run) → Walks 𝓤 H A f.ended stayed (WpFn 𝓤 H C Λ code.function) (f.clauses 𝓤 H A at-mem run)
   walks C Λ fm known-g known-h = walked 𝓤 H A f.ended stayed (f.clauses 𝓤 H A at-mem run) (WpFn 𝓤 H C Λ code.function)
       (λ κs. (uint-vals w16, (slice-vals, (slice-vals, (array-vals (LL.vals T.the-type T′.the-laws), tt)))))
       (λ κs. (uint-tells w16, (shr-slice-tells (named 0) (κs .0) u8, (shr-slice-tells (named 1) (κs .1 .0) u8, (array-tells T.the-row (LL.vals T.the-type T′.the-laws) (LL.tells T.the-type T′.the-laws) 3, tt)))))
       (λ κs qs bounds a _ are. via 𝓤 _ (fst∗ 𝓤 _ (emp 𝓤)) (walk 𝓤 H A W at-mem run (κs .0) (κs .1 .0) (qs .0) (qs .1 .0) (a .0) (a .1 .0) (a .1 .1 .0) (a .1 .1 .1 .0) C Λ fm known-g known-h
       (are .0 .1) (are .1 .0 .0 .1) (are .1 .1 .0 .0 .1) (are .1 .1 .1 .0)))
 
-meets : {M : Type 1} (𝓤 : URA M) (H : Heap 𝓤) (A : Atoms 𝓤) → Given 𝓤 H A → (at-mem : Memory → SProp 𝓤) (run : Routine → Fun 𝓤) (𝓣 : Tables 𝓤 H) → Triple 𝓤 (𝓣 .C #decoded) (Tell 𝓤 H A at-mem run) → Triple 𝓤 (𝓣 .C #read-later-transactions) (Work 𝓤 H A at-mem run)
+meets : {M : Type 1} (𝓤 : URA M) (H : Heap 𝓤) (A : Atoms 𝓤) → Given 𝓤 H A → (at-mem : Memory → SProp 𝓤) (run : Routine → Fun 𝓤) (𝓣 : Tables 𝓤 H) → Triple 𝓤 (𝓣 .C #decoded) (Tell 𝓤 H A at-mem run) → Triple 𝓤 (𝓣 .C #read-transactions) (Work 𝓤 H A at-mem run)
     → Meets 𝓤 H A f.signature (WpFn 𝓤 H (𝓣 .C) (𝓣 .Λ) code.function) (f.spec 𝓤 H A at-mem run)
 meets 𝓤 H A W at-mem run 𝓣 known-g known-h =
     walk-meets 𝓤 H A f.ended stayed W
@@ -205,11 +205,11 @@ meets 𝓤 H A W at-mem run 𝓣 known-g known-h =
     (f.clauses 𝓤 H A at-mem run) (WpFn 𝓤 H (𝓣 .C) (𝓣 .Λ) code.function)
     (WpFn-mono 𝓤 H (W .laws) 𝓣 code.function) (walks 𝓤 H A W at-mem run (𝓣 .C) (𝓣 .Λ) (fmOf 𝓤 H (W .laws) 𝓣) known-g known-h)
 
-pub lent-read-later-spec : {M : Type 1} → stated.statement M
+pub lent-read-spec : {M : Type 1} → stated.statement M
 unfolding code.routine tablesOf
-lent-read-later-spec 𝓤 H 𝓜 𝓖 𝓡 =
+lent-read-spec 𝓤 H 𝓜 𝓖 𝓡 =
     entered 𝓤 H (tripleOf 𝓤 H (𝓖 .A) f.signature (f.spec 𝓤 H (𝓖 .A) (𝓜 .mem) (𝓡 .run)))
-    (tables 𝓤 H 𝓜 𝓡 code.env .C) (tables 𝓤 H 𝓜 𝓡 code.env .Λ) #lent-read-later code.function (code.unfolded 𝓤 H 𝓜 𝓡)
+    (tables 𝓤 H 𝓜 𝓡 code.env .C) (tables 𝓤 H 𝓜 𝓡 code.env .Λ) #lent-read code.function (code.unfolded 𝓤 H 𝓜 𝓡)
     (meets 𝓤 H (𝓖 .A) (givenOf 𝓤 H 𝓜 𝓖) (𝓜 .mem) (𝓡 .run) (tablesOf 𝓤 H 𝓜 (tables 𝓤 H 𝓜 𝓡 code.env))
-    (cited 𝓤 H (Tell 𝓤 H (𝓖 .A) (𝓜 .mem) (𝓡 .run)) 𝓜 𝓡 code.env #decoded g-def.routine code.calls-lent-calls·told·decoded (g-thm.met 𝓤 H 𝓜 𝓖 𝓡))
-    (cited 𝓤 H (Work 𝓤 H (𝓖 .A) (𝓜 .mem) (𝓡 .run)) 𝓜 𝓡 code.env #read-later-transactions h-def.routine code.calls-decoding·reading·read-later-transactions (h-thm.met 𝓤 H 𝓜 𝓖 𝓡)))
+    (cited 𝓤 H (Tell 𝓤 H (𝓖 .A) (𝓜 .mem) (𝓡 .run)) 𝓜 𝓡 code.env #decoded g-def.routine code.calls-calls·told·decoded (g-thm.met 𝓤 H 𝓜 𝓖 𝓡))
+    (cited 𝓤 H (Work 𝓤 H (𝓖 .A) (𝓜 .mem) (𝓡 .run)) 𝓜 𝓡 code.env #read-transactions h-def.routine code.calls-decoding·reading·read-transactions (h-thm.met 𝓤 H 𝓜 𝓖 𝓡)))

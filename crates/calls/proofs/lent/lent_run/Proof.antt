@@ -1,4 +1,4 @@
--- `lent_calls::lent::lent_run` meets its contract: a walk of its MIR, by hand. The controller and the list lie in locals, which are lent to `run` and taken back.
+-- `calls::lent::lent_run` meets its contract: a walk of its MIR, by hand. The controller and the list lie in locals, which are lent to `run` and taken back.
 -- Assumes nothing.
 use mathlib.Core.Path.{_≡_, refl, ap, subst}
 use Prim.Native.Nat.{ℕ, _<_, _^_}
@@ -43,7 +43,7 @@ use denote.Triple.Spec.{Meets, tripleOf}
 use denote.Triple.Table.{entered, cited}
 use denote.Triple.Walked.{Stays, stay-none, stay-none-slice, gave-slice, walkOf, goes-none, goes-none-slice, goes-gave-slice, Walks, walked, walk-meets}
 use denote.Exit.{yes}
-use Rattle.lent_calls.proofs.Lend.{In, Part, lends-shared, shared-back, lends-local, local-back, last-said, ends-unsaid}
+use Rattle.calls.proofs.Lend.{In, Part, lends-shared, shared-back, lends-local, local-back, last-said, ends-unsaid}
 use Rattle.records.specs.declared.transaction.Transaction.{Transaction}
 use Rattle.controller.specs.declared.controller.Controller.{Controller}
 use Rattle.records.proofs.transaction.Transaction as T
@@ -60,10 +60,10 @@ use Rattle.lending.proofs.running.run as h
 use Rattle.lending.proofs.running.run.Symbol as h-def
 use Rattle.lending.proofs.running.run.Symbol.{name as #run}
 use Rattle.lending.proofs.running.run.Met as h-thm
-use Rattle.lent_calls.proofs.lent.lent_run.Key.{name as #lent-run}
-use Rattle.lent_calls.proofs.lent.lent_run as f
-use Rattle.lent_calls.proofs.lent.lent_run.Statement as stated
-use Rattle.lent_calls.proofs.lent.lent_run.Code as code
+use Rattle.calls.proofs.lent.lent_run.Key.{name as #lent-run}
+use Rattle.calls.proofs.lent.lent_run as f
+use Rattle.calls.proofs.lent.lent_run.Statement as stated
+use Rattle.calls.proofs.lent.lent_run.Code as code
 
 abbrev stayed : Stays (f.ended .signature .params) (f.ended .kept)
 stayed = (stay-none (λ _. S.the-row) yes, (stay-none (λ _. u16) yes, (stay-none-slice (0 ∷ []) tt (plain (λ _. u8)) yes, (stay-none (λ _. Array T.the-row 3) yes, (stay-none (λ _. u32) yes, (gave-slice (1 ∷ []) tt (plain (λ _. u8)), tt))))))

@@ -12,19 +12,19 @@ use desk::step;
 use records::transaction::Transaction;
 use serves::answer::ServesAnswer;
 
-pub fn lent_read(expected: u16, table: &[u8], bytes: &[u8], list: [Transaction; 3]) {
+pub(crate) fn lent_read(expected: u16, table: &[u8], bytes: &[u8], list: [Transaction; 3]) {
     let mut places = list;
     let answer = read_transactions(expected, table, bytes, &mut places[..]);
     decoded(answer, places);
 }
 
-pub fn lent_read_later(expected: u16, table: &[u8], bytes: &[u8], list: [Transaction; 3]) {
+pub(crate) fn lent_read_later(expected: u16, table: &[u8], bytes: &[u8], list: [Transaction; 3]) {
     let mut places = list;
     let answer = read_later_transactions(expected, table, bytes, &mut places[..]);
     decoded(answer, places);
 }
 
-pub fn lent_schedule(
+pub(crate) fn lent_schedule(
     expected: u16,
     table: &[u8],
     list: [Transaction; 3],
@@ -34,7 +34,7 @@ pub fn lent_schedule(
     schedule(expected, table, &list[..], commands, finishes)
 }
 
-pub fn lent_serves(
+pub(crate) fn lent_serves(
     expected: u16,
     table: &[u8],
     list: [Transaction; 3],
@@ -43,7 +43,7 @@ pub fn lent_serves(
     serves(expected, table, &list[..], commands)
 }
 
-pub fn lent_run(
+pub(crate) fn lent_run(
     c: Controller,
     expected: u16,
     table: &[u8],
@@ -59,7 +59,7 @@ pub fn lent_run(
     }
 }
 
-pub fn lent_step(
+pub(crate) fn lent_step(
     c: Controller,
     expected: u16,
     table: &[u8],

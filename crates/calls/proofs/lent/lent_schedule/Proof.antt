@@ -1,4 +1,4 @@
--- `lent_calls::lent::lent_schedule` meets its contract: a walk of its MIR, by hand. The list lies in a local, which is lent to `schedule` and taken back.
+-- `calls::lent::lent_schedule` meets its contract: a walk of its MIR, by hand. The list lies in a local, which is lent to `schedule` and taken back.
 -- Assumes nothing.
 use mathlib.Core.Path.{_≡_, refl}
 use Prim.Native.Nat.{ℕ, _<_, _^_}
@@ -41,7 +41,7 @@ use denote.Triple.Spec.{Meets, tripleOf}
 use denote.Triple.Table.{entered, cited}
 use denote.Triple.Walked.{Stays, stay-none, stay-none-slice, gave-slice, walkOf, goes-none, goes-none-slice, goes-gave-slice, Walks, walked, walk-meets}
 use denote.Exit.{yes}
-use Rattle.lent_calls.proofs.Lend.{In, Part, lends-shared, shared-back, last-said, ends-unsaid}
+use Rattle.calls.proofs.Lend.{In, Part, lends-shared, shared-back, last-said, ends-unsaid}
 use Rattle.records.specs.declared.transaction.Transaction.{Transaction}
 use Rattle.builder.specs.declared.build.BuildAnswer.{BuildAnswer}
 use Rattle.records.proofs.transaction.Transaction as T
@@ -52,10 +52,10 @@ use Rattle.lending.proofs.schedules.schedule as h
 use Rattle.lending.proofs.schedules.schedule.Symbol as h-def
 use Rattle.lending.proofs.schedules.schedule.Symbol.{name as #schedule}
 use Rattle.lending.proofs.schedules.schedule.Met as h-thm
-use Rattle.lent_calls.proofs.lent.lent_schedule.Key.{name as #lent-schedule}
-use Rattle.lent_calls.proofs.lent.lent_schedule as f
-use Rattle.lent_calls.proofs.lent.lent_schedule.Statement as stated
-use Rattle.lent_calls.proofs.lent.lent_schedule.Code as code
+use Rattle.calls.proofs.lent.lent_schedule.Key.{name as #lent-schedule}
+use Rattle.calls.proofs.lent.lent_schedule as f
+use Rattle.calls.proofs.lent.lent_schedule.Statement as stated
+use Rattle.calls.proofs.lent.lent_schedule.Code as code
 
 abbrev stayed : Stays (f.ended .signature .params) (f.ended .kept)
 stayed = (stay-none (λ _. u16) yes, (stay-none-slice (0 ∷ []) tt (plain (λ _. u8)) yes, (stay-none (λ _. Array T.the-row 3) yes, (gave-slice (1 ∷ []) tt (plain (λ _. u8)), (gave-slice (2 ∷ []) tt (plain (λ _. u32)), tt)))))

@@ -1,8 +1,8 @@
 use borrow.Author.Needs.{needs}
 use native.Mathlib.Omega.{arith}
 use Prim.Native.Nat.{_≤_, _-_}
-use Rattle.lent_calls.proofs.told.all_banks.Statement.{statement}
-use Rattle.lent_calls.proofs.told.all_banks.Tie as tie
+use Rattle.calls.proofs.told.all_banks.Statement.{statement}
+use Rattle.calls.proofs.told.all_banks.Tie as tie
 
 abbrev Inv-loop : tie.InvT-loop
 Inv-loop banks k₀ k = k ≤ 16
