@@ -27,7 +27,7 @@ pub fn admit(expected: u16, table: &[u8]) -> TableRead
 }
 
 // How many records of a lent run are gathered, and the table; or none, and the refusal.
-#[derive(Drop)]
+#[derive(Clone, Copy)]
 pub struct WayIn {
     pub n: usize,
     pub table: TableRead,

@@ -13,7 +13,7 @@ use records::refusal::{Refusal, Written};
 // `refused` is 0, or the refusal's number; `edition` is the table's, or the refusal's; `count` the commands written, the transactions read or
 // the bound; `cycles` the cycles run.
 #[repr(C)]
-#[derive(Drop)]
+#[derive(Clone, Copy)]
 pub struct Answer {
     pub refused: u32,
     pub position: u32,
@@ -23,14 +23,14 @@ pub struct Answer {
 }
 
 #[repr(C)]
-#[derive(Drop)]
+#[derive(Clone, Copy)]
 pub struct StartAnswer {
     pub controller: Controller,
     pub answer: Answer,
 }
 
 #[repr(C)]
-#[derive(Drop)]
+#[derive(Clone, Copy)]
 pub struct RunAnswer {
     pub controller: Controller,
     pub answer: Answer,

@@ -7,7 +7,7 @@ use shortest::answer::ShortestAnswer;
 
 // `length` is the least; `count` is how many records were written.
 #[repr(C)]
-#[derive(Drop)]
+#[derive(Clone, Copy)]
 pub struct PatternAnswer {
     pub refused: u32,
     pub position: u32,

@@ -12,7 +12,7 @@ use stamps::one_record::CaptureRecordRead;
 
 // Of a table of 32 bytes the last four numbers are one group and the short CCD, RRD and WTR again.
 #[repr(C)]
-#[derive(Drop)]
+#[derive(Clone, Copy)]
 pub struct TableAnswer {
     pub refused: u32,
     pub position: u32,
@@ -21,7 +21,7 @@ pub struct TableAnswer {
 }
 
 #[repr(C)]
-#[derive(Drop)]
+#[derive(Clone, Copy)]
 pub struct TransactionAnswer {
     pub refused: u32,
     pub position: u32,
@@ -35,7 +35,7 @@ pub struct TransactionAnswer {
 }
 
 #[repr(C)]
-#[derive(Drop)]
+#[derive(Clone, Copy)]
 pub struct CommandAnswer {
     pub refused: u32,
     pub position: u32,
@@ -47,7 +47,7 @@ pub struct CommandAnswer {
 }
 
 #[repr(C)]
-#[derive(Drop)]
+#[derive(Clone, Copy)]
 pub struct CaptureRecordAnswer {
     pub refused: u32,
     pub position: u32,

@@ -8,7 +8,7 @@ use records::table::Table;
 use records::tests::{both_of, is_within, not_of};
 
 // The table's edition and the bound, or the refusal.
-#[derive(Drop)]
+#[derive(Clone, Copy)]
 pub enum BoundAnswer {
     Bound(u16, u32),
     Refused(Refusal),

@@ -11,7 +11,7 @@ use records::refusal::{Refusal, first_failed, refuse};
 use records::table::Table;
 
 // The table's edition and how many commands were written, or the refusal.
-#[derive(Drop)]
+#[derive(Clone, Copy)]
 pub enum BuildAnswer {
     Built(u16, usize),
     Refused(Refusal),

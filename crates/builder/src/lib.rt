@@ -1,3 +1,5 @@
 // Building a schedule by the plain engine, with 5 and 6, and telling the bound, with 4; the table was admitted and the list checked before.
+#![tactic(auto)]
+
 pub mod bound;
 pub mod build;

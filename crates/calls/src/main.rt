@@ -1,5 +1,7 @@
 // Makes every public call to which something is lent, and every call of the host, on the cases below. What it must print is stored beside it,
 // from `model/`, which has the same cases.
+#![tactic(auto)]
+
 mod captured;
 mod each;
 mod found;

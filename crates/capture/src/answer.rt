@@ -9,14 +9,14 @@ use records::tests::either_of;
 use rules::verdict::Verdict;
 
 // The table's edition, how many commands were written, and the verdict on them; or the refusal.
-#[derive(Drop)]
+#[derive(Clone, Copy)]
 pub enum CaptureJudged {
     Verdict(u16, usize, Verdict),
     Refused(Refusal),
 }
 
 // 0 and the commands due, or a refusal's number and position.
-#[derive(Drop)]
+#[derive(Clone, Copy)]
 pub struct Check {
     pub number: u8,
     pub position: u32,

@@ -8,7 +8,7 @@ use records::tests::{both_of, either_of};
 use stamps::one_record::{cycle_after, is_tick, record_at};
 
 // The lowest record that number 11 names, or how many records there are; and the commands before it.
-#[derive(Drop)]
+#[derive(Clone, Copy)]
 pub struct Scanned {
     pub place: usize,
     pub count: usize,

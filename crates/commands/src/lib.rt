@@ -1,2 +1,4 @@
 // A command is read and written exactly; no rule is asked.
+#![tactic(auto)]
+
 pub mod command;

@@ -12,7 +12,7 @@ pub const NEVER: u32 = 4294967295;
 
 // A bank: open unless `opened` is 0; the cycles of its last ACT and of the last RD and WR since.
 #[repr(C)]
-#[derive(Drop)]
+#[derive(Clone, Copy)]
 pub struct HostBank {
     pub opened: u32,
     pub act: u32,
@@ -22,7 +22,7 @@ pub struct HostBank {
 
 // A group of banks: the cycles of its latest ACT, RD and WR.
 #[repr(C)]
-#[derive(Drop)]
+#[derive(Clone, Copy)]
 pub struct HostGroup {
     pub act: u32,
     pub rd: u32,
@@ -32,7 +32,7 @@ pub struct HostGroup {
 // `cycle` is the next to be tried; `acts` and `datas` have left the two queues; `last` has the cycles of the last four ACTs, newest first;
 // `refresh` is that of the last REF. `lent` is how many transactions of the list were lent before.
 #[repr(C)]
-#[derive(Drop)]
+#[derive(Clone, Copy)]
 pub struct Controller {
     pub edition: u32,
     pub cycle: u32,

@@ -12,21 +12,21 @@ use records::table::Table;
 use refusals::refused::refusal_of;
 
 // "It reports the cycles run", beside the table's edition and the commands written.
-#[derive(Drop)]
+#[derive(Clone, Copy)]
 pub struct RunReport {
     pub edition: u16,
     pub commands: u32,
     pub cycles: u32,
 }
 
-#[derive(Drop)]
+#[derive(Clone, Copy)]
 pub enum RunAnswer {
     Ran(RunReport),
     Refused(Refusal),
 }
 
 // The controller as the run leaves it, and what the caller is told.
-#[derive(Drop)]
+#[derive(Clone, Copy)]
 pub struct RunTold {
     pub controller: Controller,
     pub answer: RunAnswer,

@@ -11,7 +11,7 @@ use rules::verdict::{Rule, Verdict};
 use timing::kept::{Kept, kept_open};
 
 // The verdict on a copy, and the state after it.
-#[derive(Drop)]
+#[derive(Clone, Copy)]
 pub struct Copied {
     pub state: Kept,
     pub verdict: Verdict,

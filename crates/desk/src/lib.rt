@@ -1,5 +1,7 @@
 // The desk: what the customer calls. Any bytes may be handed in; a call refuses what it cannot take, with the number, the position and the edition
 // of document 01, and then changes nothing. No call has a `requires`.
+#![tactic(auto)]
+
 pub mod running;
 pub mod schedules;
 pub mod second;

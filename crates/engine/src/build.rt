@@ -12,7 +12,7 @@ use records::table::Table;
 use timing::kept::kept_fresh;
 
 // How many commands were written, and the cycles that the run reports.
-#[derive(Drop)]
+#[derive(Clone, Copy)]
 pub struct Schedule {
     pub commands: usize,
     pub cycles: u32,

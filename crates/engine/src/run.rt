@@ -18,7 +18,7 @@ use records::tests::both_of;
 use timing::kept::{Kept, KeptBank, kept_after, kept_rests};
 
 // What a run answers: the state it leaves, the cycles run, and how many commands it wrote.
-#[derive(Drop)]
+#[derive(Clone, Copy)]
 pub struct Ran {
     pub state: Kept,
     pub cycles: u32,

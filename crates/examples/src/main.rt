@@ -1,5 +1,7 @@
 // Runs examples 7 to 12 of document 01, and worked figures of table T, through the public calls. What it must print is stored beside it,
 // from the figures of the paper; those of table T are the worked examples' (`rules`: `Worked`).
+#![tactic(auto)]
+
 mod judged;
 mod told;
 

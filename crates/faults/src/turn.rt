@@ -11,7 +11,7 @@ use records::tests::{both_of, either_of, is_within, not_of};
 
 // The greatest place in the data queue of a data command that is due; one past the greatest number inside the list; the lowest number at fault,
 // the list's length where there is none.
-#[derive(Drop)]
+#[derive(Clone, Copy)]
 pub struct Marks {
     pub top: u64,
     pub high: u32,

@@ -5,7 +5,7 @@ use crate::queue::size_in;
 use records::table::Table;
 use transactions::later::later_at;
 
-#[derive(Drop)]
+#[derive(Clone, Copy)]
 pub struct Counts {
     pub acts: u32,
     pub datas: u32,

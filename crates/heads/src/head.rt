@@ -12,7 +12,7 @@ use records::table::Table;
 use records::transaction::Transaction;
 
 // The command that stands there, if any does; `act` is the place in the ACT queue of the ACT of its bank, `arrival` its transaction's.
-#[derive(Drop)]
+#[derive(Clone, Copy)]
 pub struct Head {
     pub there: bool,
     pub kind: Kind,

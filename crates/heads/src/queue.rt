@@ -13,20 +13,20 @@ use transactions::later::later_at;
 
 // A place in a queue: a transaction's number, how many of its commands have left, and how many commands of the ACT
 // queue belong to the transactions before it.
-#[derive(Drop)]
+#[derive(Clone, Copy)]
 pub struct Place {
     pub number: usize,
     pub offset: u32,
     pub before: u32,
 }
 
-#[derive(Drop)]
+#[derive(Clone, Copy)]
 pub struct Queue {
     pub place: Place,
     pub head: Head,
 }
 
-#[derive(Drop)]
+#[derive(Clone, Copy)]
 pub struct Queues {
     pub acts: Queue,
     pub datas: Queue,

@@ -1,5 +1,7 @@
 // What the host links: every call of the desk, with slices, plain numbers and structs of plain numbers. Any bytes may be handed in; nothing is
 // decided here.
+#![tactic(auto)]
+
 pub mod bounding;
 pub mod judging;
 pub mod one_record;

@@ -22,14 +22,14 @@ use transactions::transaction::{read_transaction, write_transaction};
 
 // The sixteen numbers of a table of 32 bytes.
 #[repr(C)]
-#[derive(Drop)]
+#[derive(Clone, Copy)]
 pub struct Numbers {
     pub numbers: [u16; 16],
 }
 
 // The twenty numbers of a table of 40 bytes.
 #[repr(C)]
-#[derive(Drop)]
+#[derive(Clone, Copy)]
 pub struct GroupNumbers {
     pub numbers: [u16; 20],
 }

@@ -5,6 +5,8 @@
 // transaction of 4, a command, a table of 40 bytes and a transaction of 8: the values come first, in 32, 4, 8, 40 or 8 bytes, and the rest is
 // the buffer. The line is `case` for any other call, for a write whose bytes are too few for the values or leave more than 64 for the buffer,
 // and for a case that the input cuts short, which is the last.
+#![tactic(auto)]
+
 mod told;
 
 ghost use Rattle.std.specs.Prelude.{◌≡◌, ◌≤◌, length};

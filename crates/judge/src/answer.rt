@@ -7,13 +7,13 @@ use records::tests::either_of;
 use rules::verdict::{PatternVerdict, Verdict};
 
 // The table's edition and the verdict, or the refusal.
-#[derive(Drop)]
+#[derive(Clone, Copy)]
 pub enum Judged {
     Verdict(u16, Verdict),
     Refused(Refusal),
 }
 
-#[derive(Drop)]
+#[derive(Clone, Copy)]
 pub enum PatternJudged {
     Verdict(u16, PatternVerdict),
     Refused(Refusal),

@@ -1,5 +1,7 @@
 // What the listing program of document 01 prints for any bytes that it reads. The text always fits into 262,144 bytes: 8,192 commands of at
 // most 25, 256 finishes of at most 39, and a first line.
+#![tactic(auto)]
+
 ghost use Rattle.std.specs.Prelude.{◌≤◌, length};
 ghost use Rattle.text.specs.Puts.{Writes};
 ghost use Rattle.listed.specs.Listing.{ListsCall, ListsBehind, Lists};

@@ -1,5 +1,7 @@
 // Lists the schedule of a table and its transactions, read from standard input: writes what `listed` says of the bytes that were read. More
 // input than 65,536 bytes is not read: it is over 256 transactions, however it goes on.
+#![tactic(auto)]
+
 use libc::{STDIN_FILENO, STDOUT_FILENO};
 use listed::listing_of;
 

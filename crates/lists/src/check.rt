@@ -11,7 +11,7 @@ use records::tests::both_of;
 use records::transaction::Transaction;
 
 // What a check finds: nothing to refuse, or the refusal.
-#[derive(Drop)]
+#[derive(Clone, Copy)]
 pub enum Checked {
     Fine,
     Refused(Refusal),

@@ -10,14 +10,14 @@ use records::table::Table;
 use records::transaction::Transaction;
 
 // The table's edition, and how many transactions were stored; or the refusal.
-#[derive(Drop)]
+#[derive(Clone, Copy)]
 pub enum Decoded {
     Done(u16, u32),
     Refused(Refusal),
 }
 
 // What a decoding answers, and how many it stores.
-#[derive(Drop)]
+#[derive(Clone, Copy)]
 pub struct Plan {
     pub n: usize,
     pub answer: Decoded,

@@ -13,7 +13,7 @@ use records::table::Table;
 use transactions::later::later_at;
 
 // The lowest transaction at fault, the list's length where none is; whether a record's number is outside the list.
-#[derive(Drop)]
+#[derive(Clone, Copy)]
 pub struct Finding {
     pub lowest: u32,
     pub outside: bool,

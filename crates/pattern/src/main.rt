@@ -1,5 +1,7 @@
 // Tells the shortest pattern for what is asked on standard input, behind the expected edition and the table: writes what `patterned` says of the bytes
 // that were read. More input than 64 bytes is not read: its table is too long, however it goes on.
+#![tactic(auto)]
+
 use libc::{STDIN_FILENO, STDOUT_FILENO};
 use patterned::pattern_of;
 

@@ -1,5 +1,7 @@
 // What the program `pattern` prints for any bytes that it reads. The text always fits into 256 bytes: six records of at most 25, and a first line of
 // at most 62.
+#![tactic(auto)]
+
 pub mod line;
 
 ghost use Rattle.std.specs.Prelude.{◌≡◌, ◌≤◌, length};

@@ -2,6 +2,8 @@
 //
 // Standard input, of which 65,536 bytes are read at most, is a sequence of inputs, each behind its length in two bytes. One that is cut short
 // is left out.
+#![tactic(auto)]
+
 ghost use Rattle.std.specs.Prelude.{◌≡◌};
 
 use libc::{STDIN_FILENO, STDOUT_FILENO};

@@ -1,5 +1,7 @@
 // What the programs of stored cases share of their printing, straight to standard output. What is printed no contract can say: it is held to the
 // stored output. The text of the listing, of the trace and of a pattern, which is proved, is `text`'s and `lines`'s.
+#![tactic(auto)]
+
 use libc::STDOUT_FILENO;
 use records::refusal::Refusal;
 

@@ -68,11 +68,23 @@ pub read_back : (p : List ℕ) (cs : List Command) (u : List ℕ) → Each Reada
 unfolding commands_from
 read_back p [] u r = refl
 read_back p (c ∷ cs) u r =
-    rw (append_assoc (bytes_of c) (bytes_of_all cs) u, command_after p c (bytes_of_all cs ++ u) r.0)
-    (ap (λ (l : List Command). c ∷ l) (rw (← append_assoc p (bytes_of c) (bytes_of_all cs ++ u)) (ap (commands_from ((p ++ bytes_of c) ++ (bytes_of_all cs ++ u)) (length cs)) further ∙ read_back (p ++ bytes_of c) cs u r.1)))
+    ap (λ (x : Command). x ∷ commands_from (p ++ (bytes_of_all (c ∷ cs) ++ u)) (length cs) (length p + 8)) first
+    ∙ ap (λ (l : List Command). c ∷ l)
+    (ap (λ (s : List ℕ). commands_from s (length cs) (length p + 8)) apart
+    ∙ ap (commands_from ((p ++ bytes_of c) ++ (bytes_of_all cs ++ u)) (length cs)) further
+    ∙ read_back (p ++ bytes_of c) cs u r.1)
   where
     further : length p + 8 ≡ length (p ++ bytes_of c)
     further = sym (length-append p (bytes_of c))
+
+    joined : p ++ (bytes_of_all (c ∷ cs) ++ u) ≡ p ++ (bytes_of c ++ (bytes_of_all cs ++ u))
+    joined = ap (λ (l : List ℕ). p ++ l) (append_assoc (bytes_of c) (bytes_of_all cs) u)
+
+    apart : p ++ (bytes_of_all (c ∷ cs) ++ u) ≡ (p ++ bytes_of c) ++ (bytes_of_all cs ++ u)
+    apart = joined ∙ sym (append_assoc p (bytes_of c) (bytes_of_all cs ++ u))
+
+    first : command_at (p ++ (bytes_of_all (c ∷ cs) ++ u)) (length p) ≡ c
+    first = ap (λ (s : List ℕ). command_at s (length p)) joined ∙ command_after p c (bytes_of_all cs ++ u) r.0
 
 -- the bytes that were written are those of the commands
 pub bytes_stand : (rs : List Command) (b₀ b : List ℕ) → b ≡ over (bytes_of_all rs) b₀ → take (8 * length rs) b ≡ bytes_of_all rs

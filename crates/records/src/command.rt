@@ -2,7 +2,7 @@
 use crate::refusal::Refusal;
 
 // 0 ACT, 1 RD, 2 RDA, 3 WR, 4 WRA, 5 REF. Any 8 bytes are a readable command, so every other number is a kind too.
-#[derive(Drop)]
+#[derive(Clone, Copy)]
 pub enum Kind {
     Act,
     Rd,
@@ -13,7 +13,7 @@ pub enum Kind {
     Other(u8),
 }
 
-#[derive(Drop)]
+#[derive(Clone, Copy)]
 pub struct Command {
     pub cycle: u32,
     pub kind: Kind,
@@ -22,7 +22,7 @@ pub struct Command {
     pub number: u16,
 }
 
-#[derive(Drop)]
+#[derive(Clone, Copy)]
 pub enum CommandRead {
     Read(Command),
     Refused(Refusal),

@@ -3,7 +3,7 @@ ghost use Rattle.std.specs.Prelude.{◌≡◌, [], ◌∷◌};
 ghost use Rattle.records.specs.Told.{refusal, first_failed};
 
 // A refusal: document 01's number, the position it shows, and the table's edition (0 where no table is given or the table itself is refused).
-#[derive(Drop)]
+#[derive(Clone, Copy)]
 pub struct Refusal {
     pub number: u8,
     pub position: u32,
@@ -11,7 +11,7 @@ pub struct Refusal {
 }
 
 // What a call that writes one record answers: the edition of the table written (0 for another record), or the refusal.
-#[derive(Drop)]
+#[derive(Clone, Copy)]
 pub enum Written {
     Done(u16),
     Refused(Refusal),

@@ -1,7 +1,7 @@
 // The table: sixteen 16-bit numbers in 32 bytes, or twenty in 40. It is read and written in `tables`.
 use crate::refusal::Refusal;
 
-#[derive(Drop)]
+#[derive(Clone, Copy)]
 pub struct Table {
     pub edition: u16,
     pub banks: u16,
@@ -27,7 +27,7 @@ pub struct Table {
     pub wtrl: u16,
 }
 
-#[derive(Drop)]
+#[derive(Clone, Copy)]
 pub enum TableRead {
     Read(Table),
     Refused(Refusal),

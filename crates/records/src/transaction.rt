@@ -3,7 +3,7 @@ use crate::refusal::Refusal;
 
 // `kind` is the paper's type: 0 read, 1 write, 2 refresh. (`type` is a word of the language.)
 #[repr(C)]
-#[derive(Drop)]
+#[derive(Clone, Copy)]
 pub struct Transaction {
     pub kind: u8,
     pub start: u8,
@@ -13,7 +13,7 @@ pub struct Transaction {
     pub arrival: u32,
 }
 
-#[derive(Drop)]
+#[derive(Clone, Copy)]
 pub enum TransactionRead {
     Read(Transaction),
     Refused(Refusal),

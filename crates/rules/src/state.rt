@@ -1,14 +1,14 @@
 // What a running state tells.
 
 // A cycle that may be "never". 64 bits, so that the cycles of a pattern's copies never wrap.
-#[derive(Drop)]
+#[derive(Clone, Copy)]
 pub enum Stamp {
     Never,
     At(u64),
 }
 
 // A bank: open unless `opened` is 0; the cycles of its last ACT and of the last RD and WR since.
-#[derive(Drop)]
+#[derive(Clone, Copy)]
 pub struct Bank {
     pub opened: u32,
     pub act: Stamp,
@@ -17,7 +17,7 @@ pub struct Bank {
 }
 
 // A group of banks: the cycles of its latest ACT, RD and WR.
-#[derive(Drop)]
+#[derive(Clone, Copy)]
 pub struct Group {
     pub act: Stamp,
     pub rd: Stamp,
@@ -26,7 +26,7 @@ pub struct Group {
 
 // `cycle` is the next to be tried; `acts` and `datas` have left the two queues; `a1` to `a4` are the cycles of the last four ACTs, newest
 // first; `refresh` that of the last REF. `lent` is how many transactions of the list were lent before.
-#[derive(Drop)]
+#[derive(Clone, Copy)]
 pub struct State {
     pub edition: u32,
     pub cycle: u64,

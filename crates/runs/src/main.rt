@@ -5,6 +5,8 @@
 // for call 3, a bound, `[BI][BC][t bytes]`. The t bytes are the table, the rooms are in bytes, the n bytes are the transactions, of 4 bytes each;
 // calls 4 and 5 are a build and a run of transactions of 8 bytes. The line is `case` for any other call, and for a case that the input cuts
 // short: nothing after it is read.
+#![tactic(auto)]
+
 mod build;
 mod run;
 mod state;

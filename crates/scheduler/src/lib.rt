@@ -1,2 +1,4 @@
 // The schedules behind the desk's calls, by either engine: what is refused after the table, in order; nothing is lent decoded here.
+#![tactic(auto)]
+
 pub mod schedules;

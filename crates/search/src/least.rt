@@ -11,7 +11,7 @@ use records::table::Table;
 use shortest::place::records_of;
 
 // The length and its pattern, if there is one.
-#[derive(Drop)]
+#[derive(Clone, Copy)]
 pub struct Found {
     pub ok: bool,
     pub length: u32,

@@ -12,7 +12,7 @@ use shortest::place::{class_of, count, kind_at, put};
 use shortest::write::judge_records;
 
 // What was found: the records, if ok.
-#[derive(Drop)]
+#[derive(Clone, Copy)]
 pub struct Out {
     pub ok: bool,
     pub items: [Command; 6],

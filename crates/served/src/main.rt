@@ -3,6 +3,8 @@
 // Standard input, of which 131,072 bytes are read at most, is a sequence of cases, `[call][expected: u16][t: u8][l: u16][n: u16][t bytes][l bytes][n bytes]`.
 // The t bytes are the table, the n bytes are the schedule. Call 1 takes the l bytes as transactions of 4 bytes each, call 2 as transactions of 8.
 // The line is `case` for any other call, and for a case that the input cuts short, which is the last.
+#![tactic(auto)]
+
 ghost use Rattle.std.specs.Prelude.{◌<◌};
 
 use desk::{serves_bytes, serves_later_bytes};

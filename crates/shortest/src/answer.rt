@@ -8,7 +8,7 @@ use records::refusal::{Refusal, first_failed};
 use records::tests::{both_of, not_of};
 
 // The table's edition, the least length and how many records were written; or the refusal.
-#[derive(Drop)]
+#[derive(Clone, Copy)]
 pub enum ShortestAnswer {
     Pattern(u16, u32, usize),
     Refused(Refusal),

@@ -8,14 +8,14 @@ use records::little::num_at;
 use records::refusal::{Refusal, Written, refuse};
 use records::tests::both_of;
 
-#[derive(Drop)]
+#[derive(Clone, Copy)]
 pub struct CaptureRecord {
     pub stamp: u16,
     pub kind: u8,
     pub bank: u8,
 }
 
-#[derive(Drop)]
+#[derive(Clone, Copy)]
 pub enum CaptureRecordRead {
     Read(CaptureRecord),
     Refused(Refusal),

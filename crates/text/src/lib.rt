@@ -1,5 +1,7 @@
 // Text in a lent buffer: a byte, a word, a number in decimal, each put at a place; each answers the place behind it. No word of the desk stands
 // here.
+#![tactic(auto)]
+
 ghost use Rattle.std.specs.Prelude.{◌≡◌, ◌+◌, ◌<◌, ◌≤◌, length, [], ◌∷◌, ◌++◌};
 ghost use Rattle.text.specs.Decimal.{decimal};
 ghost use Rattle.text.specs.Puts.{Puts};

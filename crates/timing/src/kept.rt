@@ -10,7 +10,7 @@ use records::table::Table;
 use records::tests::not_of;
 
 // A bank. A stamp is 0 for "never", and else the cycle after it.
-#[derive(Drop)]
+#[derive(Clone, Copy)]
 pub struct KeptBank {
     pub opened: u32,
     pub act: u64,
@@ -19,14 +19,14 @@ pub struct KeptBank {
 }
 
 // A group: its latest ACT, RD and WR.
-#[derive(Drop)]
+#[derive(Clone, Copy)]
 pub struct KeptGroup {
     pub act: u64,
     pub rd: u64,
     pub wr: u64,
 }
 
-#[derive(Drop)]
+#[derive(Clone, Copy)]
 pub struct Kept {
     pub edition: u32,
     pub cycle: u64,

@@ -1,5 +1,7 @@
 // Judges a capture, read from standard input behind the expected edition and the table: writes what `traced` says of the bytes that were read. More
 // input than 278,563 bytes is not read: it is over 69,632 records, however it goes on.
+#![tactic(auto)]
+
 use libc::{STDIN_FILENO, STDOUT_FILENO};
 use traced::{input_buffer, text_buffer, trace_of};
 

@@ -1,5 +1,7 @@
 // What the program `trace` prints for any bytes that it reads. The text always fits into 1,741,000 bytes: 69,632 commands of at most 25, a first
 // line of at most 44, and a verdict's of at most 41.
+#![tactic(auto)]
+
 pub mod verdict;
 
 ghost use Rattle.std.specs.Prelude.{◌≡◌, ◌≤◌, length};

@@ -13,7 +13,7 @@ use serves::answer::Served;
 
 // `rule` is 0 where the records are accepted; `copy` counts from 1, and is 0 for a schedule; `record` counts from 0.
 #[repr(C)]
-#[derive(Drop)]
+#[derive(Clone, Copy)]
 pub struct VerdictAnswer {
     pub refused: u32,
     pub position: u32,
@@ -25,7 +25,7 @@ pub struct VerdictAnswer {
 
 // `count` is how many commands were written; `rule` is 0 where they are accepted; `record` counts them from 0.
 #[repr(C)]
-#[derive(Drop)]
+#[derive(Clone, Copy)]
 pub struct CaptureAnswer {
     pub refused: u32,
     pub position: u32,
@@ -38,7 +38,7 @@ pub struct CaptureAnswer {
 // `serves` is 1 where the schedule serves the list, and else 0. Where it does not, `rule` is that of the judge's verdict, and `record` counts from 0;
 // or `rule` is 0, and `transaction` is the lowest at fault, or the list's length.
 #[repr(C)]
-#[derive(Drop)]
+#[derive(Clone, Copy)]
 pub struct ServesAnswer {
     pub refused: u32,
     pub position: u32,

@@ -3,6 +3,8 @@
 // Standard input, of which 131,072 bytes are read at most, is a sequence of cases, `[call][expected: u16][length: u32][t: u8][n: u16][t bytes][n bytes]`.
 // The t bytes are the table. Call 1 judges the n bytes as a schedule and has no use for the length, call 2 judges them as a pattern of that
 // length. The line is `case` for any other call, and for a case that the input cuts short, which is the last.
+#![tactic(auto)]
+
 ghost use Rattle.std.specs.Prelude.{◌+◌, ◌≤◌, ◌<◌, length};
 
 use desk::{judge, judge_pattern};

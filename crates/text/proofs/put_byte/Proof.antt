@@ -1,7 +1,0 @@
-use borrow.Author.Rules.{rules}
-use Rattle.text.proofs.Putting.{puts_byte}
-use Rattle.text.proofs.put_byte.Statement.{statement}
-use Rattle.text.proofs.put_byte.Tie as tie
-
-pub put_byte_spec : {M : Type 1} → statement M
-put_byte_spec = tie.close (tie.spec (λ c. search rules) (λ c. search rules) (λ c. search rules) (λ c. puts_byte _ _ _ c.requires))
