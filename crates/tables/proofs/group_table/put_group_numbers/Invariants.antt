@@ -1,0 +1,16 @@
+use native.Mathlib.Omega.{arith}
+use Prim.Native.Nat.{ℕ, ◌≤◌, ◌-◌}
+use mathlib.Core.Path.{◌≡◌, refl, ap, ◌∙◌}
+use mathlib.Core.List.{List}
+use lib.ListN.{length, take, length-take}
+use lib.Seq.{take_all}
+use Rattle.records.specs.Told.{over}
+use Rattle.records.specs.Little.{bytes16}
+use Rattle.records.proofs.Bytes.{length_16, number_room, number_more, length_over}
+use Rattle.tables.proofs.group_table.put_group_numbers.Given as goal
+
+abbrev pub invariant-loop-i : goal.invariant-loop-i
+invariant-loop-i l = (l.i ≤ 20) × (l.s ≡ over (bytes16 (take l.i l.n)) l.initial.s)
+
+abbrev pub decreases-loop-i : goal.decreases-loop-i
+decreases-loop-i l = 20 - l.i
