@@ -120,7 +120,7 @@ def main():
     for p in antts + rts:
         text = open(p, encoding="utf-8").read()
         antt = p.endswith(".antt")
-        kept = {n for n in outside(text) if n in to}
+        kept = {n for n in outside(text) if n in to} | (set() if antt else fields)
         new = turned(text, to, kept, fields, antt)
         olds = collections.defaultdict(set)
         for n in set(TOKEN.findall(text)):

@@ -7,7 +7,7 @@ ghost use Rattle.rules.specs.State.{past, act_tests_of, refresh_tests_of, data_t
 ghost use Rattle.timing.specs.Kept.{stamp_of, told_bank};
 ghost use Rattle.broken.specs.ByState.{found_ref};
 
-use distances::kinds::{is_known_lem, is_ref};
+use distances::kinds::{is_known, is_ref};
 use distances::square::wide;
 use records::command::Kind;
 use records::table::Table;
@@ -21,7 +21,7 @@ pub fn in_table(kind: Kind, bank: u8, banks: u16) -> bool
 {
     let low = (bank as u16) < banks;
     let own = either_of(not_of(is_ref(kind)), bank == 0);
-    both_of(is_known_lem(kind), both_of(low, own))
+    both_of(is_known(kind), both_of(low, own))
 }
 
 // A rule that is not kept is broken; after one that is kept the rest tells.

@@ -91,7 +91,7 @@ pub fn can_end(k: Kind) -> bool
     }
 }
 
-pub fn is_known_lem(k: Kind) -> bool
+pub fn is_known(k: Kind) -> bool
     ensures { result ≡ is_known k }
 {
     match k {

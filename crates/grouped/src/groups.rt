@@ -39,7 +39,7 @@ pub fn acts_far(t: Table, groups: [KeptGroup; 8], own: usize, c: u64) -> bool
 }
 
 // Rule 9 by the latest RD and WR of one group, with one square within a group and one across.
-pub fn far_from_lem(
+pub fn far_from(
     near: [[u32; 2]; 2],
     away: [[u32; 2]; 2],
     same: bool,
@@ -73,7 +73,7 @@ pub fn data_far(
     let mut g: usize = 0;
     while g < count {
         let k = groups[g];
-        if not_of(far_from_lem(near, away, g == own, k.rd, k.wr, write, c)) {
+        if not_of(far_from(near, away, g == own, k.rd, k.wr, write, c)) {
             return false;
         }
         g = g + 1;

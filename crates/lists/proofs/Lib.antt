@@ -2,5 +2,4 @@
 pub mod Checks
 pub mod Packing
 pub mod Storing
-pub mod While
 pub mod Promises

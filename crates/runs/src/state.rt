@@ -73,13 +73,13 @@ fn groups_at(s: &[u8]) -> [HostGroup; 8]
     }; 8];
     let mut k: usize = 0;
     while k < 8 {
-        groups[k] = group_at_lem(s, 238 + 12 * k);
+        groups[k] = group_at(s, 238 + 12 * k);
         k += 1;
     }
     groups
 }
 
-fn group_at_lem(s: &[u8], at: usize) -> HostGroup
+fn group_at(s: &[u8], at: usize) -> HostGroup
     requires { at + 12 ≤ length s.now }
 {
     HostGroup {

@@ -55,7 +55,7 @@ pub fn charged_from(t: Table, k: KeptBank) -> u64
 }
 
 // Rule 11, of one bank.
-pub fn rest_from_lem(t: Table, k: KeptBank) -> u64
+pub fn rest_from(t: Table, k: KeptBank) -> u64
     ensures { result ≡ rest_from t (told_bank k) }
 {
     let closed = gate_of(not_of(kept_open(k)));
@@ -63,7 +63,7 @@ pub fn rest_from_lem(t: Table, k: KeptBank) -> u64
 }
 
 // Rule 9 by the latest RD and WR of one group.
-pub fn far_from_lem(q: [[u32; 2]; 2], rd: u64, wr: u64, write: bool) -> u64
+pub fn far_from(q: [[u32; 2]; 2], rd: u64, wr: u64, write: bool) -> u64
     ensures { result ≡ far_from q (stamp_of rd) (stamp_of wr) write }
 {
     let w = side_of(write);

@@ -5,7 +5,7 @@ ghost use Rattle.timing.specs.Kept.{stamp_of, told_bank, told};
 ghost use Rattle.earliest.specs.Earliest.{limit, rests_from};
 ghost use Rattle.soonest.specs.Earlier.{latest_of, six_from, nine_from, ready_from, opens_from};
 
-use crate::free::{LIMIT, act_head_from, data_head_from, far_from_lem, later_of, rest_from_lem, since_of};
+use crate::free::{LIMIT, act_head_from, data_head_from, far_from, later_of, rest_from, since_of};
 use distances::square::wide;
 use heads::head::Head;
 use records::table::Table;
@@ -60,10 +60,10 @@ pub fn nine_from(
     let all_rd = latest.rd;
     let all_wr = latest.wr;
     if groups == 1 {
-        return far_from_lem(near, all_rd, all_wr, write);
+        return far_from(near, all_rd, all_wr, write);
     }
-    let own = far_from_lem(near, rd, wr, write);
-    later_of(own, far_from_lem(away, all_rd, all_wr, write))
+    let own = far_from(near, rd, wr, write);
+    later_of(own, far_from(away, all_rd, all_wr, write))
 }
 
 // Rule 11, asked of a REF alone.
@@ -76,7 +76,7 @@ pub fn rests_from(t: Table, s: Kept) -> u64
     let mut b: usize = 0;
     while b < n {
         let k = s.banks[b];
-        from = later_of(rest_from_lem(t, k), from);
+        from = later_of(rest_from(t, k), from);
         b = b + 1;
     }
     from

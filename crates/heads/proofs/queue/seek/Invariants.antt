@@ -1,0 +1,12 @@
+use borrow.Author.Rules.{rules}
+use native.Mathlib.Omega.{arith}
+use Prim.Native.Nat.{◌-◌}
+use mathlib.Core.Path.{refl}
+use Rattle.heads.proofs.Laws.{few, acts_few, Sought, sought_on, before_is, sought}
+use Rattle.heads.proofs.queue.seek.Given as goal
+
+abbrev pub invariant-loop-k : goal.invariant-loop-k
+invariant-loop-k l = Sought l.list l.n l.datas l.initial.k l.initial.offset l.initial.before l.k l.offset l.before
+
+abbrev pub decreases-loop-k : goal.decreases-loop-k
+decreases-loop-k l = l.n - l.k

@@ -1,0 +1,16 @@
+use borrow.Author.Rules.{rules}
+use native.Mathlib.Omega.{arith}
+use Prim.Native.Nat.{◌-◌, ◌≤◌}
+use mathlib.Core.Path.{◌≡◌, refl, sym, ap, ◌∙◌}
+use lib.ListN.{length}
+use Rattle.records.specs.Transaction.{record_count, list_of}
+use Rattle.lists.specs.declared.check.Checked.TheVariants.{Refused}
+use Rattle.lists.specs.Check.{range_from}
+use Rattle.lists.proofs.Checks.{left_from, left_fits, left_out, left_none}
+use Rattle.lists.proofs.check.check_range.Given as goal
+
+abbrev pub invariant-loop-k : goal.invariant-loop-k
+invariant-loop-k l = (l.k ≤ l.n) × (l.n ≡ record_count l.later (length l.s)) × (left_from l.t l.later l.s l.arrived l.k ≡ range_from l.t 0 (list_of l.later l.s) 0)
+
+abbrev pub decreases-loop-k : goal.decreases-loop-k
+decreases-loop-k l = l.n - l.k
