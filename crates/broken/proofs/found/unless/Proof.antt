@@ -1,5 +1,0 @@
-use Rattle.broken.proofs.found.unless.Statement.{statement}
-use Rattle.broken.proofs.found.unless.Tie as tie
-
-pub unless_spec : {M : Type 1} → statement M
-unless_spec = tie.close (tie.spec (λ c. rw c.if1.true) (λ c. rw c.if1.false))

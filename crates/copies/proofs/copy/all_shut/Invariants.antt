@@ -1,0 +1,15 @@
+use borrow.Author.Rules.{rules}
+use native.Mathlib.Omega.{arith}
+use Prim.Native.Nat.{◌≤◌, ◌-◌}
+use mathlib.Core.Path.{◌≡◌, refl, ap, ◌∙◌}
+use native.Mathlib.Numerals.{add-one}
+use Rattle.timing.specs.Kept.{told}
+use Rattle.timing.proofs.Telling.{told_at}
+use Rattle.broken.specs.ByState.{shut_by}
+use Rattle.copies.proofs.copy.all_shut.Given as goal
+
+abbrev pub invariant-loop-b : goal.invariant-loop-b
+invariant-loop-b l = (l.b ≤ l.n) × (l.n ≡ l.banks) × (l.shut ≡ shut_by (told l.s) l.b)
+
+abbrev pub decreases-loop-b : goal.decreases-loop-b
+decreases-loop-b l = l.n - l.b

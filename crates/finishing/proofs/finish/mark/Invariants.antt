@@ -1,0 +1,14 @@
+use borrow.Author.Rules.{rules}
+use native.Mathlib.Omega.{arith}
+use Prim.Native.Nat.{◌-◌, ◌≤◌}
+use mathlib.Core.Path.{◌≡◌}
+use Rattle.records.specs.Command.{commands_from}
+use Rattle.finishing.specs.Finish.{Marked}
+use Rattle.finishing.proofs.Marks.{unmarked, in_range_lem, stores, skips}
+use Rattle.finishing.proofs.finish.mark.Given as goal
+
+abbrev pub invariant-loop-j : goal.invariant-loop-j
+invariant-loop-j l = (l.j ≤ l.m) × Marked (commands_from l.bytes l.j 0) l.initial.finishes l.finishes
+
+abbrev pub decreases-loop-j : goal.decreases-loop-j
+decreases-loop-j l = l.m - l.j
