@@ -1,0 +1,13 @@
+use borrow.Author.Rules.{rules}
+use native.Mathlib.Omega.{arith}
+use Prim.Native.Nat.{◌-◌, ◌≤◌}
+use mathlib.Core.Path.{◌≡◌, refl, ◌∙◌}
+use Rattle.earliest.specs.Earliest.{most_below}
+use Rattle.soonest.proofs.Numbers.{most_turn, rests_at, rests_told}
+use Rattle.soonest.proofs.over.rests_from.Given as goal
+
+abbrev pub invariant-loop-b : goal.invariant-loop-b
+invariant-loop-b l = (l.b ≤ l.n) × (l.n ≡ l.t.banks) × (l.from ≡ most_below l.b (rests_at l.t l.s))
+
+abbrev pub decreases-loop-b : goal.decreases-loop-b
+decreases-loop-b l = l.n - l.b
