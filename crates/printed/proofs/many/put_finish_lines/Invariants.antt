@@ -1,0 +1,15 @@
+use native.Mathlib.Omega.{arith}
+use Prim.Native.Nat.{◌+◌, ◌*◌, ◌-◌, ◌≤◌}
+use lib.ListN.{get_or, take}
+use Rattle.text.specs.Puts.{Puts}
+use Rattle.text.proofs.Putting.{puts_nothing}
+use Rattle.lines.specs.Lines.{finish_lines}
+use Rattle.lines.proofs.Long.{finish_most}
+use Rattle.printed.proofs.Turns.{finish_turn, finish_end}
+use Rattle.printed.proofs.many.put_finish_lines.Given as goal
+
+abbrev pub invariant-loop-i : goal.invariant-loop-i
+invariant-loop-i l = (l.i ≤ l.n) × (l.next ≤ l.at + 39 * l.i) × Puts (finish_lines 0 (take l.i l.s)) l.at l.next l.initial.out l.out
+
+abbrev pub decreases-loop-i : goal.decreases-loop-i
+decreases-loop-i l = l.n - l.i
