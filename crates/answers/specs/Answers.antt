@@ -20,7 +20,7 @@ use Rattle.controller.specs.declared.run.RunTold.{RunTold}
 use Rattle.controller.specs.declared.run.RunAnswer.{RunAnswer as RunSaid}
 use Rattle.promises.specs.declared.starting.StartTold.{StartTold}
 use Rattle.promises.specs.declared.starting.StartAnswer.{StartAnswer as StartSaid}
-use Rattle.promises.specs.Numbers.{Numbers, refusing as refusalNumbers, written_numbers, table_numbers, transaction_numbers, command_numbers, capture_record_numbers, read_numbers, build_numbers, bound_numbers, shortest_numbers, start_numbers, run_numbers}
+use Rattle.promises.specs.Numbers.{Numbers, refusing as refusal_numbers, written_numbers, table_numbers, transaction_numbers, command_numbers, capture_record_numbers, read_numbers, build_numbers, bound_numbers, shortest_numbers, start_numbers, run_numbers}
 use Rattle.answers.specs.declared.answer.Answer.{Answer}
 use Rattle.answers.specs.declared.reader.TableAnswer.{TableAnswer}
 use Rattle.answers.specs.declared.reader.TransactionAnswer.{TransactionAnswer}
@@ -43,7 +43,7 @@ abbrev pub answer : ℕ → ℕ → ℕ → Answer
 answer e n m = record { refused = 0; position = 0; edition = e; count = n; cycles = m }
 
 abbrev pub refusing : Refusal → Answer
-refusing x = answering (refusalNumbers x)
+refusing x = answering (refusal_numbers x)
 
 -- ---- one record
 

@@ -8,17 +8,17 @@ use mathlib.Core.List.{List, map}
 use lib.ListN.{get_or, set, get_or-map}
 use borrow.Author.Tests.{eq-eqb, ne_eqb}
 use Rattle.sound.proofs.Laws.{Filled, fill_turn}
-use Rattle.timing.specs.Kept.{stamp_of as keptStamp}
+use Rattle.timing.specs.Kept.{stamp_of as kept_stamp}
 use Rattle.timing.proofs.Telling.{map_set}
 use Rattle.controller.specs.declared.controller.HostBank.{HostBank}
 use Rattle.controller.specs.declared.controller.HostGroup.{HostGroup}
 use Rattle.controller.specs.Controller.{stamp_of}
 
 -- the number for "never", and every other
-pub never_in : (x : ℕ) → x ≡ 4294967295 → keptStamp 0 ≡ stamp_of x
+pub never_in : (x : ℕ) → x ≡ 4294967295 → kept_stamp 0 ≡ stamp_of x
 never_in x e = rw (eq-eqb x 4294967295 e)
 
-pub cycle_in : (x : ℕ) → x ≢ 4294967295 → keptStamp (x + 1) ≡ stamp_of x
+pub cycle_in : (x : ℕ) → x ≢ 4294967295 → kept_stamp (x + 1) ≡ stamp_of x
 cycle_in x e = rw (ne_eqb x 4294967295 e, add-one x)
 
 abbrev pub zeros : HostBank

@@ -1,7 +1,7 @@
 // The host's running controller: plain unsigned numbers, so that any bit pattern is a state.
 ghost use Rattle.std.specs.Prelude.{◌≡◌, map, min, ◌≤◌};
 ghost use Rattle.rules.specs.Pieces.{lend};
-ghost use Rattle.timing.specs.Kept.{stamp_of as keptStamp, told_bank, told_group, told};
+ghost use Rattle.timing.specs.Kept.{stamp_of as kept_stamp, told_bank, told_group, told};
 ghost use Rattle.controller.specs.Controller.{stamp_of, number_of, bank_tells, bank_kept, group_tells, group_kept, tells, kept, fresh_controller};
 
 use records::table::Table;
@@ -47,7 +47,7 @@ pub struct Controller {
 
 // A number as a run keeps it.
 pub fn number_in(x: u32) -> u64
-    ensures { keptStamp result ≡ stamp_of x }
+    ensures { kept_stamp result ≡ stamp_of x }
 {
     if x == NEVER {
         return 0;
@@ -63,7 +63,7 @@ pub fn cut(c: u64) -> u32
 }
 
 pub fn number_of(s: u64) -> u32
-    ensures { result ≡ number_of (keptStamp s) }
+    ensures { result ≡ number_of (kept_stamp s) }
 {
     if s == 0 {
         return NEVER;

@@ -13,8 +13,8 @@ use Rattle.records.specs.declared.refusal.Written.TheVariants.{Done, Refused as 
 use Rattle.records.specs.Told.{refusal, over, Wrote}
 use Rattle.records.specs.Little.{bytes16}
 use Rattle.records.specs.Table.{table_of, group_table_of, table_at, in_range, table_size, table_refusal, table_refusal_by, read_table, write_table, write_group_table}
-use Rattle.records.specs.Transaction.{transaction_at, later_at, fits_by, transaction_refusal, later_refusal, read_transaction, write_transaction, read_later, write_later, later_bytes, bytes_of as transactionBytes}
-use Rattle.records.specs.Command.{command_at, command_refusal, room_refusal, read_command, write_command, bytes_of as commandBytes}
+use Rattle.records.specs.Transaction.{transaction_at, later_at, fits_by, transaction_refusal, later_refusal, read_transaction, write_transaction, read_later, write_later, later_bytes, bytes_of as transaction_bytes}
+use Rattle.records.specs.Command.{command_at, command_refusal, room_refusal, read_command, write_command, bytes_of as command_bytes}
 use Rattle.stamps.specs.declared.one_record.CaptureRecordRead.TheVariants.{Read as RecordIs, Refused as NoRecord}
 use Rattle.stamps.specs.Record.{record_at, bytes_of_record, record_refusal, read_capture_record, record_room, write_capture_record}
 use Rattle.promises.specs.Numbers.{written_numbers, table_numbers, transaction_numbers, command_numbers, capture_record_numbers}
@@ -49,7 +49,7 @@ module _ (s : List ℕ) where
         transaction_written = λ x.
             let z = transaction_refusal (length s) x in
             two 3 4 (not (eqb (length s) 4)) (not (fits_by 0 16 1 x)) (written_numbers (write_transaction x s).answer)
-            (by_number (λ (w : Wrote). written_numbers w.answer) z (record { answer = Done 0; buffer = over (transactionBytes x) s }) (kept z) (refl, refl) (refl, refl));
+            (by_number (λ (w : Wrote). written_numbers w.answer) z (record { answer = Done 0; buffer = over (transaction_bytes x) s }) (kept z) (refl, refl) (refl, refl));
         later_read =
             let z = later_refusal (length s) (later_at s 0) in
             two 3 4 (not (eqb (length s) 8)) (not (fits_by 20000000 16 1 (later_at s 0))) (transaction_numbers (read_later s))
@@ -65,7 +65,7 @@ module _ (s : List ℕ) where
         command_written = λ c.
             let z = room_refusal (length s) in
             one 5 (not (leb 8 (length s))) (written_numbers (write_command c s).answer)
-            (by_number (λ (w : Wrote). written_numbers w.answer) z (record { answer = Done 0; buffer = over (commandBytes c) s }) (kept z) (refl, refl) (refl, refl));
+            (by_number (λ (w : Wrote). written_numbers w.answer) z (record { answer = Done 0; buffer = over (command_bytes c) s }) (kept z) (refl, refl) (refl, refl));
         capture_read =
             let z = record_refusal (length s) in
             one 7 (not (eqb (length s) 4)) (capture_record_numbers (read_capture_record s))

@@ -18,8 +18,8 @@ use Rattle.records.specs.Tests.{pick}
 use Rattle.records.specs.Told.{refusal, over, Wrote}
 use Rattle.records.specs.Little.{bytes16}
 use Rattle.records.specs.Table.{table_of, group_table_of, table_refusal_by, write_table, write_group_table}
-use Rattle.records.specs.Transaction.{transaction_refusal, later_refusal, write_transaction, write_later, later_bytes, bytes_of as transactionBytes}
-use Rattle.records.specs.Command.{room_refusal, write_command, bytes_of as commandBytes}
+use Rattle.records.specs.Transaction.{transaction_refusal, later_refusal, write_transaction, write_later, later_bytes, bytes_of as transaction_bytes}
+use Rattle.records.specs.Command.{room_refusal, write_command, bytes_of as command_bytes}
 use Rattle.stamps.specs.declared.one_record.CaptureRecord.{CaptureRecord}
 use Rattle.stamps.specs.Record.{bytes_of_record, record_room, write_capture_record}
 use Rattle.builder.specs.declared.build.BuildAnswer.TheVariants.{Refused as NotBuilt}
@@ -92,7 +92,7 @@ group_table_unwritten_lem l s x e =
 
 pub transaction_unwritten_lem : (t : Transaction) (s : List ℕ) (x : Refusal) → (write_transaction t s).answer ≡ NotWritten x → (write_transaction t s).buffer ≡ s
 unfolding write_transaction
-transaction_unwritten_lem t s x e = unwritten (transaction_refusal (length s) t) (record { answer = Done 0; buffer = over (transactionBytes t) s }) s x e (done_not 0)
+transaction_unwritten_lem t s x e = unwritten (transaction_refusal (length s) t) (record { answer = Done 0; buffer = over (transaction_bytes t) s }) s x e (done_not 0)
 
 pub later_unwritten_lem : (t : Transaction) (s : List ℕ) (x : Refusal) → (write_later t s).answer ≡ NotWritten x → (write_later t s).buffer ≡ s
 unfolding write_later
@@ -100,7 +100,7 @@ later_unwritten_lem t s x e = unwritten (later_refusal (length s) t) (record { a
 
 pub command_unwritten_lem : (c : Command) (s : List ℕ) (x : Refusal) → (write_command c s).answer ≡ NotWritten x → (write_command c s).buffer ≡ s
 unfolding write_command
-command_unwritten_lem c s x e = unwritten (room_refusal (length s)) (record { answer = Done 0; buffer = over (commandBytes c) s }) s x e (done_not 0)
+command_unwritten_lem c s x e = unwritten (room_refusal (length s)) (record { answer = Done 0; buffer = over (command_bytes c) s }) s x e (done_not 0)
 
 pub capture_unwritten_lem : (c : CaptureRecord) (s : List ℕ) (x : Refusal) → (write_capture_record c s).answer ≡ NotWritten x → (write_capture_record c s).buffer ≡ s
 unfolding write_capture_record
