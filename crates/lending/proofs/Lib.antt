@@ -1,3 +1,2 @@
--- Laws for the walks by hand.
+-- Laws of a lent run of records.
 pub mod Lent
-pub mod Gathering

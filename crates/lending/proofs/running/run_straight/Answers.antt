@@ -19,7 +19,7 @@ returns-else-has_run c =
     let w = c.admit_lent-w.result in
     let h = held w.n c.gather-bytes.result in
     let j =
-      runs_lent c.args.list.now c.args.c.now c.args.count c.args.room.now (admitted c.args.expected c.args.table.now) w c.admit_lent-w.ensures c.gather-bytes.result c.gather-bytes.ensures
-      c.run_held-o.result c.run_held-o.new.room c.run_held-o.ensures in
+    runs_lent c.args.list.now c.args.c.now c.args.count c.args.room.now (admitted c.args.expected c.args.table.now) w c.admit_lent-w.ensures c.gather-bytes.result c.gather-bytes.ensures
+    c.run_held-o.result c.run_held-o.new.room c.run_held-o.ensures in
     let stays = not_run (λ (τ : Table). check_list τ h) w.table c.args.c.now h c.args.count c.args.room.now c.run_held-o.result c.run_held-o.new.room c.run_held-o.ensures (sym c.has_run.ensures ∙ c.if-has_run.false) in
     (j.0, stays ∙ j.1, j.2)
