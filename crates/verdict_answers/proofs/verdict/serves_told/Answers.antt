@@ -1,0 +1,5 @@
+use borrow.Author.Rules.{rules}
+use Rattle.verdict_answers.proofs.verdict.serves_told.Goals as goal
+
+pub returns : goal.returns
+returns c = rw c.from_16.ensures
