@@ -7,8 +7,7 @@ ghost use Rattle.answers.specs.Answers.{of_bound};
 use answers::answer::{Answer, of_bound};
 use judgements::bounding::bound;
 
-#[unsafe(no_mangle)]
-pub extern "C" fn skv_bound(expected: u16, table: &[u8], bi: u8, bc: u8) -> Answer
+pub fn skv_bound(expected: u16, table: &[u8], bi: u8, bc: u8) -> Answer
     ensures { result ≡ of_bound (bounding (admitted expected table.now) bi bc) }
 {
     of_bound(bound(expected, table, bi, bc))

@@ -34,44 +34,33 @@ pub struct GroupNumbers {
     pub numbers: [u16; 20],
 }
 
-#[unsafe(no_mangle)]
-pub extern "C" fn skv_read_table(bytes: &[u8]) -> TableAnswer
+pub fn skv_read_table(bytes: &[u8]) -> TableAnswer
     ensures { result ≡ of_table (read_table bytes.now) }
 {
     of_table(read_table(bytes))
 }
 
-#[unsafe(no_mangle)]
-pub extern "C" fn skv_write_table(numbers: Numbers, out: &mut [u8]) -> Answer
+pub fn skv_write_table(numbers: Numbers, out: &mut [u8]) -> Answer
     ensures { Writes (write_table numbers.numbers out.old) result out.new }
 {
     let n = numbers.numbers;
     of_written(write_table(n, out))
 }
 
-#[unsafe(no_mangle)]
-pub extern "C" fn skv_write_group_table(numbers: GroupNumbers, out: &mut [u8]) -> Answer
+pub fn skv_write_group_table(numbers: GroupNumbers, out: &mut [u8]) -> Answer
     ensures { Writes (write_group_table numbers.numbers out.old) result out.new }
 {
     let n = numbers.numbers;
     of_written(write_group_table(n, out))
 }
 
-#[unsafe(no_mangle)]
-pub extern "C" fn skv_read_transaction(bytes: &[u8]) -> TransactionAnswer
+pub fn skv_read_transaction(bytes: &[u8]) -> TransactionAnswer
     ensures { result ≡ of_transaction (read_transaction bytes.now) }
 {
     of_transaction(read_transaction(bytes))
 }
 
-#[unsafe(no_mangle)]
-pub extern "C" fn skv_write_transaction(
-    kind: u8,
-    start: u8,
-    bi: u8,
-    bc: u8,
-    out: &mut [u8],
-) -> Answer
+pub fn skv_write_transaction(kind: u8, start: u8, bi: u8, bc: u8, out: &mut [u8]) -> Answer
     ensures { Writes (write_transaction (transaction kind start bi bc) out.old) result out.new }
 {
     let x = Transaction {
@@ -85,22 +74,13 @@ pub extern "C" fn skv_write_transaction(
 }
 
 // The transaction of 8 bytes.
-#[unsafe(no_mangle)]
-pub extern "C" fn skv_read_later(bytes: &[u8]) -> TransactionAnswer
+pub fn skv_read_later(bytes: &[u8]) -> TransactionAnswer
     ensures { result ≡ of_transaction (read_later bytes.now) }
 {
     of_transaction(read_later(bytes))
 }
 
-#[unsafe(no_mangle)]
-pub extern "C" fn skv_write_later(
-    kind: u8,
-    start: u8,
-    bi: u8,
-    bc: u8,
-    arrival: u32,
-    out: &mut [u8],
-) -> Answer
+pub fn skv_write_later(kind: u8, start: u8, bi: u8, bc: u8, arrival: u32, out: &mut [u8]) -> Answer
     ensures { Writes (write_later (arriving (transaction kind start bi bc) arrival) out.old) result out.new }
 {
     let x = Transaction {
@@ -113,35 +93,25 @@ pub extern "C" fn skv_write_later(
     of_written(write_later(x, out))
 }
 
-#[unsafe(no_mangle)]
-pub extern "C" fn skv_read_command(bytes: &[u8]) -> CommandAnswer
+pub fn skv_read_command(bytes: &[u8]) -> CommandAnswer
     ensures { result ≡ of_command (read_command bytes.now) }
 {
     of_command(read_command(bytes))
 }
 
-#[unsafe(no_mangle)]
-pub extern "C" fn skv_write_command(
-    cycle: u32,
-    kind: u8,
-    bank: u8,
-    number: u16,
-    out: &mut [u8],
-) -> Answer
+pub fn skv_write_command(cycle: u32, kind: u8, bank: u8, number: u16, out: &mut [u8]) -> Answer
     ensures { Writes (write_command (command cycle (kind_of kind) bank number) out.old) result out.new }
 {
     of_written(write_command(cycle, kind, bank, number, out))
 }
 
-#[unsafe(no_mangle)]
-pub extern "C" fn skv_read_capture_record(bytes: &[u8]) -> CaptureRecordAnswer
+pub fn skv_read_capture_record(bytes: &[u8]) -> CaptureRecordAnswer
     ensures { result ≡ of_capture_record (read_capture_record bytes.now) }
 {
     of_capture_record(read_capture_record(bytes))
 }
 
-#[unsafe(no_mangle)]
-pub extern "C" fn skv_write_capture_record(stamp: u16, kind: u8, bank: u8, out: &mut [u8]) -> Answer
+pub fn skv_write_capture_record(stamp: u16, kind: u8, bank: u8, out: &mut [u8]) -> Answer
     ensures { Writes (write_capture_record (capture_record stamp kind bank) out.old) result out.new }
 {
     let x = CaptureRecord {

@@ -5,8 +5,7 @@ ghost use Rattle.host.specs.Promises.{PatternFound};
 use answers::patterns::{PatternAnswer, shortest_of};
 use judgements::patterns::shortest_pattern;
 
-#[unsafe(no_mangle)]
-pub extern "C" fn skv_shortest_pattern(
+pub fn skv_shortest_pattern(
     expected: u16,
     table: &[u8],
     kind: u8,

@@ -9,8 +9,7 @@ use desk::{read_later_transactions, read_transactions};
 use records::transaction::Transaction;
 
 // Those of 4 bytes. The transactions go to the run's start.
-#[unsafe(no_mangle)]
-pub extern "C" fn skv_read_transactions(
+pub fn skv_read_transactions(
     expected: u16,
     table: &[u8],
     bytes: &[u8],
@@ -22,8 +21,7 @@ pub extern "C" fn skv_read_transactions(
 }
 
 // Those of 8 bytes.
-#[unsafe(no_mangle)]
-pub extern "C" fn skv_read_later_transactions(
+pub fn skv_read_later_transactions(
     expected: u16,
     table: &[u8],
     bytes: &[u8],

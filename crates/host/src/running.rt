@@ -14,16 +14,14 @@ use desk::running::{run_bytes, run_later_bytes, start};
 use records::transaction::Transaction;
 
 // A refused start hands out a controller of edition 0, which no table has.
-#[unsafe(no_mangle)]
-pub extern "C" fn skv_start(expected: u16, table: &[u8]) -> StartAnswer
+pub fn skv_start(expected: u16, table: &[u8]) -> StartAnswer
     ensures { result ≡ start_of (starting (admitted expected table.now)) }
 {
     start_of(start(expected, table))
 }
 
 // The controller handed in and back, over the bytes of transactions of 4.
-#[unsafe(no_mangle)]
-pub extern "C" fn skv_run_bytes(
+pub fn skv_run_bytes(
     c: Controller,
     expected: u16,
     table: &[u8],
@@ -37,8 +35,7 @@ pub extern "C" fn skv_run_bytes(
 }
 
 // Of transactions of 8 bytes.
-#[unsafe(no_mangle)]
-pub extern "C" fn skv_run_later_bytes(
+pub fn skv_run_later_bytes(
     c: Controller,
     expected: u16,
     table: &[u8],
@@ -52,8 +49,7 @@ pub extern "C" fn skv_run_later_bytes(
 }
 
 // "The host lends its running controller": it is run where it lies, over a lent run of records.
-#[unsafe(no_mangle)]
-pub extern "C" fn skv_run(
+pub fn skv_run(
     c: &mut Controller,
     expected: u16,
     table: &[u8],
@@ -67,8 +63,7 @@ pub extern "C" fn skv_run(
 }
 
 // One cycle.
-#[unsafe(no_mangle)]
-pub extern "C" fn skv_step(
+pub fn skv_step(
     c: &mut Controller,
     expected: u16,
     table: &[u8],

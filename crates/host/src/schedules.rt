@@ -11,8 +11,7 @@ use desk::schedules::{schedule_bytes, schedule_later_bytes};
 use records::transaction::Transaction;
 
 // Of transactions of 4 bytes.
-#[unsafe(no_mangle)]
-pub extern "C" fn skv_schedule_bytes(
+pub fn skv_schedule_bytes(
     expected: u16,
     table: &[u8],
     list: &[u8],
@@ -25,8 +24,7 @@ pub extern "C" fn skv_schedule_bytes(
 }
 
 // Of transactions of 8 bytes.
-#[unsafe(no_mangle)]
-pub extern "C" fn skv_schedule_later_bytes(
+pub fn skv_schedule_later_bytes(
     expected: u16,
     table: &[u8],
     list: &[u8],
@@ -39,8 +37,7 @@ pub extern "C" fn skv_schedule_later_bytes(
 }
 
 // Of a lent run of records.
-#[unsafe(no_mangle)]
-pub extern "C" fn skv_schedule(
+pub fn skv_schedule(
     expected: u16,
     table: &[u8],
     list: &[Transaction],

@@ -16,8 +16,7 @@ use desk::{run_straight, schedule_straight};
 use records::transaction::Transaction;
 
 // The schedule, of transactions of 4 bytes.
-#[unsafe(no_mangle)]
-pub extern "C" fn skv_schedule_straight_bytes(
+pub fn skv_schedule_straight_bytes(
     expected: u16,
     table: &[u8],
     list: &[u8],
@@ -30,8 +29,7 @@ pub extern "C" fn skv_schedule_straight_bytes(
 }
 
 // Of transactions of 8 bytes.
-#[unsafe(no_mangle)]
-pub extern "C" fn skv_schedule_straight_later_bytes(
+pub fn skv_schedule_straight_later_bytes(
     expected: u16,
     table: &[u8],
     list: &[u8],
@@ -44,8 +42,7 @@ pub extern "C" fn skv_schedule_straight_later_bytes(
 }
 
 // Of a lent run of records.
-#[unsafe(no_mangle)]
-pub extern "C" fn skv_schedule_straight(
+pub fn skv_schedule_straight(
     expected: u16,
     table: &[u8],
     list: &[Transaction],
@@ -58,8 +55,7 @@ pub extern "C" fn skv_schedule_straight(
 }
 
 // The controller handed in and back, over the bytes of transactions of 4.
-#[unsafe(no_mangle)]
-pub extern "C" fn skv_run_straight_bytes(
+pub fn skv_run_straight_bytes(
     c: Controller,
     expected: u16,
     table: &[u8],
@@ -73,8 +69,7 @@ pub extern "C" fn skv_run_straight_bytes(
 }
 
 // Of transactions of 8 bytes.
-#[unsafe(no_mangle)]
-pub extern "C" fn skv_run_straight_later_bytes(
+pub fn skv_run_straight_later_bytes(
     c: Controller,
     expected: u16,
     table: &[u8],
@@ -88,8 +83,7 @@ pub extern "C" fn skv_run_straight_later_bytes(
 }
 
 // The controller run where it lies, over a lent run of records.
-#[unsafe(no_mangle)]
-pub extern "C" fn skv_run_straight(
+pub fn skv_run_straight(
     c: &mut Controller,
     expected: u16,
     table: &[u8],
@@ -103,8 +97,7 @@ pub extern "C" fn skv_run_straight(
 }
 
 // One cycle.
-#[unsafe(no_mangle)]
-pub extern "C" fn skv_step_straight(
+pub fn skv_step_straight(
     c: &mut Controller,
     expected: u16,
     table: &[u8],

@@ -11,21 +11,14 @@ use records::transaction::Transaction;
 use verdict_answers::verdict::{ServesAnswer, serves_of};
 
 // Of transactions of 4 bytes.
-#[unsafe(no_mangle)]
-pub extern "C" fn skv_serves_bytes(
-    expected: u16,
-    table: &[u8],
-    list: &[u8],
-    schedule: &[u8],
-) -> ServesAnswer
+pub fn skv_serves_bytes(expected: u16, table: &[u8], list: &[u8], schedule: &[u8]) -> ServesAnswer
     ensures { ServesSaid (λ τ. check_bytes false τ list.now) (admitted expected table.now) (transactions_in list.now) schedule.now result }
 {
     serves_of(serves_bytes(expected, table, list, schedule))
 }
 
 // Of transactions of 8 bytes.
-#[unsafe(no_mangle)]
-pub extern "C" fn skv_serves_later_bytes(
+pub fn skv_serves_later_bytes(
     expected: u16,
     table: &[u8],
     list: &[u8],
@@ -37,8 +30,7 @@ pub extern "C" fn skv_serves_later_bytes(
 }
 
 // Of a lent run of records.
-#[unsafe(no_mangle)]
-pub extern "C" fn skv_serves(
+pub fn skv_serves(
     expected: u16,
     table: &[u8],
     list: &[Transaction],

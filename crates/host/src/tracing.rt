@@ -6,8 +6,7 @@ ghost use Rattle.host.specs.Promises.{Traces};
 use judgements::tracing::judge_capture;
 use verdict_answers::verdict::{CaptureAnswer, capture_of};
 
-#[unsafe(no_mangle)]
-pub extern "C" fn skv_judge_capture(
+pub fn skv_judge_capture(
     expected: u16,
     table: &[u8],
     capture: &[u8],

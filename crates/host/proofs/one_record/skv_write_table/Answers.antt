@@ -1,0 +1,5 @@
+use borrow.Author.Rules.{rules}
+use Rattle.host.proofs.one_record.skv_write_table.Goals as goal
+
+pub returns : goal.returns
+returns c = (rw c.write_table.ensures.0 at c.of_written.ensures, c.write_table.ensures.1)
