@@ -6,17 +6,31 @@ use controller::run::RunTold;
 use desk::{read_later_transactions, read_transactions, run, schedule, serves, step};
 use records::transaction::Transaction;
 use serves::answer::ServesAnswer;
+use std::io;
+use std::io::Write;
 
-pub(crate) fn lent_read(expected: u16, table: &[u8], bytes: &[u8], list: [Transaction; 3]) {
+pub(crate) fn lent_read<W: Write>(
+    out: &mut W,
+    expected: u16,
+    table: &[u8],
+    bytes: &[u8],
+    list: [Transaction; 3],
+) -> io::Result<()> {
     let mut places = list;
     let answer = read_transactions(expected, table, bytes, &mut places[..]);
-    decoded(answer, places);
+    decoded(out, answer, places)
 }
 
-pub(crate) fn lent_read_later(expected: u16, table: &[u8], bytes: &[u8], list: [Transaction; 3]) {
+pub(crate) fn lent_read_later<W: Write>(
+    out: &mut W,
+    expected: u16,
+    table: &[u8],
+    bytes: &[u8],
+    list: [Transaction; 3],
+) -> io::Result<()> {
     let mut places = list;
     let answer = read_later_transactions(expected, table, bytes, &mut places[..]);
-    decoded(answer, places);
+    decoded(out, answer, places)
 }
 
 pub(crate) fn lent_schedule(

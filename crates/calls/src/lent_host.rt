@@ -7,18 +7,32 @@ use host::running::{skv_run, skv_step};
 use host::schedules::skv_schedule;
 use host::serving::skv_serves;
 use records::transaction::Transaction;
+use std::io;
+use std::io::Write;
 use verdict_answers::verdict::ServesAnswer;
 
-pub(crate) fn host_read(expected: u16, table: &[u8], bytes: &[u8], list: [Transaction; 3]) {
+pub(crate) fn host_read<W: Write>(
+    out: &mut W,
+    expected: u16,
+    table: &[u8],
+    bytes: &[u8],
+    list: [Transaction; 3],
+) -> io::Result<()> {
     let mut places = list;
     let answer = skv_read_transactions(expected, table, bytes, &mut places[..]);
-    answered(answer, places);
+    answered(out, answer, places)
 }
 
-pub(crate) fn host_read_later(expected: u16, table: &[u8], bytes: &[u8], list: [Transaction; 3]) {
+pub(crate) fn host_read_later<W: Write>(
+    out: &mut W,
+    expected: u16,
+    table: &[u8],
+    bytes: &[u8],
+    list: [Transaction; 3],
+) -> io::Result<()> {
     let mut places = list;
     let answer = skv_read_later_transactions(expected, table, bytes, &mut places[..]);
-    answered(answer, places);
+    answered(out, answer, places)
 }
 
 pub(crate) fn host_schedule(

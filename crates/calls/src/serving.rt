@@ -7,78 +7,85 @@ use prints::{long, number, text};
 use promises::numbers::rule_number;
 use records::transaction::Transaction;
 use serves::answer::Served;
+use std::io;
+use std::io::Write;
 use verdict_answers::verdict::ServesAnswer;
 
 // The four calls, on a list, the bytes of another, and a schedule.
-pub(crate) fn asked(
+pub(crate) fn asked<W: Write>(
+    out: &mut W,
     expected: u16,
     table: &[u8],
     list: [Transaction; 3],
     bytes: &[u8],
     commands: &[u8],
-) {
-    text(b"serves");
-    told(lent_serves(expected, table, list, commands));
-    text(b"skv_serves");
-    host_told(host_serves(expected, table, list, commands));
-    text(b"skv_serves_bytes");
-    host_told(skv_serves_bytes(expected, table, bytes, commands));
-    text(b"skv_serves_later_bytes");
-    host_told(skv_serves_later_bytes(expected, table, bytes, commands));
+) -> io::Result<()> {
+    text(out, b"serves")?;
+    told(out, lent_serves(expected, table, list, commands))?;
+    text(out, b"skv_serves")?;
+    host_told(out, host_serves(expected, table, list, commands))?;
+    text(out, b"skv_serves_bytes")?;
+    host_told(out, skv_serves_bytes(expected, table, bytes, commands))?;
+    text(out, b"skv_serves_later_bytes")?;
+    host_told(
+        out,
+        skv_serves_later_bytes(expected, table, bytes, commands),
+    )
 }
 
 // The schedule of one list, of five commands, is asked about with other lists.
-pub(crate) fn asked_built(
+pub(crate) fn asked_built<W: Write>(
+    out: &mut W,
     table: &[u8],
     one: [Transaction; 3],
     list: [Transaction; 3],
     bytes: &[u8],
-) {
-    text(b"schedule");
+) -> io::Result<()> {
+    text(out, b"schedule")?;
     let mut room = [0u8; 40];
     let mut places = [9u32; 3];
     let commands = &mut room[..];
     let finishes = &mut places[..];
-    built(lent_schedule(7, table, one, commands, finishes));
-    text(b"\n");
-    asked(7, table, list, bytes, commands);
+    built(out, lent_schedule(7, table, one, commands, finishes))?;
+    text(out, b"\n")?;
+    asked(out, 7, table, list, bytes, commands)
 }
 
-fn told(a: serves::answer::ServesAnswer) {
+fn told<W: Write>(out: &mut W, a: serves::answer::ServesAnswer) -> io::Result<()> {
     match a {
         serves::answer::ServesAnswer::Told(edition, said) => {
-            number(edition);
-            served(said);
+            number(out, edition)?;
+            served(out, said)
         }
         serves::answer::ServesAnswer::Refused(r) => {
-            refused(r);
-            text(b"\n");
+            refused(out, r)?;
+            text(out, b"\n")
         }
     }
 }
 
-fn served(a: Served) {
+fn served<W: Write>(out: &mut W, a: Served) -> io::Result<()> {
     match a {
-        Served::Serves => text(b"\n"),
+        Served::Serves => text(out, b"\n"),
         Served::Refused(x, i) => {
-            long(rule_number(x));
-            long(i);
-            text(b"\n");
+            long(out, rule_number(x))?;
+            long(out, i)?;
+            text(out, b"\n")
         }
         Served::AtFault(x) => {
-            long(x);
-            text(b"\n");
+            long(out, x)?;
+            text(out, b"\n")
         }
     }
 }
 
-fn host_told(a: ServesAnswer) {
-    long(a.refused);
-    long(a.position);
-    long(a.edition);
-    long(a.serves);
-    long(a.rule);
-    long(a.record);
-    long(a.transaction);
-    text(b"\n");
+fn host_told<W: Write>(out: &mut W, a: ServesAnswer) -> io::Result<()> {
+    long(out, a.refused)?;
+    long(out, a.position)?;
+    long(out, a.edition)?;
+    long(out, a.serves)?;
+    long(out, a.rule)?;
+    long(out, a.record)?;
+    long(out, a.transaction)?;
+    text(out, b"\n")
 }

@@ -7,109 +7,111 @@ use promises::numbers::rule_number;
 use records::refusal::{Refusal, Written};
 use records::table::TableRead;
 use rules::verdict::{PatternVerdict, Rule, Verdict};
+use std::io;
+use std::io::Write;
 
-pub(crate) fn written(answer: Written) {
+pub(crate) fn written<W: Write>(out: &mut W, answer: Written) -> io::Result<()> {
     match answer {
         Written::Done(e) => {
-            text(b"written, ");
-            edition(e);
-            text(b"\n");
+            text(out, b"written, ")?;
+            edition(out, e)?;
+            text(out, b"\n")
         }
-        Written::Refused(r) => refused(r),
+        Written::Refused(r) => refused(out, r),
     }
 }
 
-pub(crate) fn read(answer: TableRead) {
+pub(crate) fn read<W: Write>(out: &mut W, answer: TableRead) -> io::Result<()> {
     match answer {
         TableRead::Read(t) => {
-            edition(t.edition);
-            text(b"\n");
+            edition(out, t.edition)?;
+            text(out, b"\n")
         }
-        TableRead::Refused(r) => refused(r),
+        TableRead::Refused(r) => refused(out, r),
     }
 }
 
-pub(crate) fn bounded(answer: BoundAnswer) {
+pub(crate) fn bounded<W: Write>(out: &mut W, answer: BoundAnswer) -> io::Result<()> {
     match answer {
         BoundAnswer::Bound(e, cycles) => {
-            edition(e);
-            text(b" bound ");
-            first(cycles);
-            text(b"\n");
+            edition(out, e)?;
+            text(out, b" bound ")?;
+            first(out, cycles)?;
+            text(out, b"\n")
         }
-        BoundAnswer::Refused(r) => refused(r),
+        BoundAnswer::Refused(r) => refused(out, r),
     }
 }
 
-pub(crate) fn built(answer: BuildAnswer) {
+pub(crate) fn built<W: Write>(out: &mut W, answer: BuildAnswer) -> io::Result<()> {
     match answer {
         BuildAnswer::Built(e, commands) => {
-            edition(e);
-            text(b" commands");
-            count(commands);
-            text(b"\n");
+            edition(out, e)?;
+            text(out, b" commands")?;
+            count(out, commands)?;
+            text(out, b"\n")
         }
-        BuildAnswer::Refused(r) => refused(r),
+        BuildAnswer::Refused(r) => refused(out, r),
     }
 }
 
-pub(crate) fn judged(answer: Judged) {
+pub(crate) fn judged<W: Write>(out: &mut W, answer: Judged) -> io::Result<()> {
     match answer {
         Judged::Verdict(e, v) => {
-            edition(e);
-            verdict(v);
+            edition(out, e)?;
+            verdict(out, v)
         }
-        Judged::Refused(r) => refused(r),
+        Judged::Refused(r) => refused(out, r),
     }
 }
 
-fn verdict(v: Verdict) {
+fn verdict<W: Write>(out: &mut W, v: Verdict) -> io::Result<()> {
     match v {
-        Verdict::Accepted => text(b" accepted\n"),
-        Verdict::Refused(x, record) => broken(record, x),
+        Verdict::Accepted => text(out, b" accepted\n"),
+        Verdict::Refused(x, record) => broken(out, record, x),
     }
 }
 
-pub(crate) fn repeated(answer: PatternJudged) {
+pub(crate) fn repeated<W: Write>(out: &mut W, answer: PatternJudged) -> io::Result<()> {
     match answer {
         PatternJudged::Verdict(e, v) => {
-            edition(e);
-            pattern_verdict(v);
+            edition(out, e)?;
+            pattern_verdict(out, v)
         }
-        PatternJudged::Refused(r) => refused(r),
+        PatternJudged::Refused(r) => refused(out, r),
     }
 }
 
-fn pattern_verdict(v: PatternVerdict) {
+fn pattern_verdict<W: Write>(out: &mut W, v: PatternVerdict) -> io::Result<()> {
     match v {
-        PatternVerdict::Accepted => text(b" accepted\n"),
+        PatternVerdict::Accepted => text(out, b" accepted\n"),
         PatternVerdict::Refused(x, copy, record) => {
-            text(b" copy ");
-            first(copy);
-            broken(record, x);
+            text(out, b" copy ")?;
+            first(out, copy)?;
+            broken(out, record, x)
         }
     }
 }
 
-fn broken(record: u32, x: Rule) {
-    text(b" record ");
-    first(record);
-    text(b" rule ");
-    first(rule_number(x));
-    text(b"\n");
+fn broken<W: Write>(out: &mut W, record: u32, x: Rule) -> io::Result<()> {
+    text(out, b" record ")?;
+    first(out, record)?;
+    text(out, b" rule ")?;
+    first(out, rule_number(x))?;
+    text(out, b"\n")
 }
 
-fn refused(r: Refusal) {
-    text(b"refused ");
-    first(r.number as u32);
-    text(b" at ");
-    first(r.position);
-    text(b" ");
-    edition(r.edition);
-    text(b"\n");
+fn refused<W: Write>(out: &mut W, r: Refusal) -> io::Result<()> {
+    text(out, b"refused ")?;
+    first(out, r.number as u32)?;
+    text(out, b" at ")?;
+    first(out, r.position)?;
+    text(out, b" ")?;
+    edition(out, r.edition)?;
+    text(out, b"\n")
 }
 
-fn edition(e: u16) {
-    text(b"edition ");
-    first(e as u32);
+fn edition<W: Write>(out: &mut W, e: u16) -> io::Result<()> {
+    text(out, b"edition ")?;
+    first(out, e as u32)
 }

@@ -9,30 +9,31 @@
 
 mod told;
 
-ghost use Rattle.std.specs.Prelude.{◌≡◌, ◌≤◌, length};
-ghost use Rattle.io.specs.Counts.{IsPrefixLen};
+ghost use Rattle.std.specs.Prelude.{◌≡◌, ◌≤◌, length, take};
 
 use desk::{
     read_command, read_later, read_table, read_transaction, write_command, write_group_table,
     write_later, write_table, write_transaction,
 };
-use libc::STDIN_FILENO;
 use prints::{refused, text};
+use reads::read_full;
 use records::command::CommandRead;
 use records::little::{from_le32, num_at};
 use records::table::TableRead;
 use records::transaction::TransactionRead;
+use std::io;
+use std::io::Write;
 use told::{command, later, numbers, transaction, written};
 use transactions::later::later_at;
 use transactions::transaction::transaction_at;
 
-fn main() {
-    let mut input = io::large_buffer();
-    let n = io::read_full(STDIN_FILENO, &mut input);
-    all_cases(&input[..n]);
+fn main(rt: HostRuntime) -> io::Result<()> {
+    let mut input = [0u8; 65536];
+    let n = read_full(&mut rt.stdin(), &mut input)?;
+    all_cases(&mut rt.stdout(), &input[..n])
 }
 
-fn all_cases(s: &[u8]) {
+fn all_cases<W: Write>(out: &mut W, s: &[u8]) -> io::Result<()> {
     let mut at = 0;
     while 2 <= s.len() - at {
         let from = at + 2;
@@ -41,12 +42,13 @@ fn all_cases(s: &[u8]) {
             break;
         }
         let end = from + n;
-        one_case(s[at], &s[from..end]);
+        one_case(out, s[at], &s[from..end])?;
         at = end;
     }
     if at < s.len() {
-        no_case();
+        no_case(out)?;
     }
+    Ok(())
 }
 
 fn size(n: u8) -> usize
@@ -55,146 +57,136 @@ fn size(n: u8) -> usize
     n as usize
 }
 
-fn one_case(call: u8, s: &[u8]) {
+fn one_case<W: Write>(out: &mut W, call: u8, s: &[u8]) -> io::Result<()> {
     match call {
-        1 => table_line(read_table(s)),
-        2 => write_table_line(s),
-        3 => transaction_line(read_transaction(s)),
-        4 => write_transaction_line(s),
-        5 => command_line(read_command(s)),
-        6 => write_command_line(s),
-        7 => write_group_table_line(s),
-        8 => later_line(read_later(s)),
-        9 => write_later_line(s),
-        _ => no_case(),
+        1 => table_line(out, read_table(s)),
+        2 => write_table_line(out, s),
+        3 => transaction_line(out, read_transaction(s)),
+        4 => write_transaction_line(out, s),
+        5 => command_line(out, read_command(s)),
+        6 => write_command_line(out, s),
+        7 => write_group_table_line(out, s),
+        8 => later_line(out, read_later(s)),
+        9 => write_later_line(out, s),
+        _ => no_case(out),
     }
 }
 
-fn no_case() {
-    text(b"case\n");
+fn no_case<W: Write>(out: &mut W) -> io::Result<()> {
+    text(out, b"case\n")
 }
 
-fn table_line(answer: TableRead) {
-    text(b"read_table");
+fn table_line<W: Write>(out: &mut W, answer: TableRead) -> io::Result<()> {
+    text(out, b"read_table")?;
     match answer {
-        TableRead::Read(t) => numbers(t),
-        TableRead::Refused(r) => refused(r),
+        TableRead::Read(t) => numbers(out, t)?,
+        TableRead::Refused(r) => refused(out, r)?,
     }
-    text(b"\n");
+    text(out, b"\n")
 }
 
-fn transaction_line(answer: TransactionRead) {
-    text(b"read_transaction");
+fn transaction_line<W: Write>(out: &mut W, answer: TransactionRead) -> io::Result<()> {
+    text(out, b"read_transaction")?;
     match answer {
-        TransactionRead::Read(x) => transaction(x),
-        TransactionRead::Refused(r) => refused(r),
+        TransactionRead::Read(x) => transaction(out, x)?,
+        TransactionRead::Refused(r) => refused(out, r)?,
     }
-    text(b"\n");
+    text(out, b"\n")
 }
 
-fn later_line(answer: TransactionRead) {
-    text(b"read_later");
+fn later_line<W: Write>(out: &mut W, answer: TransactionRead) -> io::Result<()> {
+    text(out, b"read_later")?;
     match answer {
-        TransactionRead::Read(x) => later(x),
-        TransactionRead::Refused(r) => refused(r),
+        TransactionRead::Read(x) => later(out, x)?,
+        TransactionRead::Refused(r) => refused(out, r)?,
     }
-    text(b"\n");
+    text(out, b"\n")
 }
 
-fn command_line(answer: CommandRead) {
-    text(b"read_command");
+fn command_line<W: Write>(out: &mut W, answer: CommandRead) -> io::Result<()> {
+    text(out, b"read_command")?;
     match answer {
-        CommandRead::Read(c) => command(c),
-        CommandRead::Refused(r) => refused(r),
+        CommandRead::Read(c) => command(out, c)?,
+        CommandRead::Refused(r) => refused(out, r)?,
     }
-    text(b"\n");
+    text(out, b"\n")
 }
 
-fn write_table_line(s: &[u8]) {
+fn write_table_line<W: Write>(out: &mut W, s: &[u8]) -> io::Result<()> {
     let from = 32;
     if s.len() < from {
-        no_case();
-        return;
+        return no_case(out);
     }
     if 64 < s.len() - from {
-        no_case();
-        return;
+        return no_case(out);
     }
     let mut space = [0u8; 64];
     let n = fill(&s[from..], &mut space);
     let room = &mut space[..n];
     let values = sixteen(s);
     let answer = write_table(values, room);
-    text(b"write_table");
-    written(answer, room);
+    text(out, b"write_table")?;
+    written(out, answer, room)
 }
 
-fn write_group_table_line(s: &[u8]) {
+fn write_group_table_line<W: Write>(out: &mut W, s: &[u8]) -> io::Result<()> {
     let from = 40;
     if s.len() < from {
-        no_case();
-        return;
+        return no_case(out);
     }
     if 64 < s.len() - from {
-        no_case();
-        return;
+        return no_case(out);
     }
     let mut space = [0u8; 64];
     let n = fill(&s[from..], &mut space);
     let room = &mut space[..n];
     let values = twenty(s);
     let answer = write_group_table(values, room);
-    text(b"write_group_table");
-    written(answer, room);
+    text(out, b"write_group_table")?;
+    written(out, answer, room)
 }
 
-fn write_transaction_line(s: &[u8]) {
+fn write_transaction_line<W: Write>(out: &mut W, s: &[u8]) -> io::Result<()> {
     let from = 4;
     if s.len() < from {
-        no_case();
-        return;
+        return no_case(out);
     }
     if 64 < s.len() - from {
-        no_case();
-        return;
+        return no_case(out);
     }
     let mut space = [0u8; 64];
     let n = fill(&s[from..], &mut space);
     let room = &mut space[..n];
     let x = transaction_at(s, 0);
     let answer = write_transaction(x, room);
-    text(b"write_transaction");
-    written(answer, room);
+    text(out, b"write_transaction")?;
+    written(out, answer, room)
 }
 
-fn write_later_line(s: &[u8]) {
+fn write_later_line<W: Write>(out: &mut W, s: &[u8]) -> io::Result<()> {
     let from = 8;
     if s.len() < from {
-        no_case();
-        return;
+        return no_case(out);
     }
     if 64 < s.len() - from {
-        no_case();
-        return;
+        return no_case(out);
     }
     let mut space = [0u8; 64];
     let n = fill(&s[from..], &mut space);
     let room = &mut space[..n];
     let x = later_at(s, 0);
     let answer = write_later(x, room);
-    text(b"write_later");
-    written(answer, room);
+    text(out, b"write_later")?;
+    written(out, answer, room)
 }
 
-fn write_command_line(s: &[u8]) {
+fn write_command_line<W: Write>(out: &mut W, s: &[u8]) -> io::Result<()> {
     let from = 8;
     if s.len() < from {
-        no_case();
-        return;
+        return no_case(out);
     }
     if 64 < s.len() - from {
-        no_case();
-        return;
+        return no_case(out);
     }
     let mut space = [0u8; 64];
     let n = fill(&s[from..], &mut space);
@@ -202,8 +194,8 @@ fn write_command_line(s: &[u8]) {
     let cycle = from_le32(s[0], s[1], s[2], s[3]);
     let number = num_at(s, 6);
     let answer = write_command(cycle, s[4], s[5], number, room);
-    text(b"write_command");
-    written(answer, room);
+    text(out, b"write_command")?;
+    written(out, answer, room)
 }
 
 // The numbers of a table, in range or not.
@@ -245,7 +237,8 @@ fn twenty(s: &[u8]) -> [u16; 20]
 // Copies the bytes to the room's start, and answers how many they are.
 fn fill(s: &[u8], room: &mut [u8]) -> usize
     requires { length s.now ≤ length room.old }
-    ensures { IsPrefixLen result room.new }
+    ensures in_bounds { result ≤ length room.new }
+    ensures prefix { result ≡ length (take result room.new) }
 {
     let mut i = 0;
     while i < s.len() {

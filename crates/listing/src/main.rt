@@ -2,17 +2,19 @@
 // input than 65,536 bytes is not read: it is over 256 transactions, however it goes on.
 #![tactic(auto)]
 
-use libc::{STDIN_FILENO, STDOUT_FILENO};
 use listed::listing_of;
+use reads::read_full;
+use std::io;
+use std::io::Write;
 
-fn main() {
-    let mut input = io::large_buffer();
-    let n = io::read_full(STDIN_FILENO, &mut input);
-    list(&input[..n]);
+fn main(rt: HostRuntime) -> io::Result<()> {
+    let mut input = [0u8; 65536];
+    let n = read_full(&mut rt.stdin(), &mut input)?;
+    list(&mut rt.stdout(), &input[..n])
 }
 
-fn list(input: &[u8]) {
-    let mut out = [0u8; 262144];
-    let n = listing_of(input, &mut out);
-    io::write_all(STDOUT_FILENO, &out[..n]);
+fn list<W: Write>(out: &mut W, input: &[u8]) -> io::Result<()> {
+    let mut text = [0u8; 262144];
+    let n = listing_of(input, &mut text);
+    out.write_all(&text[..n])
 }

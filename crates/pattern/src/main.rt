@@ -2,17 +2,19 @@
 // that were read. More input than 64 bytes is not read: its table is too long, however it goes on.
 #![tactic(auto)]
 
-use libc::{STDIN_FILENO, STDOUT_FILENO};
 use patterned::pattern_of;
+use reads::read_full;
+use std::io;
+use std::io::Write;
 
-fn main() {
+fn main(rt: HostRuntime) -> io::Result<()> {
     let mut input = [0u8; 64];
-    let n = io::read_full(STDIN_FILENO, &mut input);
-    tell(&input[..n]);
+    let n = read_full(&mut rt.stdin(), &mut input)?;
+    tell(&mut rt.stdout(), &input[..n])
 }
 
-fn tell(input: &[u8]) {
-    let mut out = [0u8; 256];
-    let n = pattern_of(input, &mut out);
-    io::write_all(STDOUT_FILENO, &out[..n]);
+fn tell<W: Write>(out: &mut W, input: &[u8]) -> io::Result<()> {
+    let mut text = [0u8; 256];
+    let n = pattern_of(input, &mut text);
+    out.write_all(&text[..n])
 }

@@ -6,17 +6,19 @@
 
 ghost use Rattle.std.specs.Prelude.{◌≡◌};
 
-use libc::{STDIN_FILENO, STDOUT_FILENO};
 use patterned::pattern_of;
+use reads::read_full;
 use records::little::num_at;
+use std::io;
+use std::io::Write;
 
-fn main() {
-    let mut input = io::large_buffer();
-    let n = io::read_full(STDIN_FILENO, &mut input);
-    all_cases(&input[..n]);
+fn main(rt: HostRuntime) -> io::Result<()> {
+    let mut input = [0u8; 65536];
+    let n = read_full(&mut rt.stdin(), &mut input)?;
+    all_cases(&mut rt.stdout(), &input[..n])
 }
 
-fn all_cases(s: &[u8]) {
+fn all_cases<W: Write>(out: &mut W, s: &[u8]) -> io::Result<()> {
     let mut at = 0;
     while 2 <= s.len() - at {
         let from = at + 2;
@@ -25,9 +27,10 @@ fn all_cases(s: &[u8]) {
             break;
         }
         let end = from + n;
-        tell(&s[from..end]);
+        tell(out, &s[from..end])?;
         at = end;
     }
+    Ok(())
 }
 
 fn size(n: u16) -> usize
@@ -36,9 +39,9 @@ fn size(n: u16) -> usize
     n as usize
 }
 
-fn tell(input: &[u8]) {
-    let mut out = [0u8; 256];
-    let n = pattern_of(input, &mut out);
-    io::write_all(STDOUT_FILENO, b"case\n");
-    io::write_all(STDOUT_FILENO, &out[..n]);
+fn tell<W: Write>(out: &mut W, input: &[u8]) -> io::Result<()> {
+    let mut text = [0u8; 256];
+    let n = pattern_of(input, &mut text);
+    out.write_all(b"case\n")?;
+    out.write_all(&text[..n])
 }

@@ -1,60 +1,60 @@
-// What the programs of stored cases share of their printing, straight to standard output. What is printed no contract can say: it is held to the
+// What the programs of stored cases share of their printing, to the writer that they pass. What is printed no contract says: it is held to the
 // stored output. The text of the listing, of the trace and of a pattern, which is proved, is `text`'s and `lines`'s.
 #![tactic(auto)]
 
-use libc::STDOUT_FILENO;
 use records::refusal::Refusal;
+use std::io;
+use std::io::Write;
 
-pub fn refused(r: Refusal) {
-    text(b" refused");
-    refusal(r);
+pub fn refused<W: Write>(out: &mut W, r: Refusal) -> io::Result<()> {
+    text(out, b" refused")?;
+    refusal(out, r)
 }
 
-pub fn refusal(r: Refusal) {
-    small(r.number);
-    text(b" at");
-    long(r.position);
-    text(b" edition");
-    number(r.edition);
+pub fn refusal<W: Write>(out: &mut W, r: Refusal) -> io::Result<()> {
+    small(out, r.number)?;
+    text(out, b" at")?;
+    long(out, r.position)?;
+    text(out, b" edition")?;
+    number(out, r.edition)
 }
 
 // Each byte as two digits.
-pub fn hex(room: &[u8]) {
-    let mut i = 0;
-    while i < room.len() {
-        byte(room[i]);
-        i += 1;
+pub fn hex<W: Write>(out: &mut W, room: &[u8]) -> io::Result<()> {
+    for b in room {
+        byte(out, *b)?;
     }
+    Ok(())
 }
 
-fn byte(b: u8) {
-    io::print_hex(STDOUT_FILENO, b as u64, 2);
+fn byte<W: Write>(out: &mut W, b: u8) -> io::Result<()> {
+    write!(out, "{b:02x}")
 }
 
 // A number after a space, of each width.
-pub fn small(n: u8) {
-    long(n as u32);
+pub fn small<W: Write>(out: &mut W, n: u8) -> io::Result<()> {
+    long(out, n as u32)
 }
 
-pub fn number(n: u16) {
-    long(n as u32);
+pub fn number<W: Write>(out: &mut W, n: u16) -> io::Result<()> {
+    long(out, n as u32)
 }
 
-pub fn long(n: u32) {
-    text(b" ");
-    first(n);
+pub fn long<W: Write>(out: &mut W, n: u32) -> io::Result<()> {
+    text(out, b" ")?;
+    first(out, n)
 }
 
-pub fn count(n: usize) {
-    text(b" ");
-    io::print_decimal(STDOUT_FILENO, n as u64);
+pub fn count<W: Write>(out: &mut W, n: usize) -> io::Result<()> {
+    text(out, b" ")?;
+    write!(out, "{n}")
 }
 
 // A line's first number.
-pub fn first(n: u32) {
-    io::print_decimal(STDOUT_FILENO, n as u64);
+pub fn first<W: Write>(out: &mut W, n: u32) -> io::Result<()> {
+    write!(out, "{n}")
 }
 
-pub fn text(s: &[u8]) {
-    io::write_all(STDOUT_FILENO, s);
+pub fn text<W: Write>(out: &mut W, s: &[u8]) -> io::Result<()> {
+    out.write_all(s)
 }

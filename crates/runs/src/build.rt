@@ -1,6 +1,5 @@
 // The lines of a build.
-ghost use Rattle.std.specs.Prelude.{◌≡◌, ◌*◌, ◌≤◌, length};
-ghost use Rattle.io.specs.Counts.{IsPrefixLen};
+ghost use Rattle.std.specs.Prelude.{◌≡◌, ◌*◌, ◌≤◌, length, take};
 ghost use Rattle.records.specs.Transaction.{record_count, list_of};
 ghost use Rattle.lists.specs.Check.{check_bytes};
 ghost use Rattle.promises.specs.Admit.{admitted};
@@ -10,11 +9,21 @@ use crate::told::{command_lines, name, refused_line, room_in};
 use builder::build::BuildAnswer;
 use desk::{schedule_bytes, schedule_later_bytes};
 use prints::{count, long, number, text};
+use std::io;
+use std::io::Write;
 
 // The transactions have 8 bytes where `later`, else 4. A list that fits has at most 256 of them, so that more slots than 256 are as good as 256.
-pub(crate) fn lines(later: bool, expected: u16, table: &[u8], room: u16, slots: u16, list: &[u8]) {
-    name(b"build", later);
-    let mut bytes = io::large_buffer();
+pub(crate) fn lines<W: Write>(
+    out: &mut W,
+    later: bool,
+    expected: u16,
+    table: &[u8],
+    room: u16,
+    slots: u16,
+    list: &[u8],
+) -> io::Result<()> {
+    name(out, b"build", later)?;
+    let mut bytes = [0u8; 65536];
     let mut places = [0u32; 256];
     let k = room_in(room, &bytes);
     let m = places_in(slots, &places);
@@ -23,8 +32,8 @@ pub(crate) fn lines(later: bool, expected: u16, table: &[u8], room: u16, slots: 
     let n = count_of(later, list);
     let answer = schedule_of(expected, table, later, list, commands, finishes);
     match answer {
-        BuildAnswer::Built(edition, written) => built(edition, commands, written, finishes, n),
-        BuildAnswer::Refused(r) => refused_line(r),
+        BuildAnswer::Built(edition, written) => built(out, edition, commands, written, finishes, n),
+        BuildAnswer::Refused(r) => refused_line(out, r),
     }
 }
 
@@ -53,39 +62,48 @@ fn schedule_of(
     schedule_bytes(expected, table, list, commands, finishes)
 }
 
-fn built(edition: u16, commands: &[u8], written: usize, finishes: &[u32], n: usize)
+fn built<W: Write>(
+    out: &mut W,
+    edition: u16,
+    commands: &[u8],
+    written: usize,
+    finishes: &[u32],
+    n: usize,
+) -> io::Result<()>
     requires { (8 * written ≤ length commands.now) × (n ≤ length finishes.now) }
 {
-    text(b" edition");
-    number(edition);
-    text(b" commands");
-    count(written);
-    text(b"\n");
-    command_lines(commands, written);
-    finish_lines(finishes, n);
+    text(out, b" edition")?;
+    number(out, edition)?;
+    text(out, b" commands")?;
+    count(out, written)?;
+    text(out, b"\n")?;
+    command_lines(out, commands, written)?;
+    finish_lines(out, finishes, n)
 }
 
 // So many of the places, or all where there are fewer.
 fn places_in(n: u16, s: &[u32]) -> usize
-    ensures { IsPrefixLen result s.now }
+    ensures in_bounds { result ≤ length s.now }
+    ensures prefix { result ≡ length (take result s.now) }
 {
     let n = n as usize;
     if n < s.len() { n } else { s.len() }
 }
 
-fn finish_lines(s: &[u32], n: usize)
+fn finish_lines<W: Write>(out: &mut W, s: &[u32], n: usize) -> io::Result<()>
     requires { n ≤ length s.now }
 {
     let mut i = 0;
     while i < n {
-        finish_line(i, s[i]);
+        finish_line(out, i, s[i])?;
         i += 1;
     }
+    Ok(())
 }
 
-fn finish_line(i: usize, cycle: u32) {
-    text(b"finish");
-    count(i);
-    long(cycle);
-    text(b"\n");
+fn finish_line<W: Write>(out: &mut W, i: usize, cycle: u32) -> io::Result<()> {
+    text(out, b"finish")?;
+    count(out, i)?;
+    long(out, cycle)?;
+    text(out, b"\n")
 }

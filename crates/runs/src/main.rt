@@ -12,46 +12,49 @@ mod run;
 mod state;
 mod told;
 
-ghost use Rattle.std.specs.Prelude.{◌≤◌, ◌<◌, length};
+ghost use Rattle.std.specs.Prelude.{◌≤◌, ◌<◌, length, IfOk};
 
 use builder::bound::BoundAnswer;
 use desk::bound;
-use libc::STDIN_FILENO;
 use prints::{long, number, text};
+use reads::read_full;
 use records::little::num_at;
 use state::{controller_at, long_at};
+use std::io;
+use std::io::Write;
 use told::refused_line;
 
-fn main() {
+fn main(rt: HostRuntime) -> io::Result<()> {
     let mut input = [0u8; 196608];
-    let n = io::read_full(STDIN_FILENO, &mut input);
-    all_cases(&input[..n]);
+    let n = read_full(&mut rt.stdin(), &mut input)?;
+    all_cases(&mut rt.stdout(), &input[..n])
 }
 
-fn all_cases(s: &[u8]) {
+fn all_cases<W: Write>(out: &mut W, s: &[u8]) -> io::Result<()> {
     let mut at = 0;
     while at < s.len() {
-        let n = one_case(&s[at..]);
+        let n = one_case(out, &s[at..])?;
         if n == 0 {
-            text(b"case\n");
+            text(out, b"case\n")?;
             break;
         }
         at += n;
     }
+    Ok(())
 }
 
 // Writes the lines of the first case, and answers how many bytes it has: 0 where there is none.
-fn one_case(s: &[u8]) -> usize
+fn one_case<W: Write>(out: &mut W, s: &[u8]) -> io::Result<usize>
     requires { 1 ≤ length s.now }
-    ensures { result ≤ length s.now }
+    ensures { IfOk result (λ n. n ≤ length s.now) }
 {
     match s[0] {
-        1 => build_case(false, s),
-        2 => run_case(false, s),
-        3 => bound_case(s),
-        4 => build_case(true, s),
-        5 => run_case(true, s),
-        _ => 0,
+        1 => build_case(out, false, s),
+        2 => run_case(out, false, s),
+        3 => bound_case(out, s),
+        4 => build_case(out, true, s),
+        5 => run_case(out, true, s),
+        _ => Ok(0),
     }
 }
 
@@ -67,47 +70,49 @@ fn table_size(n: u8) -> usize
     n as usize
 }
 
-fn build_case(later: bool, s: &[u8]) -> usize
-    ensures { result ≤ length s.now }
+fn build_case<W: Write>(out: &mut W, later: bool, s: &[u8]) -> io::Result<usize>
+    ensures { IfOk result (λ n. n ≤ length s.now) }
 {
     let table = 10;
     if s.len() < table {
-        return 0;
+        return Ok(0);
     }
     let from = table + table_size(s[3]);
     let end = from + size(num_at(s, 8));
     if s.len() < end {
-        return 0;
+        return Ok(0);
     }
     let room = num_at(s, 4);
     let slots = num_at(s, 6);
     build::lines(
+        out,
         later,
         num_at(s, 1),
         &s[table..from],
         room,
         slots,
         &s[from..end],
-    );
-    end
+    )?;
+    Ok(end)
 }
 
-fn run_case(later: bool, s: &[u8]) -> usize
-    ensures { result ≤ length s.now }
+fn run_case<W: Write>(out: &mut W, later: bool, s: &[u8]) -> io::Result<usize>
+    ensures { IfOk result (λ n. n ≤ length s.now) }
 {
     let table = 354;
     if s.len() < table {
-        return 0;
+        return Ok(0);
     }
     let from = table + table_size(s[3]);
     let end = from + size(num_at(s, 10));
     if s.len() < end {
-        return 0;
+        return Ok(0);
     }
     let count = long_at(s, 4);
     let room = num_at(s, 8);
     let state = controller_at(&s[12..354]);
     run::lines(
+        out,
         later,
         num_at(s, 1),
         &s[table..from],
@@ -115,38 +120,44 @@ fn run_case(later: bool, s: &[u8]) -> usize
         room,
         state,
         &s[from..end],
-    );
-    end
+    )?;
+    Ok(end)
 }
 
-fn bound_case(s: &[u8]) -> usize
-    ensures { result ≤ length s.now }
+fn bound_case<W: Write>(out: &mut W, s: &[u8]) -> io::Result<usize>
+    ensures { IfOk result (λ n. n ≤ length s.now) }
 {
     let table = 6;
     if s.len() < table {
-        return 0;
+        return Ok(0);
     }
     let end = table + table_size(s[3]);
     if s.len() < end {
-        return 0;
+        return Ok(0);
     }
-    bound_line(num_at(s, 1), &s[table..end], s[4], s[5]);
-    end
+    bound_line(out, num_at(s, 1), &s[table..end], s[4], s[5])?;
+    Ok(end)
 }
 
-fn bound_line(expected: u16, table: &[u8], bi: u8, bc: u8) {
-    text(b"bound");
-    bound_told(bound(expected, table, bi, bc));
+fn bound_line<W: Write>(
+    out: &mut W,
+    expected: u16,
+    table: &[u8],
+    bi: u8,
+    bc: u8,
+) -> io::Result<()> {
+    text(out, b"bound")?;
+    bound_told(out, bound(expected, table, bi, bc))
 }
 
-fn bound_told(answer: BoundAnswer) {
+fn bound_told<W: Write>(out: &mut W, answer: BoundAnswer) -> io::Result<()> {
     match answer {
         BoundAnswer::Bound(edition, bound) => {
-            text(b" edition");
-            number(edition);
-            long(bound);
-            text(b"\n");
+            text(out, b" edition")?;
+            number(out, edition)?;
+            long(out, bound)?;
+            text(out, b"\n")
         }
-        BoundAnswer::Refused(r) => refused_line(r),
+        BoundAnswer::Refused(r) => refused_line(out, r),
     }
 }

@@ -12,9 +12,12 @@ use controller::controller::Controller;
 use controller::run::{RunAnswer, RunReport, RunTold};
 use desk::{run_bytes, run_later_bytes};
 use prints::{long, number, text};
+use std::io;
+use std::io::Write;
 
 // The transactions have 8 bytes where `later`, else 4.
-pub(crate) fn lines(
+pub(crate) fn lines<W: Write>(
+    out: &mut W,
     later: bool,
     expected: u16,
     table: &[u8],
@@ -22,17 +25,17 @@ pub(crate) fn lines(
     room: u16,
     c: Controller,
     list: &[u8],
-) {
-    name(b"run", later);
-    let mut bytes = io::large_buffer();
+) -> io::Result<()> {
+    name(out, b"run", later)?;
+    let mut bytes = [0u8; 65536];
     let k = room_in(room, &bytes);
     let commands = &mut bytes[..k];
     let told = run_of(c, expected, table, later, list, most, commands);
     let answer = told.answer;
     let after = told.controller;
     match answer {
-        RunAnswer::Ran(report) => ran(report, after, commands),
-        RunAnswer::Refused(r) => refused_line(r),
+        RunAnswer::Ran(report) => ran(out, report, after, commands),
+        RunAnswer::Refused(r) => refused_line(out, r),
     }
 }
 
@@ -53,16 +56,16 @@ fn run_of(
     run_bytes(c, expected, table, list, most, commands)
 }
 
-fn ran(r: RunReport, after: Controller, commands: &[u8])
+fn ran<W: Write>(out: &mut W, r: RunReport, after: Controller, commands: &[u8]) -> io::Result<()>
     requires { 8 * r.commands ≤ length commands.now }
 {
-    text(b" edition");
-    number(r.edition);
-    text(b" commands");
-    long(r.commands);
-    text(b" cycles");
-    long(r.cycles);
-    text(b"\n");
-    command_lines(commands, r.commands as usize);
-    state_line(after);
+    text(out, b" edition")?;
+    number(out, r.edition)?;
+    text(out, b" commands")?;
+    long(out, r.commands)?;
+    text(out, b" cycles")?;
+    long(out, r.cycles)?;
+    text(out, b"\n")?;
+    command_lines(out, commands, r.commands as usize)?;
+    state_line(out, after)
 }

@@ -4,6 +4,8 @@ ghost use Rattle.std.specs.Prelude.{◌+◌, ◌≤◌, length};
 use controller::controller::{Controller, HostBank, HostGroup};
 use prints::{first, long, text};
 use records::little::from_le32;
+use std::io;
+use std::io::Write;
 
 // The 32-bit number at a place.
 pub(crate) fn long_at(s: &[u8], at: usize) -> u32
@@ -89,49 +91,51 @@ fn group_at(s: &[u8], at: usize) -> HostGroup
     }
 }
 
-pub(crate) fn state_line(c: Controller) {
+pub(crate) fn state_line<W: Write>(out: &mut W, c: Controller) -> io::Result<()> {
     let banks = c.banks;
     let groups = c.groups;
-    first(c.edition);
-    long(c.cycle);
-    long(c.acts);
-    long(c.datas);
-    all_banks(banks);
-    long(c.last[0]);
-    long(c.last[1]);
-    long(c.last[2]);
-    long(c.last[3]);
-    all_groups(groups);
-    long(c.refresh);
-    long(c.lent);
-    text(b"\n");
+    first(out, c.edition)?;
+    long(out, c.cycle)?;
+    long(out, c.acts)?;
+    long(out, c.datas)?;
+    all_banks(out, banks)?;
+    long(out, c.last[0])?;
+    long(out, c.last[1])?;
+    long(out, c.last[2])?;
+    long(out, c.last[3])?;
+    all_groups(out, groups)?;
+    long(out, c.refresh)?;
+    long(out, c.lent)?;
+    text(out, b"\n")
 }
 
-fn all_banks(banks: [HostBank; 16]) {
+fn all_banks<W: Write>(out: &mut W, banks: [HostBank; 16]) -> io::Result<()> {
     let mut k: usize = 0;
     while k < 16 {
-        one_bank(banks[k]);
+        one_bank(out, banks[k])?;
         k += 1;
     }
+    Ok(())
 }
 
-fn one_bank(bank: HostBank) {
-    long(bank.opened);
-    long(bank.act);
-    long(bank.rd);
-    long(bank.wr);
+fn one_bank<W: Write>(out: &mut W, bank: HostBank) -> io::Result<()> {
+    long(out, bank.opened)?;
+    long(out, bank.act)?;
+    long(out, bank.rd)?;
+    long(out, bank.wr)
 }
 
-fn all_groups(groups: [HostGroup; 8]) {
+fn all_groups<W: Write>(out: &mut W, groups: [HostGroup; 8]) -> io::Result<()> {
     let mut k: usize = 0;
     while k < 8 {
-        one_group(groups[k]);
+        one_group(out, groups[k])?;
         k += 1;
     }
+    Ok(())
 }
 
-fn one_group(group: HostGroup) {
-    long(group.act);
-    long(group.rd);
-    long(group.wr);
+fn one_group<W: Write>(out: &mut W, group: HostGroup) -> io::Result<()> {
+    long(out, group.act)?;
+    long(out, group.rd)?;
+    long(out, group.wr)
 }

@@ -8,20 +8,22 @@
 ghost use Rattle.std.specs.Prelude.{◌<◌};
 
 use desk::{serves_bytes, serves_later_bytes};
-use libc::STDIN_FILENO;
 use prints::{long, number, refusal, text};
 use promises::numbers::rule_number;
+use reads::read_full;
 use records::little::num_at;
 use records::refusal::Refusal;
 use serves::answer::{Served, ServesAnswer};
+use std::io;
+use std::io::Write;
 
-fn main() {
+fn main(rt: HostRuntime) -> io::Result<()> {
     let mut input = [0u8; 131072];
-    let n = io::read_full(STDIN_FILENO, &mut input);
-    all_cases(&input[..n]);
+    let n = read_full(&mut rt.stdin(), &mut input)?;
+    all_cases(&mut rt.stdout(), &input[..n])
 }
 
-fn all_cases(s: &[u8]) {
+fn all_cases<W: Write>(out: &mut W, s: &[u8]) -> io::Result<()> {
     let mut at = 0;
     while 8 <= s.len() - at {
         let table = at + 8;
@@ -32,18 +34,20 @@ fn all_cases(s: &[u8]) {
             break;
         }
         one_case(
+            out,
             s[at],
             num_at(s, at + 1),
             &s[table..list],
             &s[list..from],
             &s[from..end],
-        );
+        )?;
         at = end;
     }
     if at < s.len() {
-        no_case();
-        end_line();
+        no_case(out)?;
+        end_line(out)?;
     }
+    Ok(())
 }
 
 fn size(n: u16) -> usize
@@ -58,49 +62,56 @@ fn table_size(n: u8) -> usize
     n as usize
 }
 
-fn one_case(call: u8, expected: u16, table: &[u8], list: &[u8], schedule: &[u8]) {
+fn one_case<W: Write>(
+    out: &mut W,
+    call: u8,
+    expected: u16,
+    table: &[u8],
+    list: &[u8],
+    schedule: &[u8],
+) -> io::Result<()> {
     match call {
-        1 => told(serves_bytes(expected, table, list, schedule)),
-        2 => told(serves_later_bytes(expected, table, list, schedule)),
-        _ => no_case(),
+        1 => told(out, serves_bytes(expected, table, list, schedule))?,
+        2 => told(out, serves_later_bytes(expected, table, list, schedule))?,
+        _ => no_case(out)?,
     }
-    end_line();
+    end_line(out)
 }
 
-fn no_case() {
-    text(b"case");
+fn no_case<W: Write>(out: &mut W) -> io::Result<()> {
+    text(out, b"case")
 }
 
-fn end_line() {
-    text(b"\n");
+fn end_line<W: Write>(out: &mut W) -> io::Result<()> {
+    text(out, b"\n")
 }
 
-fn told(answer: ServesAnswer) {
+fn told<W: Write>(out: &mut W, answer: ServesAnswer) -> io::Result<()> {
     match answer {
         ServesAnswer::Told(edition, a) => {
-            text(b"edition");
-            number(edition);
-            served(a);
+            text(out, b"edition")?;
+            number(out, edition)?;
+            served(out, a)
         }
         ServesAnswer::Refused(r) => {
-            text(b"refused");
-            refusal(r);
+            text(out, b"refused")?;
+            refusal(out, r)
         }
     }
 }
 
-fn served(a: Served) {
+fn served<W: Write>(out: &mut W, a: Served) -> io::Result<()> {
     match a {
-        Served::Serves => text(b" serves"),
+        Served::Serves => text(out, b" serves"),
         Served::Refused(x, record) => {
-            text(b" rule");
-            long(rule_number(x));
-            text(b" record");
-            long(record);
+            text(out, b" rule")?;
+            long(out, rule_number(x))?;
+            text(out, b" record")?;
+            long(out, record)
         }
         Served::AtFault(x) => {
-            text(b" transaction");
-            long(x);
+            text(out, b" transaction")?;
+            long(out, x)
         }
     }
 }

@@ -2,17 +2,19 @@
 // input than 278,563 bytes is not read: it is over 69,632 records, however it goes on.
 #![tactic(auto)]
 
-use libc::{STDIN_FILENO, STDOUT_FILENO};
+use reads::read_full;
+use std::io;
+use std::io::Write;
 use traced::{input_buffer, text_buffer, trace_of};
 
-fn main() {
+fn main(rt: HostRuntime) -> io::Result<()> {
     let mut input = input_buffer();
-    let n = io::read_full(STDIN_FILENO, &mut input);
-    trace(&input[..n]);
+    let n = read_full(&mut rt.stdin(), &mut input)?;
+    trace(&mut rt.stdout(), &input[..n])
 }
 
-fn trace(input: &[u8]) {
-    let mut out = text_buffer();
-    let n = trace_of(input, &mut out);
-    io::write_all(STDOUT_FILENO, &out[..n]);
+fn trace<W: Write>(out: &mut W, input: &[u8]) -> io::Result<()> {
+    let mut text = text_buffer();
+    let n = trace_of(input, &mut text);
+    out.write_all(&text[..n])
 }

@@ -6,22 +6,26 @@
 
 ghost use Rattle.std.specs.Prelude.{◌≡◌, ◌+◌, ◌≤◌, length};
 
-use libc::{STDIN_FILENO, STDOUT_FILENO};
+use reads::read_full;
 use records::little::{num_at, put_16};
+use std::io;
+use std::io::Write;
 use traced::{input_buffer, text_buffer, trace_of};
 
-fn main() {
-    let mut input = io::large_buffer();
-    let n = io::read_full(STDIN_FILENO, &mut input);
-    all_cases(&input[..n]);
+fn main(rt: HostRuntime) -> io::Result<()> {
+    let mut input = [0u8; 65536];
+    let n = read_full(&mut rt.stdin(), &mut input)?;
+    let mut out = rt.stdout();
+    all_cases(&mut out, &input[..n])?;
     if 36 <= n {
-        at_the_last_cycle(&input[2..36], 65535, 255, 0);
-        at_the_last_cycle(&input[2..36], 65535, 0, 3);
-        at_the_last_cycle(&input[2..36], 0, 255, 0);
+        at_the_last_cycle(&mut out, &input[2..36], 65535, 255, 0)?;
+        at_the_last_cycle(&mut out, &input[2..36], 65535, 0, 3)?;
+        at_the_last_cycle(&mut out, &input[2..36], 0, 255, 0)?;
     }
+    Ok(())
 }
 
-fn all_cases(s: &[u8]) {
+fn all_cases<W: Write>(out: &mut W, s: &[u8]) -> io::Result<()> {
     let mut at = 0;
     while 2 <= s.len() - at {
         let from = at + 2;
@@ -30,9 +34,10 @@ fn all_cases(s: &[u8]) {
             break;
         }
         let end = from + n;
-        trace(&s[from..end]);
+        trace(out, &s[from..end])?;
         at = end;
     }
+    Ok(())
 }
 
 fn size(n: u16) -> usize
@@ -41,21 +46,27 @@ fn size(n: u16) -> usize
     n as usize
 }
 
-fn trace(input: &[u8]) {
-    let mut out = text_buffer();
-    let n = trace_of(input, &mut out);
-    io::write_all(STDOUT_FILENO, b"case\n");
-    io::write_all(STDOUT_FILENO, &out[..n]);
+fn trace<W: Write>(out: &mut W, input: &[u8]) -> io::Result<()> {
+    let mut text = text_buffer();
+    let n = trace_of(input, &mut text);
+    out.write_all(b"case\n")?;
+    out.write_all(&text[..n])
 }
 
 // 65,536 ticks, each 65,535 cycles after the one before it, and one record more: at cycle 4,294,967,295 if its stamp is 65,535, at the next if
 // it is 0.
-fn at_the_last_cycle(head: &[u8], stamp: u16, kind: u8, bank: u8)
+fn at_the_last_cycle<W: Write>(
+    out: &mut W,
+    head: &[u8],
+    stamp: u16,
+    kind: u8,
+    bank: u8,
+) -> io::Result<()>
     requires { length head.now ≡ 34 }
 {
     let mut long = input_buffer();
     put_long(head, stamp, kind, bank, &mut long);
-    trace(&long[..262182]);
+    trace(out, &long[..262182])
 }
 
 fn put_long(head: &[u8], stamp: u16, kind: u8, bank: u8, long: &mut [u8])

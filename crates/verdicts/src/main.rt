@@ -9,20 +9,22 @@ ghost use Rattle.std.specs.Prelude.{◌+◌, ◌≤◌, ◌<◌, length};
 
 use desk::{judge, judge_pattern};
 use judge::answer::{Judged, PatternJudged};
-use libc::STDIN_FILENO;
 use prints::{long, number, refused, text};
 use promises::numbers::rule_number;
+use reads::read_full;
 use records::little::{from_le32, num_at};
 use records::refusal::Refusal;
 use rules::verdict::{PatternVerdict, Rule, Verdict};
+use std::io;
+use std::io::Write;
 
-fn main() {
+fn main(rt: HostRuntime) -> io::Result<()> {
     let mut input = [0u8; 131072];
-    let n = io::read_full(STDIN_FILENO, &mut input);
-    all_cases(&input[..n]);
+    let n = read_full(&mut rt.stdin(), &mut input)?;
+    all_cases(&mut rt.stdout(), &input[..n])
 }
 
-fn all_cases(s: &[u8]) {
+fn all_cases<W: Write>(out: &mut W, s: &[u8]) -> io::Result<()> {
     let mut at = 0;
     while 10 <= s.len() - at {
         let table = at + 10;
@@ -32,17 +34,19 @@ fn all_cases(s: &[u8]) {
             break;
         }
         one_case(
+            out,
             s[at],
             num_at(s, at + 1),
             &s[table..from],
             long_at(s, at + 3),
             &s[from..end],
-        );
+        )?;
         at = end;
     }
     if at < s.len() {
-        no_case();
+        no_case(out)?;
     }
+    Ok(())
 }
 
 fn size(n: u16) -> usize
@@ -64,77 +68,90 @@ fn long_at(s: &[u8], at: usize) -> u32
     from_le32(s[at], s[at + 1], s[at + 2], s[at + 3])
 }
 
-fn one_case(call: u8, expected: u16, table: &[u8], length: u32, s: &[u8]) {
+fn one_case<W: Write>(
+    out: &mut W,
+    call: u8,
+    expected: u16,
+    table: &[u8],
+    length: u32,
+    s: &[u8],
+) -> io::Result<()> {
     match call {
-        1 => schedule_line(expected, table, s),
-        2 => pattern_line(expected, table, s, length),
-        _ => no_case(),
+        1 => schedule_line(out, expected, table, s),
+        2 => pattern_line(out, expected, table, s, length),
+        _ => no_case(out),
     }
 }
 
-fn no_case() {
-    text(b"case\n");
+fn no_case<W: Write>(out: &mut W) -> io::Result<()> {
+    text(out, b"case\n")
 }
 
-fn schedule_line(expected: u16, table: &[u8], s: &[u8]) {
-    text(b"judge");
-    judged(judge(expected, table, s));
-    text(b"\n");
+fn schedule_line<W: Write>(out: &mut W, expected: u16, table: &[u8], s: &[u8]) -> io::Result<()> {
+    text(out, b"judge")?;
+    judged(out, judge(expected, table, s))?;
+    text(out, b"\n")
 }
 
-fn pattern_line(expected: u16, table: &[u8], s: &[u8], length: u32) {
-    text(b"pattern");
-    pattern_judged(judge_pattern(expected, table, s, length));
-    text(b"\n");
+fn pattern_line<W: Write>(
+    out: &mut W,
+    expected: u16,
+    table: &[u8],
+    s: &[u8],
+    length: u32,
+) -> io::Result<()> {
+    text(out, b"pattern")?;
+    pattern_judged(out, judge_pattern(expected, table, s, length))?;
+    text(out, b"\n")
 }
 
-fn judged(answer: Judged) {
+fn judged<W: Write>(out: &mut W, answer: Judged) -> io::Result<()> {
     match answer {
         Judged::Verdict(edition, v) => {
-            text(b" edition");
-            number(edition);
-            verdict(v);
+            text(out, b" edition")?;
+            number(out, edition)?;
+            verdict(out, v)
         }
-        Judged::Refused(r) => refused(r),
+        Judged::Refused(r) => refused(out, r),
     }
 }
 
-fn pattern_judged(answer: PatternJudged) {
+fn pattern_judged<W: Write>(out: &mut W, answer: PatternJudged) -> io::Result<()> {
     match answer {
         PatternJudged::Verdict(edition, v) => {
-            text(b" edition");
-            number(edition);
-            pattern_verdict(v);
+            text(out, b" edition")?;
+            number(out, edition)?;
+            pattern_verdict(out, v)
         }
-        PatternJudged::Refused(r) => refused(r),
+        PatternJudged::Refused(r) => refused(out, r),
     }
 }
 
-fn verdict(v: Verdict) {
+fn verdict<W: Write>(out: &mut W, v: Verdict) -> io::Result<()> {
     match v {
-        Verdict::Accepted => text(b" accepted"),
+        Verdict::Accepted => text(out, b" accepted"),
         Verdict::Refused(x, record) => {
-            rule(x);
-            text(b" record");
-            long(record);
+            rule(out, x)?;
+            text(out, b" record")?;
+            long(out, record)
         }
     }
 }
 
-fn pattern_verdict(v: PatternVerdict) {
+fn pattern_verdict<W: Write>(out: &mut W, v: PatternVerdict) -> io::Result<()> {
     match v {
-        PatternVerdict::Accepted => text(b" accepted"),
+        PatternVerdict::Accepted => text(out, b" accepted"),
         PatternVerdict::Refused(x, copy, record) => {
-            rule(x);
-            text(b" copy");
-            long(copy);
-            text(b" record");
-            long(record);
+            rule(out, x)?;
+            text(out, b" copy")?;
+            long(out, copy)?;
+            text(out, b" record")?;
+            long(out, record)
         }
     }
 }
 
-fn rule(x: Rule) {
-    text(b" rule");
-    long(rule_number(x));
+fn rule<W: Write>(out: &mut W, x: Rule) -> io::Result<()> {
+    text(out, b" rule")?;
+    long(out, rule_number(x))
 }
