@@ -1,7 +1,0 @@
-use native.Mathlib.Omega.{arith}
-use Rattle.io.proofs.Counting.{prefix_len_of_le}
-use Rattle.runs.proofs.build.places_in.Statement.{statement}
-use Rattle.runs.proofs.build.places_in.Tie as tie
-
-pub places_in_spec : {M : Type 1} → statement M
-places_in_spec = tie.close (tie.spec (λ c. prefix_len_of_le _ _ (omega arith)) (λ c. prefix_len_of_le _ _ (omega arith)))

@@ -1,9 +1,0 @@
-use borrow.Author.Rules.{rules}
-use Rattle.runs.proofs.build.schedule_of.Statement.{statement}
-use Rattle.runs.proofs.build.schedule_of.Tie as tie
-
-pub schedule_of_spec : {M : Type 1} → statement M
-schedule_of_spec =
-    tie.close (tie.spec (λ c κs. search rules) (λ c. search rules) (λ c. search rules)
-    (λ c. rw c.before.before.before.before.before.before.before.if1.true c.before.before.before.before.schedule_later_bytes.ensures) (λ c κs. search rules) (λ c. search rules) (λ c. search rules)
-    (λ c. rw c.before.before.before.before.before.before.before.if1.false c.before.before.before.before.schedule_bytes.ensures))
