@@ -1,2 +1,0 @@
--- The laws of lending a local.
-mod Lend
