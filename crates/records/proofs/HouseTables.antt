@@ -1,6 +1,6 @@
 -- The house tables are accepted.
 -- Assumes nothing.
-use mathlib.Core.Path.{◌≡◌, refl}
+use mathlib.Core.Path.{refl}
 use Rattle.records.specs.Table.{Accepted}
 use Rattle.records.specs.House.{table_a, table_b, table_c, table_t, table_d}
 

@@ -9,7 +9,7 @@ use mathlib.Core.List.{List, [], ◌∷◌}
 use lib.ListN.{length, get_or, take, length-take}
 use lib.Seq.{get_or-take}
 use Rattle.records.specs.declared.transaction.Transaction.{Transaction}
-use Rattle.records.specs.Transaction.{transaction_at, transactions_from, later_at, later_bytes, later_from, later_in, arriving, record_size, record_count, kth_of, list_of}
+use Rattle.records.specs.Transaction.{transaction_at, transactions_from, later_at, later_bytes, later_from, later_in, arriving, record_count, kth_of, list_of}
 use Rattle.records.proofs.Inverse.{le32_of}
 
 -- a list of n that goes on by steps of d from a place, one at each

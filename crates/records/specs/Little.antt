@@ -1,5 +1,5 @@
 -- "Numbers are little-endian."
-use Rattle.std.specs.Prelude.{ℕ, zero, suc, ◌+◌, ◌*◌, ◌/◌, ◌%◌, List, [], ◌∷◌, get_or, set}
+use Rattle.std.specs.Prelude.{ℕ, ◌+◌, ◌*◌, ◌/◌, ◌%◌, List, [], ◌∷◌, get_or, set}
 
 abbrev pub le16 : ℕ → ℕ → ℕ
 le16 a b = a + b * 256

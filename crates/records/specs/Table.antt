@@ -1,12 +1,12 @@
 -- "Table, 32 bytes, sixteen 16-bit numbers": edition, banks, B, CCD, RCD, RP, RAS, RC, RRD, FAW, RL, WL, RTP, WR, WTR, and a last.
 -- Document 02, request 5: "The table's last number becomes RFC, 0 to 1,023, 0 meaning that the table has no refresh". Request 7: "A second table
 -- record of 40 bytes has the first sixteen numbers, then the group count .., long CCD, long RRD and long WTR".
-use Rattle.std.specs.Prelude.{ℕ, Bool, true, false, not, ◌&&◌, ◌||◌, ◌≡◌, List, [], ◌∷◌, ◌++◌, leb, eqb, length, get_or}
+use Rattle.std.specs.Prelude.{ℕ, Bool, true, not, ◌&&◌, ◌||◌, ◌≡◌, List, [], ◌∷◌, ◌++◌, leb, eqb, length, get_or}
 use Rattle.records.specs.declared.table.Table.{Table}
 use Rattle.records.specs.declared.table.TableRead.{TableRead}
 use Rattle.records.specs.declared.table.TableRead.TheVariants.{Read, Refused}
 use Rattle.records.specs.declared.refusal.Written.TheVariants.{Done, Refused as NotWritten}
-use Rattle.records.specs.Tests.{pick, all_of, every, within}
+use Rattle.records.specs.Tests.{pick, every, within}
 use Rattle.records.specs.Told.{refusal, first_failed, over, Wrote}
 use Rattle.records.specs.Little.{num, bytes16}
 

@@ -1,5 +1,5 @@
 -- Document 01, "What the caller is told".
-use Rattle.std.specs.Prelude.{ℕ, ◌+◌, Bool, true, false, ◌≡◌, List, [], ◌∷◌, ◌++◌, length, take, drop}
+use Rattle.std.specs.Prelude.{ℕ, ◌+◌, Bool, ◌≡◌, List, [], ◌∷◌, ◌++◌, length, take, drop}
 use Rattle.records.specs.declared.refusal.Refusal.{Refusal}
 use Rattle.records.specs.declared.refusal.Written.{Written}
 use Rattle.records.specs.Tests.{pick}

@@ -1,6 +1,6 @@
 -- "Transaction, 4 bytes: type (0 read, 1 write), start bank, BI, BC." Document 02, request 5: "A transaction of type 2, with the other three bytes
 -- 0, is a refresh". Request 9: "A transaction record of 8 bytes adds a 32-bit arrival"; "The 4-byte record is arrival 0".
-use Rattle.std.specs.Prelude.{ℕ, zero, suc, ◌+◌, ◌*◌, ◌/◌, Bool, true, false, not, ◌&&◌, ◌||◌, List, [], ◌∷◌, ◌++◌, ltb, leb, eqb, length, get_or}
+use Rattle.std.specs.Prelude.{ℕ, zero, suc, ◌+◌, ◌*◌, ◌/◌, Bool, true, not, ◌&&◌, ◌||◌, List, [], ◌∷◌, ◌++◌, ltb, leb, eqb, length, get_or}
 use Rattle.records.specs.declared.table.Table.{Table}
 use Rattle.records.specs.declared.transaction.Transaction.{Transaction}
 use Rattle.records.specs.declared.transaction.TransactionRead.{TransactionRead}

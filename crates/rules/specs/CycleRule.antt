@@ -1,5 +1,5 @@
 -- Document 01, "The cycle rule".
-use Rattle.std.specs.Prelude.{ℕ, zero, suc, ◌+◌, Bool, true, false, ◌≡◌, List, [], ◌∷◌, ltb, leb, length}
+use Rattle.std.specs.Prelude.{ℕ, zero, suc, Bool, ◌≡◌, List, [], ◌∷◌, ltb, leb, length}
 use Rattle.std.proofs.Math.Option.{Option, none, some}
 use Rattle.records.specs.Tests.{pick}
 use Rattle.records.specs.declared.table.Table.{Table}
@@ -8,7 +8,7 @@ use Rattle.records.specs.declared.command.Command.{Command}
 use Rattle.rules.specs.declared.state.State.{State}
 use Rattle.rules.specs.Kinds.{is_data, in_act_queue}
 use Rattle.rules.specs.History.{broken, is_fine}
-use Rattle.rules.specs.State.{add_if, breaks_none, after}
+use Rattle.rules.specs.State.{add_if, breaks_none}
 use Rattle.rules.specs.Queues.{Due, due_at, act_queue, data_queue, head_after}
 use Rattle.rules.specs.Pattern.{onto}
 

@@ -1,8 +1,6 @@
 -- The running state in plain numbers, and what it tells.
-use Rattle.std.specs.Prelude.{ℕ, zero, suc, Bool, true, false, map, replicate}
+use Rattle.std.specs.Prelude.{ℕ, zero, suc, Bool, map, replicate}
 use Rattle.records.specs.Tests.{pick}
-use Rattle.records.specs.declared.command.Kind.{Kind}
-use Rattle.records.specs.declared.command.Kind.TheVariants.{Act, Rd, Rda, Wr, Wra, Ref, Other}
 use Rattle.rules.specs.declared.state.Stamp.{Stamp}
 use Rattle.rules.specs.declared.state.Stamp.TheVariants.{Never, At}
 use Rattle.rules.specs.declared.state.Bank.{Bank}

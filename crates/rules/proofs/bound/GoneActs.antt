@@ -17,7 +17,6 @@ use Rattle.rules.specs.declared.state.Bank.{Bank}
 use Rattle.rules.specs.declared.state.State.{State}
 use Rattle.rules.specs.State.{is_open, shut, bank_of, fresh, bank_after, note, idle}
 use Rattle.rules.specs.Queues.{data_kind}
-use Rattle.rules.specs.CycleRule.{gone}
 use Rattle.rules.proofs.laws.TestLaws.{true_false}
 use Rattle.rules.proofs.laws.Ranges.{Ranges}
 use Rattle.rules.proofs.laws.Numbers.{same?}

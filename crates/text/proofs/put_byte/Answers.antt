@@ -1,4 +1,3 @@
-use borrow.Author.Rules.{rules}
 use Rattle.text.proofs.Putting.{puts_byte}
 use Rattle.text.proofs.put_byte.Goals as goal
 

@@ -1,4 +1,3 @@
-use borrow.Author.Rules.{rules}
 use Rattle.admission.proofs.Laws.{admit_read, admit_refused}
 use Rattle.admission.proofs.admit.admit.Goals as goal
 

@@ -1,4 +1,3 @@
-use borrow.Author.Rules.{rules}
 use Rattle.admission.proofs.Laws.{way_read, way_refused}
 use Rattle.admission.proofs.admit.admit_lent.Goals as goal
 

@@ -1,4 +1,3 @@
-use borrow.Author.Rules.{rules}
 use Rattle.admission.proofs.Laws.{expects_same, expects_other}
 use Rattle.admission.proofs.admit.expect.Goals as goal
 

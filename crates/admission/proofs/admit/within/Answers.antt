@@ -1,4 +1,3 @@
-use borrow.Author.Rules.{rules}
 use Rattle.admission.proofs.Laws.{by_length_few, by_length_many}
 use Rattle.admission.proofs.admit.within.Goals as goal
 

@@ -1,4 +1,3 @@
-use borrow.Author.Rules.{rules}
 use Rattle.rules.specs.Bound.{bound_d}
 use Rattle.bounds.proofs.bound.bound_d.Goals as goal
 

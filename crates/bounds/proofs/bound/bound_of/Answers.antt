@@ -1,4 +1,3 @@
-use borrow.Author.Rules.{rules}
 use native.Mathlib.Omega.{arith}
 use Rattle.rules.specs.Bound.{bound}
 use Rattle.bounds.proofs.Bounds.{bytes_times, Words, s_small, d_small, x_small}

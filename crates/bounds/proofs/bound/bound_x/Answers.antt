@@ -1,4 +1,3 @@
-use borrow.Author.Rules.{rules}
 use native.Mathlib.Nat.{max-zero}
 use Rattle.rules.specs.Bound.{bound_x}
 use Rattle.bounds.proofs.bound.bound_x.Goals as goal

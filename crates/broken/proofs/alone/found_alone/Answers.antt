@@ -1,4 +1,3 @@
-use borrow.Author.Rules.{rules}
 use mathlib.Core.Path.{sym, ◌∙◌}
 use Rattle.timing.specs.Kept.{told_group}
 use Rattle.broken.proofs.Laws.{found_order, found_act, found_data, own_act, own_data}

@@ -1,4 +1,3 @@
-use borrow.Author.Rules.{rules}
 use Rattle.broken.proofs.back.keeps_distance.Goals as goal
 
 pub returns : goal.returns

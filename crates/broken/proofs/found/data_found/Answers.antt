@@ -1,4 +1,3 @@
-use borrow.Author.Rules.{rules}
 use Rattle.timing.specs.Kept.{told_bank}
 use Rattle.broken.proofs.Laws.{data_order}
 use Rattle.broken.proofs.found.data_found.Goals as goal

@@ -1,4 +1,3 @@
-use borrow.Author.Rules.{rules}
 use mathlib.Core.Path.{◌∙◌}
 use Rattle.timing.specs.Kept.{stamp_of}
 use Rattle.broken.proofs.Laws.{ref_order, ref_told}

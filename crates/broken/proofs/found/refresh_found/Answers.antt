@@ -1,4 +1,3 @@
-use borrow.Author.Rules.{rules}
 use Rattle.broken.proofs.Laws.{refresh_order}
 use Rattle.broken.proofs.found.refresh_found.Goals as goal
 

@@ -1,4 +1,3 @@
-use borrow.Author.Rules.{rules}
 use Rattle.choices.proofs.choose.ref_waited.Goals as goal
 
 pub returns : goal.returns

@@ -1,4 +1,3 @@
-use borrow.Author.Rules.{rules}
 use borrow.Author.Tests.{eq-eqb, ne_eqb}
 use Rattle.records.specs.Command.{read_command}
 use Rattle.commands.proofs.command.read_command.Goals as goal

@@ -1,10 +1,6 @@
-use borrow.Author.Rules.{rules}
-use native.Mathlib.Omega.{arith}
 use Prim.Native.Nat.{◌≤◌, ◌-◌}
-use mathlib.Core.Path.{◌≡◌, refl, ap, ◌∙◌}
-use native.Mathlib.Numerals.{add-one}
+use mathlib.Core.Path.{◌≡◌}
 use Rattle.timing.specs.Kept.{told}
-use Rattle.timing.proofs.Telling.{told_at}
 use Rattle.broken.specs.ByState.{shut_by}
 use Rattle.copies.proofs.copy.all_shut.Given as goal
 

@@ -1,4 +1,3 @@
-use borrow.Author.Rules.{rules}
 use Rattle.copies.proofs.copy.end_of.Goals as goal
 
 pub returns-else-shut : goal.returns-else-shut

@@ -1,4 +1,3 @@
-use borrow.Author.Rules.{rules}
 use Rattle.decoding.proofs.Planned.{plan_read, plan_refused}
 use Rattle.decoding.proofs.reading.plan_reading.Goals as goal
 

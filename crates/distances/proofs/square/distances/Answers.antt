@@ -1,4 +1,3 @@
-use borrow.Author.Rules.{rules}
 use Rattle.distances.proofs.square.distances.Goals as goal
 
 pub returns : goal.returns

@@ -1,9 +1,5 @@
-use borrow.Author.Rules.{rules}
-use native.Mathlib.Omega.{arith}
 use Prim.Native.Nat.{◌-◌, ◌≤◌}
-use mathlib.Core.Path.{◌≡◌, sym, ap}
 use Rattle.finishing.specs.Finish.{Finished}
-use Rattle.finishing.proofs.Finishing.{not_yet, as_marked, one_finished}
 use Rattle.finishing.proofs.finish.finish_all.Given as goal
 
 abbrev pub invariant-loop-k : goal.invariant-loop-k

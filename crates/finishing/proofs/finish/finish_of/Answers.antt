@@ -1,4 +1,3 @@
-use borrow.Author.Rules.{rules}
 use Rattle.finishing.proofs.finish.finish_of.Goals as goal
 
 pub returns-then-refresh : goal.returns-then-refresh

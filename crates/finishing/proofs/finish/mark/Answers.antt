@@ -1,9 +1,5 @@
-use borrow.Author.Rules.{rules}
 use native.Mathlib.Omega.{arith}
-use Prim.Native.Nat.{◌-◌, ◌≤◌}
 use mathlib.Core.Path.{◌≡◌}
-use Rattle.records.specs.Command.{commands_from}
-use Rattle.finishing.specs.Finish.{Marked}
 use Rattle.finishing.proofs.Marks.{unmarked, in_range_lem, stores, skips}
 use Rattle.finishing.proofs.finish.mark.Goals as goal
 

@@ -1,10 +1,6 @@
-use borrow.Author.Rules.{rules}
-use native.Mathlib.Omega.{arith}
 use Prim.Native.Nat.{◌-◌, ◌≤◌}
-use mathlib.Core.Path.{◌≡◌}
 use Rattle.records.specs.Command.{commands_from}
 use Rattle.finishing.specs.Finish.{Marked}
-use Rattle.finishing.proofs.Marks.{unmarked, in_range_lem, stores, skips}
 use Rattle.finishing.proofs.finish.mark.Given as goal
 
 abbrev pub invariant-loop-j : goal.invariant-loop-j

@@ -1,4 +1,3 @@
-use borrow.Author.Rules.{rules}
 use Rattle.grouped.proofs.groups.group_moved.Goals as goal
 
 pub returns : goal.returns

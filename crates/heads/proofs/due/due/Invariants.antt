@@ -1,11 +1,8 @@
-use borrow.Author.Rules.{rules}
-use native.Mathlib.Omega.{arith}
-use Prim.Native.Nat.{◌+◌, ◌-◌, ◌≤◌}
-use mathlib.Core.Path.{◌≡◌, sym, ◌∙◌}
-use mathlib.Core.Bool.{true, false}
+use Prim.Native.Nat.{◌-◌, ◌≤◌}
+use mathlib.Core.Path.{◌≡◌}
 use Rattle.rules.specs.Queues.{act_count}
-use Rattle.rules.proofs.queues.Queue.{data_count, sum, act_length, data_length}
-use Rattle.heads.proofs.Laws.{first, few, acts_few, datas_few, sum_none, count_on}
+use Rattle.rules.proofs.queues.Queue.{data_count, sum}
+use Rattle.heads.proofs.Laws.{first}
 use Rattle.heads.proofs.due.due.Given as goal
 
 abbrev pub invariant-loop-k : goal.invariant-loop-k

@@ -1,4 +1,3 @@
-use borrow.Author.Rules.{rules}
 use native.Mathlib.Omega.{arith}
 use Rattle.rules.proofs.laws.Ranges.{ranges}
 use Rattle.heads.proofs.Standing.{fit_bank, bank_on_lem, bank_round}

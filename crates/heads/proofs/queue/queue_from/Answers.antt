@@ -1,4 +1,3 @@
-use borrow.Author.Rules.{rules}
 use Rattle.heads.proofs.Standing.{by_itself, stands}
 use Rattle.heads.proofs.queue.queue_from.Goals as goal
 

@@ -1,8 +1,6 @@
-use borrow.Author.Rules.{rules}
 use native.Mathlib.Omega.{arith}
-use Prim.Native.Nat.{◌-◌}
 use mathlib.Core.Path.{refl}
-use Rattle.heads.proofs.Laws.{few, acts_few, Sought, sought_on, before_is, sought}
+use Rattle.heads.proofs.Laws.{few, acts_few, sought_on, before_is, sought}
 use Rattle.heads.proofs.queue.seek.Goals as goal
 
 pub loop-k-init : goal.loop-k-init

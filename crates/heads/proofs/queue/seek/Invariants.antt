@@ -1,8 +1,5 @@
-use borrow.Author.Rules.{rules}
-use native.Mathlib.Omega.{arith}
 use Prim.Native.Nat.{◌-◌}
-use mathlib.Core.Path.{refl}
-use Rattle.heads.proofs.Laws.{few, acts_few, Sought, sought_on, before_is, sought}
+use Rattle.heads.proofs.Laws.{Sought}
 use Rattle.heads.proofs.queue.seek.Given as goal
 
 abbrev pub invariant-loop-k : goal.invariant-loop-k

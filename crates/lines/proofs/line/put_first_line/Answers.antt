@@ -1,4 +1,3 @@
-use borrow.Author.Rules.{rules}
 use native.Mathlib.Omega.{arith}
 use Rattle.text.proofs.Putting.{puts_then}
 use Rattle.lines.specs.Lines.{first_line}

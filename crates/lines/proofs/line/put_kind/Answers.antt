@@ -1,4 +1,3 @@
-use borrow.Author.Rules.{rules}
 use Rattle.records.specs.declared.command.Kind.TheVariants.{Act, Rd, Rda, Wr, Wra, Ref, Other}
 use Rattle.lines.specs.Words.{kind_text}
 use Rattle.lines.proofs.Long.{kind_room, kind_put}

@@ -1,4 +1,3 @@
-use borrow.Author.Rules.{rules}
 use mathlib.Core.Path.{◌∙◌}
 use Rattle.lists.proofs.Checks.{into_256}
 use Rattle.lists.proofs.check.check_bytes.Goals as goal

@@ -1,12 +1,7 @@
-use borrow.Author.Rules.{rules}
 use native.Mathlib.Omega.{arith}
-use Prim.Native.Nat.{◌-◌, ◌≤◌}
-use mathlib.Core.Path.{◌≡◌, refl, sym, ap, ◌∙◌}
-use lib.ListN.{length}
-use Rattle.records.specs.Transaction.{record_count, list_of}
+use mathlib.Core.Path.{refl, sym, ap, ◌∙◌}
 use Rattle.lists.specs.declared.check.Checked.TheVariants.{Refused}
-use Rattle.lists.specs.Check.{range_from}
-use Rattle.lists.proofs.Checks.{left_from, left_fits, left_out, left_none}
+use Rattle.lists.proofs.Checks.{left_fits, left_out, left_none}
 use Rattle.lists.proofs.check.check_range.Goals as goal
 
 pub loop-k-init : goal.loop-k-init

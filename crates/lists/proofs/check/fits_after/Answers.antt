@@ -1,4 +1,3 @@
-use borrow.Author.Rules.{rules}
 use Rattle.lists.proofs.check.fits_after.Goals as goal
 
 pub returns : goal.returns

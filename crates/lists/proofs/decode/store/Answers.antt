@@ -1,7 +1,4 @@
-use Rattle.std.proofs.Common.{◌∙◌, ap, arith, List}
-use lib.ListN.{set}
-use Rattle.records.specs.declared.transaction.Transaction.{Transaction}
-use Rattle.lists.specs.Decode.{stored}
+use Rattle.std.proofs.Common.{arith}
 use Rattle.lists.proofs.Storing.{stored_more}
 use Rattle.lists.proofs.decode.store.Goals as goal
 

@@ -1,6 +1,4 @@
-use Rattle.std.proofs.Common.{◌*◌, ◌∙◌, ℕ, List, ap, arith}
-use Rattle.records.specs.Told.{put_at}
-use Rattle.records.specs.Transaction.{later_bytes}
+use Rattle.std.proofs.Common.{arith}
 use Rattle.lists.proofs.Packing.{packed_none, packed_more}
 use Rattle.packing.proofs.packed.gather.Goals as goal
 

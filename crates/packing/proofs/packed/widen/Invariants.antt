@@ -1,13 +1,7 @@
-use borrow.Author.Rules.{rules}
-use native.Mathlib.Omega.{arith}
-use Prim.Native.Nat.{ℕ, ◌-◌, ◌*◌, ◌≤◌}
-use mathlib.Core.Path.{◌≡◌, sym, ap, ◌∙◌}
-use mathlib.Core.List.{List, []}
-use lib.ListN.{length}
-use Rattle.records.specs.Told.{put_at}
-use Rattle.records.specs.Transaction.{arriving, later_bytes, transactions_in}
+use Prim.Native.Nat.{◌-◌, ◌≤◌}
+use mathlib.Core.Path.{◌≡◌}
+use Rattle.records.specs.Transaction.{transactions_in}
 use Rattle.lists.specs.Packed.{packed}
-use Rattle.lists.proofs.Packing.{packed_none, length_packed, widened_more}
 use Rattle.packing.proofs.packed.widen.Given as goal
 
 abbrev pub invariant-loop-k : goal.invariant-loop-k

@@ -1,4 +1,3 @@
-use borrow.Author.Rules.{rules}
 use native.Mathlib.Omega.{arith}
 use Rattle.lines.proofs.Long.{first_most}
 use Rattle.printed.proofs.Turns.{commands_put}

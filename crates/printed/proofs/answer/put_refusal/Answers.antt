@@ -1,4 +1,3 @@
-use borrow.Author.Rules.{rules}
 use native.Mathlib.Omega.{arith}
 use Rattle.lines.proofs.Long.{refused_most}
 use Rattle.printed.proofs.answer.put_refusal.Goals as goal

@@ -1,4 +1,3 @@
-use borrow.Author.Rules.{rules}
 use native.Mathlib.Omega.{arith}
 use Rattle.printed.proofs.Turns.{schedule_put}
 use Rattle.printed.proofs.answer.put_schedule.Goals as goal

@@ -1,10 +1,9 @@
 use native.Mathlib.Omega.{arith}
-use Prim.Native.Nat.{◌+◌, ◌*◌, ◌-◌, ◌≤◌}
+use Prim.Native.Nat.{◌*◌}
 use mathlib.Core.Path.{ap}
 use lib.ListN.{length}
 use Rattle.records.specs.declared.command.Command.{Command}
 use Rattle.records.specs.Command.{commands_from}
-use Rattle.text.specs.Puts.{Puts}
 use Rattle.text.proofs.Putting.{puts_nothing}
 use Rattle.lines.specs.Lines.{command_line, command_lines}
 use Rattle.lines.proofs.Long.{command_most}

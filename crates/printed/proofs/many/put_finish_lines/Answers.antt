@@ -1,7 +1,5 @@
 use native.Mathlib.Omega.{arith}
-use Prim.Native.Nat.{◌+◌, ◌*◌, ◌-◌, ◌≤◌}
-use lib.ListN.{get_or, take}
-use Rattle.text.specs.Puts.{Puts}
+use lib.ListN.{get_or}
 use Rattle.text.proofs.Putting.{puts_nothing}
 use Rattle.lines.specs.Lines.{finish_lines}
 use Rattle.lines.proofs.Long.{finish_most}

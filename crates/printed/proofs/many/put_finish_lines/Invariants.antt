@@ -1,11 +1,7 @@
-use native.Mathlib.Omega.{arith}
 use Prim.Native.Nat.{◌+◌, ◌*◌, ◌-◌, ◌≤◌}
-use lib.ListN.{get_or, take}
+use lib.ListN.{take}
 use Rattle.text.specs.Puts.{Puts}
-use Rattle.text.proofs.Putting.{puts_nothing}
 use Rattle.lines.specs.Lines.{finish_lines}
-use Rattle.lines.proofs.Long.{finish_most}
-use Rattle.printed.proofs.Turns.{finish_turn, finish_end}
 use Rattle.printed.proofs.many.put_finish_lines.Given as goal
 
 abbrev pub invariant-loop-i : goal.invariant-loop-i

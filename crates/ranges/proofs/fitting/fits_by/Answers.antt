@@ -1,4 +1,3 @@
-use borrow.Author.Rules.{rules}
 use Rattle.ranges.proofs.fitting.fits_by.Goals as goal
 
 pub returns : goal.returns

@@ -1,4 +1,3 @@
-use borrow.Author.Rules.{rules}
 use Rattle.ranges.proofs.fitting.moves_data.Goals as goal
 
 pub returns : goal.returns

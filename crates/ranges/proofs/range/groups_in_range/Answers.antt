@@ -1,4 +1,3 @@
-use borrow.Author.Rules.{rules}
 use Rattle.ranges.proofs.range.groups_in_range.Goals as goal
 
 pub returns : goal.returns

@@ -1,18 +1,16 @@
-use borrow.Author.Rules.{rules}
 use borrow.Author.Tests.{not-true, not-false}
 use native.Mathlib.Omega.{arith}
-use Prim.Native.Nat.{ℕ, ◌*◌, ◌-◌}
+use Prim.Native.Nat.{ℕ}
 use mathlib.Core.Path.{◌≡◌, refl, sym, ap, ◌∙◌}
 use mathlib.Core.Bool.{Bool}
 use Rattle.records.specs.Tests.{pick}
 use Rattle.rules.specs.declared.verdict.Verdict.{Verdict}
 use Rattle.rules.specs.declared.verdict.Verdict.TheVariants.{Accepted, Refused}
 use Rattle.rules.specs.declared.verdict.Rule.TheVariants.{End}
-use Rattle.timing.specs.Kept.{told}
-use Rattle.copies.specs.Seen.{record_count, whole}
+use Rattle.copies.specs.Seen.{record_count}
 use Rattle.copies.proofs.Laws.{not_accepted}
 use Rattle.copies.proofs.Seen.{record_read}
-use Rattle.copies.proofs.Turn.{Turn, turn_start, turn_judging, turn_end}
+use Rattle.copies.proofs.Turn.{turn_start, turn_judging, turn_end}
 use Rattle.copies.proofs.InPlace.{low_bank, known, range_stops, ref_stops, ref_next, rule_stops, act_next, data_next, kept_room}
 use Rattle.several.proofs.among.judge_among.Goals as goal
 

@@ -1,4 +1,3 @@
-use borrow.Author.Rules.{rules}
 use native.Mathlib.Nat.{max-zero}
 use Rattle.soonest.proofs.free.charged_from.Goals as goal
 

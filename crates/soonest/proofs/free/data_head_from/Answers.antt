@@ -1,4 +1,3 @@
-use borrow.Author.Rules.{rules}
 use Rattle.soonest.proofs.free.data_head_from.Goals as goal
 
 pub returns : goal.returns

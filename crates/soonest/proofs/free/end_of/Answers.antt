@@ -1,4 +1,3 @@
-use borrow.Author.Rules.{rules}
 use mathlib.Core.Path.{◌∙◌}
 use Rattle.soonest.proofs.Numbers.{end_served, end_late, end_count}
 use Rattle.soonest.proofs.free.end_of.Goals as goal

@@ -1,4 +1,3 @@
-use borrow.Author.Rules.{rules}
 use native.Mathlib.Omega.{arith}
 use Rattle.timing.proofs.Leaves.{side_two}
 use Rattle.soonest.proofs.free.far_from.Goals as goal

@@ -1,4 +1,3 @@
-use borrow.Author.Rules.{rules}
 use Rattle.soonest.proofs.free.head_from.Goals as goal
 
 pub returns-then-there : goal.returns-then-there

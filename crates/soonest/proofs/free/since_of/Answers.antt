@@ -1,4 +1,3 @@
-use borrow.Author.Rules.{rules}
 use Rattle.soonest.proofs.Numbers.{since_never, since_at}
 use Rattle.soonest.proofs.free.since_of.Goals as goal
 

@@ -1,4 +1,3 @@
-use borrow.Author.Rules.{rules}
 use Rattle.heads.proofs.Standing.{by_itself, stands}
 use Rattle.soonest.proofs.next.data_from.Goals as goal
 

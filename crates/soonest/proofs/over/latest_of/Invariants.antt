@@ -1,11 +1,8 @@
-use borrow.Author.Rules.{rules}
-use native.Mathlib.Omega.{arith}
 use Prim.Native.Nat.{◌-◌, ◌≤◌}
-use mathlib.Core.Path.{◌≡◌, refl}
+use mathlib.Core.Path.{◌≡◌}
 use lib.ListN.{get_or}
 use Rattle.timing.specs.Kept.{quiet_kept}
 use Rattle.earliest.specs.Earliest.{most_below}
-use Rattle.soonest.proofs.Numbers.{most_turn}
 use Rattle.soonest.proofs.over.latest_of.Given as goal
 
 abbrev pub invariant-loop-g : goal.invariant-loop-g

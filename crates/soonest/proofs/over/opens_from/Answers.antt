@@ -1,4 +1,3 @@
-use borrow.Author.Rules.{rules}
 use Rattle.soonest.proofs.over.opens_from.Goals as goal
 
 pub returns-then-refreshes : goal.returns-then-refreshes

@@ -1,4 +1,3 @@
-use borrow.Author.Rules.{rules}
 use Rattle.soonest.proofs.over.ready_from.Goals as goal
 
 pub returns-then-known : goal.returns-then-known

@@ -1,8 +1,5 @@
-use borrow.Author.Rules.{rules}
 use native.Mathlib.Omega.{arith}
-use Prim.Native.Nat.{◌-◌, ◌≤◌}
 use mathlib.Core.Path.{◌≡◌, refl, ◌∙◌}
-use Rattle.earliest.specs.Earliest.{most_below}
 use Rattle.soonest.proofs.Numbers.{most_turn, rests_at, rests_told}
 use Rattle.soonest.proofs.over.rests_from.Goals as goal
 

@@ -1,9 +1,7 @@
-use borrow.Author.Rules.{rules}
-use native.Mathlib.Omega.{arith}
 use Prim.Native.Nat.{◌-◌, ◌≤◌}
-use mathlib.Core.Path.{◌≡◌, refl, ◌∙◌}
+use mathlib.Core.Path.{◌≡◌}
 use Rattle.earliest.specs.Earliest.{most_below}
-use Rattle.soonest.proofs.Numbers.{most_turn, rests_at, rests_told}
+use Rattle.soonest.proofs.Numbers.{rests_at}
 use Rattle.soonest.proofs.over.rests_from.Given as goal
 
 abbrev pub invariant-loop-b : goal.invariant-loop-b

@@ -1,4 +1,4 @@
-use Rattle.std.proofs.Common.{arith, length-set, rules}
+use Rattle.std.proofs.Common.{arith, length-set}
 use Rattle.records.proofs.Bytes.{put_sets}
 use Rattle.stamps.specs.Record.{bytes_of_record}
 use Rattle.stamps.proofs.one_record.put_record.Goals as goal

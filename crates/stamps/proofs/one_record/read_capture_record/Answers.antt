@@ -1,4 +1,4 @@
-use Rattle.std.proofs.Common.{rules, eq-eqb, ne_eqb}
+use Rattle.std.proofs.Common.{eq-eqb, ne_eqb}
 use Rattle.stamps.specs.Record.{read_capture_record}
 use Rattle.stamps.proofs.one_record.read_capture_record.Goals as goal
 

@@ -1,4 +1,3 @@
-use Rattle.std.proofs.Common.{rules}
 use Rattle.stamps.proofs.one_record.record_at.Goals as goal
 
 pub returns : goal.returns

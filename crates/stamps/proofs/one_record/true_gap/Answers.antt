@@ -1,4 +1,4 @@
-use Rattle.std.proofs.Common.{arith, rules}
+use Rattle.std.proofs.Common.{arith}
 use Rattle.stamps.proofs.Laws.{gap_is}
 use Rattle.stamps.proofs.one_record.true_gap.Goals as goal
 

@@ -1,4 +1,4 @@
-use Rattle.std.proofs.Common.{refl, rules, le-leb}
+use Rattle.std.proofs.Common.{refl, le-leb}
 use borrow.Author.Tests.{lt-leb}
 use Rattle.stamps.specs.Record.{write_capture_record}
 use Rattle.stamps.proofs.one_record.write_capture_record.Goals as goal

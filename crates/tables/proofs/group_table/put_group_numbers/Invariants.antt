@@ -1,12 +1,8 @@
-use native.Mathlib.Omega.{arith}
-use Prim.Native.Nat.{ℕ, ◌≤◌, ◌-◌}
-use mathlib.Core.Path.{◌≡◌, refl, ap, ◌∙◌}
-use mathlib.Core.List.{List}
-use lib.ListN.{length, take, length-take}
-use lib.Seq.{take_all}
+use Prim.Native.Nat.{◌≤◌, ◌-◌}
+use mathlib.Core.Path.{◌≡◌}
+use lib.ListN.{take}
 use Rattle.records.specs.Told.{over}
 use Rattle.records.specs.Little.{bytes16}
-use Rattle.records.proofs.Bytes.{length_16, number_room, number_more, length_over}
 use Rattle.tables.proofs.group_table.put_group_numbers.Given as goal
 
 abbrev pub invariant-loop-i : goal.invariant-loop-i

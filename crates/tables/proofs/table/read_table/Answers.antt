@@ -1,13 +1,11 @@
-use borrow.Author.Rules.{rules}
 use native.Mathlib.Omega.{arith}
 use mathlib.Core.Path.{◌≡◌, sym, ap, ◌∙◌}
-use mathlib.Core.Bool.{Bool, true, false}
+use mathlib.Core.Bool.{Bool, false}
 use lib.ListN.{length}
-use borrow.Author.Tests.{not-true, not-false}
 use Rattle.records.specs.declared.table.Table.{Table}
 use Rattle.records.specs.declared.table.TableRead.TheVariants.{Read, Refused}
 use Rattle.records.specs.Told.{refusal}
-use Rattle.records.specs.Table.{table_at, table_size, table_refusal_by, table_refusal, read_table}
+use Rattle.records.specs.Table.{table_at, table_size, table_refusal_by, read_table}
 use Rattle.records.proofs.Laws.{refuses, answers, size_room, wrong_size}
 use Rattle.tables.proofs.table.read_table.Goals as goal
 

@@ -1,4 +1,3 @@
-use borrow.Author.Rules.{rules}
 use mathlib.Core.Path.{sym, ◌∙◌}
 use Rattle.rules.specs.State.{past}
 use Rattle.timing.specs.Kept.{stamp_of, told_bank}

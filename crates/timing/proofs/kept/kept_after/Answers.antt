@@ -1,4 +1,3 @@
-use borrow.Author.Rules.{rules}
 use Rattle.timing.proofs.kept.kept_after.Goals as goal
 
 pub returns : goal.returns

@@ -1,4 +1,3 @@
-use borrow.Author.Rules.{rules}
 use mathlib.Core.Path.{sym, ◌∙◌}
 use Rattle.timing.specs.Kept.{told_bank}
 use Rattle.timing.proofs.Telling.{charged_yes, charged_rd, charged_wr}

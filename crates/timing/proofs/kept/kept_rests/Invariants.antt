@@ -1,13 +1,8 @@
-use borrow.Author.Rules.{rules}
-use borrow.Author.Tests.{not-true, not-false}
-use native.Mathlib.Omega.{arith}
 use Prim.Native.Nat.{◌≤◌, ◌-◌}
-use mathlib.Core.Path.{◌≡◌, refl, sym, ◌∙◌}
+use mathlib.Core.Path.{◌≡◌}
 use mathlib.Core.Bool.{true}
-use native.Mathlib.Numerals.{add-one}
 use Rattle.records.specs.Tests.{every_below}
-use Rattle.rules.proofs.laws.Below.{below_not}
-use Rattle.timing.proofs.Telling.{rests_at, told_rests}
+use Rattle.timing.proofs.Telling.{rests_at}
 use Rattle.timing.proofs.kept.kept_rests.Given as goal
 
 abbrev pub invariant-loop-b : goal.invariant-loop-b

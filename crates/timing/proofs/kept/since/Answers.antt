@@ -1,4 +1,3 @@
-use borrow.Author.Rules.{rules}
 use Prim.Native.Nat.{◌-◌}
 use Rattle.timing.specs.Kept.{stamp_of}
 use Rattle.timing.proofs.Leaves.{not_yet, since}
