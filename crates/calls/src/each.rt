@@ -7,8 +7,8 @@ use crate::one_record::{
     command_written, group_table_written, later_written, records_read, table_written,
     transaction_written,
 };
+use crate::second::{straight_byte_schedules, straight_later_schedules, straight_schedules};
 use crate::serving::{asked, asked_built};
-use crate::straight::{straight_byte_schedules, straight_later_schedules, straight_schedules};
 use crate::whole::{
     bounded, byte_schedules, host_schedules, later_schedules, runs, schedules, starts,
 };

@@ -9,8 +9,8 @@ mod lent;
 mod lent_host;
 mod lent_straight;
 mod one_record;
+mod second;
 mod serving;
-mod straight;
 mod told;
 mod whole;
 

@@ -1,7 +1,7 @@
 // Schedules, verdicts, the bound, and runs.
 use crate::lent::{lent_run, lent_schedule, lent_step};
 use crate::lent_host::{host_run, host_schedule, host_step};
-use crate::straight::{
+use crate::second::{
     straight_byte_runs_of, straight_later_runs_of, straight_runs_of, straight_steps_of,
 };
 use crate::told::{buffer, built, controller, longs, numbers, ran, started, verdict};

@@ -1,7 +1,7 @@
 // What the programs share of their reading: standard input, or whatever reader they pass, to its end, or until the buffer is full.
 #![tactic(auto)]
 
-ghost use Rattle.std.specs.Prelude.{◌<◌, take, length, IfOk, OnOk};
+ghost use Rattle.std.specs.Prelude.{◌<◌, take, length, IfOk};
 ghost use Rattle.std.specs.Io.{ReadsAtMost};
 ghost use Rattle.std.specs.Io.KnownBytes.{Consumes, IsAtEnd};
 
