@@ -1,4 +1,4 @@
-//! Finds the archive: the file that SKVORZHAN_ARCHIVE names, or what `rt staticlib host` leaves in the repository. Where SKVORZHAN_BEFORE names
+//! Finds the archive: the file that SKVORZHAN_ARCHIVE names, or what `host/archive` leaves in the repository. Where SKVORZHAN_BEFORE names
 //! an archive from before a change, with the same calls and structs but for the controller's end and the transactions' arrivals, that is linked too,
 //! each of its calls with `before_` in front of its name.
 
@@ -9,7 +9,7 @@ use std::process::Command;
 fn found(archive: PathBuf) -> PathBuf {
     archive.canonicalize().unwrap_or_else(|e| {
         panic!(
-            "no archive at {}: {e}; `rt staticlib host` makes it, or SKVORZHAN_ARCHIVE names another",
+            "no archive at {}: {e}; `host/archive` makes it, or SKVORZHAN_ARCHIVE names another",
             archive.display()
         )
     })
