@@ -1,4 +1,4 @@
-//! The desk's calls for Rust: safe functions over the archive that `rt staticlib host` makes.
+//! The desk's calls for Rust: safe functions over the archive that `host/archive` makes.
 //!
 //! Any bytes may be handed in. A refused call changes no buffer and no controller. A call that is not refused writes each result from its
 //! buffer's start and leaves all beyond as it stood. Each call that is lent a table is told before it which edition is expected.
