@@ -22,7 +22,7 @@ use Rattle.stamps.specs.declared.one_record.CaptureRecord.{CaptureRecord}
 use Rattle.capture.specs.declared.scan.Scanned.{Scanned}
 use Rattle.capture.specs.declared.answer.CaptureJudged.TheVariants.{Verdict, Refused}
 use Rattle.stamps.specs.Capture.{Timed, records_from, records_in, gap, timed_after, timed_of, timed_in, too_late, bad_after, lowest_after, lowest, is_tick, command_of, commands_of}
-use Rattle.capture.specs.Answer.{not_aCapture, capture_count, commands_seen, capture_refusal, position_of, Captured, captured, LeavesCapture, Scans}
+use Rattle.capture.specs.Answer.{not_a_capture, capture_count, commands_seen, capture_refusal, position_of, Captured, captured, LeavesCapture, Scans}
 use Rattle.records.proofs.Written.{Each, Readable, read_back, bytes_stand, read_whole}
 
 -- ---- counts
@@ -76,7 +76,7 @@ fewer (x ∷ l) = on (is_tick x.seen) (fewer l)
 abbrev number_by : Bool → Bool → Bool → ℕ
 number_by a b c = first_failed ((7, a) ∷ (11, b) ∷ (5, c) ∷ [])
 
-pub few_records : (size : ℕ) → not_aCapture size ≡ false → size / 4 ≤ 69632
+pub few_records : (size : ℕ) → not_a_capture size ≡ false → size / 4 ≤ 69632
 few_records size e = ltb-false 69632 (size / 4) (neither (not (eqb (size % 4) 0)) (ltb 69632 (size / 4)) e).1
 
 module _ (s : List ℕ) (room : ℕ) where
@@ -86,15 +86,15 @@ module _ (s : List ℕ) (room : ℕ) where
   abbrev tight : Bool
   tight = ltb room (8 * length (commands_seen s))
 
-  by : (a b c : Bool) → not_aCapture (length s) ≡ a → late ≡ b → tight ≡ c → number_by a b c ≡ capture_refusal s room
+  by : (a b c : Bool) → not_a_capture (length s) ≡ a → late ≡ b → tight ≡ c → number_by a b c ≡ capture_refusal s room
   unfolding capture_refusal
   by a b c p q r =
       sym (ap (λ (x : Bool). number_by x late tight) p ∙ (ap (λ (x : Bool). number_by a x tight) q ∙ ap (λ (x : Bool). number_by a b x) r))
 
-  pub refused_7 : not_aCapture (length s) ≡ true → 7 ≡ capture_refusal s room
+  pub refused_7 : not_a_capture (length s) ≡ true → 7 ≡ capture_refusal s room
   refused_7 e = by true late tight e refl refl
 
-  pub refused_none : not_aCapture (length s) ≡ false → capture_count s ≤ lowest (timed_in s) → 8 * length (commands_seen s) ≤ room → 0 ≡ capture_refusal s room
+  pub refused_none : not_a_capture (length s) ≡ false → capture_count s ≤ lowest (timed_in s) → 8 * length (commands_seen s) ≤ room → 0 ≡ capture_refusal s room
   refused_none e h k = by false false false e (le-ltb (lowest (timed_in s)) (capture_count s) h) (le-ltb room (8 * length (commands_seen s)) k)
 
   -- what is known of a capture that is not refused
@@ -114,7 +114,7 @@ module _ (s : List ℕ) (room : ℕ) where
   pub taken : capture_refusal s room ≡ 0 → Taken
   unfolding capture_refusal
   taken e =
-      let a = passes 7 (not_aCapture (length s)) ((11, late) ∷ (5, tight) ∷ []) (λ k. omega arith) e in
+      let a = passes 7 (not_a_capture (length s)) ((11, late) ∷ (5, tight) ∷ []) (λ k. omega arith) e in
       let b = passes 11 late ((5, tight) ∷ []) (λ k. omega arith) a.1 in
       let c = passes 5 tight [] (λ k. omega arith) b.1 in
       record {
@@ -130,7 +130,7 @@ module _ (s : List ℕ) (room : ℕ) (r : Scanned) (found : Scans s r) (z : ℕ)
   counts : ltb r.place (capture_count s) ≡ false → r.count ≡ length (commands_seen s)
   counts q = found.commands (omega (arith, found.place, at_most s room, ltb-false r.place (capture_count s) q))
 
-  pub number_told : not_aCapture (length s) ≡ false → z ≡ capture_refusal s room
+  pub number_told : not_a_capture (length s) ≡ false → z ≡ capture_refusal s room
   number_told h = on (ltb r.place (capture_count s)) refl
     where
       lates : (b : Bool) → ltb r.place (capture_count s) ≡ b → ltb (lowest (timed_in s)) (capture_count s) ≡ b

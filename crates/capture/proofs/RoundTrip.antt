@@ -31,7 +31,7 @@ use Rattle.rules.proofs.history.Judged.{holds}
 use Rattle.rules.proofs.history.Unnumbered.{judge_same, length_unnumbered}
 use Rattle.capture.specs.declared.answer.CaptureJudged.TheVariants.{Verdict, Refused}
 use Rattle.stamps.specs.Capture.{Timed, timed, timed_after, timed_of, timed_in, gap, bad_after, lowest_after, lowest, commands_of}
-use Rattle.capture.specs.Answer.{not_aCapture, capture_count, commands_seen, capture_refusal, Captured, captured}
+use Rattle.capture.specs.Answer.{not_a_capture, capture_count, commands_seen, capture_refusal, Captured, captured}
 use Rattle.capture.specs.Written.{Sent, sends, ticks, cycle_of, record_of, capture_bytes, commands_sent, WrittenAs, ReadAgain}
 use Rattle.stamps.proofs.Laws.{gap_cycles, stamps_differ}
 use Rattle.records.proofs.Written.{Each}
@@ -215,7 +215,7 @@ module _ (τ : Table) (es : List Sent) (l : Legal τ (commands_sent es)) (w : Wr
   unfolding timed_in
   timed_is = ap timed_of (records_in_lem es) ∙ timed_all es (chained es k w)
 
-  size_is : not_aCapture (length s) ≡ false
+  size_is : not_a_capture (length s) ≡ false
   size_is =
       let m : length s % 4 ≡ 0 = omega (arith, length_sent es) in
       rw (eq-eqb (length s % 4) 0 m, le-ltb 69632 (length s / 4) (omega (arith, count_sent es, w.few)))

@@ -12,8 +12,8 @@ use Rattle.capture.specs.declared.answer.CaptureJudged.TheVariants.{Verdict, Ref
 use Rattle.stamps.specs.Capture.{timed_in, lowest, commands_of}
 
 -- "Number 7 (bytes not a multiple of 4, or over 69,632 records)"
-abbrev pub not_aCapture : ℕ → Bool
-not_aCapture size = not (eqb (size % 4) 0) || ltb 69632 (size / 4)
+abbrev pub not_a_capture : ℕ → Bool
+not_a_capture size = not (eqb (size % 4) 0) || ltb 69632 (size / 4)
 
 -- how many records a capture has
 abbrev pub capture_count : List ℕ → ℕ
@@ -27,7 +27,7 @@ commands_seen s = commands_of (timed_in s)
 unfoldable pub capture_refusal : List ℕ → ℕ → ℕ
 capture_refusal s room =
     first_failed
-    ((7, not_aCapture (length s)) ∷ (11, ltb (lowest (timed_in s)) (capture_count s)) ∷ (5, ltb room (8 * length (commands_seen s))) ∷ [])
+    ((7, not_a_capture (length s)) ∷ (11, ltb (lowest (timed_in s)) (capture_count s)) ∷ (5, ltb room (8 * length (commands_seen s))) ∷ [])
 
 -- the position: 11 names the record, the others 0
 abbrev pub position_of : ℕ → List ℕ → ℕ

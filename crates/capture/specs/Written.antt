@@ -15,7 +15,7 @@ use Rattle.capture.specs.declared.answer.CaptureJudged.TheVariants.{Verdict}
 use Rattle.stamps.specs.declared.one_record.CaptureRecord.{CaptureRecord}
 use Rattle.stamps.specs.Record.{capture_record, bytes_of_record}
 use Rattle.stamps.specs.Capture.{records_in, timed_in, lowest, is_tick}
-use Rattle.capture.specs.Answer.{not_aCapture, capture_count, commands_seen, captured}
+use Rattle.capture.specs.Answer.{not_a_capture, capture_count, commands_seen, captured}
 
 -- what the analyser sends a record for: a command, or a tick at a cycle
 pub data Sent : Type 0 where
@@ -71,7 +71,7 @@ pub record WrittenAs (rs : List Command) (es : List Sent) : Type 0 where
 -- "reading it gives the schedule's cycles, kinds and banks again"
 pub record ReadAgain (τ : Table) (rs : List Command) (s : List ℕ) : Type 0 where
   -- neither number 7 nor number 11 refuses the capture
-  pub size : not_aCapture (length s) ≡ false
+  pub size : not_a_capture (length s) ≡ false
   pub none : lowest (timed_in s) ≡ capture_count s
   -- its commands are the schedule's
   pub commands : commands_seen s ≡ unnumbered rs

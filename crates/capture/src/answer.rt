@@ -1,7 +1,7 @@
 // What judging a capture answers, and what it refuses before.
 ghost use Rattle.std.specs.Prelude.{◌≡◌, ◌≤◌, eqb, length};
 ghost use Rattle.records.specs.Tests.{pick};
-ghost use Rattle.capture.specs.Answer.{not_aCapture, capture_refusal, position_of, commands_seen};
+ghost use Rattle.capture.specs.Answer.{not_a_capture, capture_refusal, position_of, commands_seen};
 
 use crate::scan::scan;
 use records::refusal::{Refusal, first_failed};
@@ -25,7 +25,7 @@ pub struct Check {
 
 // "bytes not a multiple of 4, or over 69,632 records"
 pub fn not_a_capture(size: usize) -> bool
-    ensures { result ≡ not_aCapture size }
+    ensures { result ≡ not_a_capture size }
 {
     either_of(size % 4 != 0, 69632 < size / 4)
 }

@@ -28,7 +28,7 @@ use Rattle.judge.specs.declared.answer.PatternJudged.{PatternJudged}
 use Rattle.judge.specs.Answer.{schedule_refusal, judged}
 use Rattle.capture.specs.declared.answer.CaptureJudged.TheVariants.{Verdict as CaptureSays, Refused as NotCaptured}
 use Rattle.stamps.specs.Capture.{timed_in, lowest}
-use Rattle.capture.specs.Answer.{not_aCapture, capture_count, commands_seen, capture_refusal, position_of, Captured, captured}
+use Rattle.capture.specs.Answer.{not_a_capture, capture_count, commands_seen, capture_refusal, position_of, Captured, captured}
 use Rattle.builder.specs.declared.build.BuildAnswer.{BuildAnswer}
 use Rattle.builder.specs.declared.build.BuildAnswer.TheVariants.{Refused as NotBuilt}
 use Rattle.lists.specs.declared.check.Checked.{Checked}
@@ -98,7 +98,7 @@ module _ (s b : List ℕ) where
 
   pub few_captured : length s ≡ 278528 → (capture_numbers (capturing (admitted 7 A) s b).answer).refused ≡ 7 → ⊥
   unfolding admitted read_table capturing captured capture_refusal
-  few_captured e = by (not_aCapture (length s)) (ap not_aCapture e) (ltb (lowest (timed_in s)) (capture_count s)) (ltb (length b) (8 * length (commands_seen s)))
+  few_captured e = by (not_a_capture (length s)) (ap not_a_capture e) (ltb (lowest (timed_in s)) (capture_count s)) (ltb (length b) (8 * length (commands_seen s)))
     where
       by : (x : Bool) → x ≡ false → (y z : Bool) → (capture_numbers (left (first_failed ((7, x) ∷ (11, y) ∷ (5, z) ∷ []))).answer).refused ≡ 7 → ⊥
       by true e y z h = let q : ◌≡◌ {A = ℕ} 0 1 = cc in omega arith
@@ -108,7 +108,7 @@ module _ (s b : List ℕ) where
 
   pub many_captured : length s ≡ 278532 → Traces 7 A s b (told 7 0 7) b
   unfolding admitted read_table capturing captured capture_refusal
-  many_captured e = by (not_aCapture (length s)) (ap not_aCapture e)
+  many_captured e = by (not_a_capture (length s)) (ap not_a_capture e)
     where
       by : (x : Bool) → x ≡ true → (capture_numbers (left (number x)).answer ≡ told 7 0 7) × ((left (number x)).buffer ≡ b)
       by true e = (refl, refl)

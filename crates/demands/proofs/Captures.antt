@@ -17,7 +17,7 @@ use Rattle.records.specs.Command.{bytes_of_all}
 use Rattle.rules.specs.Verdict.{judge}
 use Rattle.capture.specs.declared.answer.CaptureJudged.TheVariants.{Verdict, Refused as NotCaptured}
 use Rattle.stamps.specs.Capture.{timed_in, lowest}
-use Rattle.capture.specs.Answer.{not_aCapture, capture_count, commands_seen, capture_refusal, position_of, Captured, captured}
+use Rattle.capture.specs.Answer.{not_a_capture, capture_count, commands_seen, capture_refusal, position_of, Captured, captured}
 use Rattle.promises.specs.Tracing.{capturing}
 use Rattle.promises.specs.Numbers.{capture_numbers}
 use Rattle.demands.specs.Causes.{row, FirstRow, capture_rows}
@@ -52,7 +52,7 @@ module _ (τ : Table) (s b : List ℕ) where
 
 pub capture_rows_lem : (τ : Table) (s b : List ℕ) → FirstRow (capture_rows s (length b)) (capture_numbers (capturing (Read τ) s b).answer)
 unfolding capturing captured capture_refusal
-capture_rows_lem τ s b = first_row τ s b (not_aCapture (length s)) (ltb (lowest (timed_in s)) (capture_count s)) (ltb (length b) (8 * length (commands_seen s)))
+capture_rows_lem τ s b = first_row τ s b (not_a_capture (length s)) (ltb (lowest (timed_in s)) (capture_count s)) (ltb (length b) (8 * length (commands_seen s)))
 
 -- a refused call leaves the buffer
 pub uncaptured : (a : TableRead) (s b : List ℕ) (x : Refusal) → (capturing a s b).answer ≡ NotCaptured x → (capturing a s b).buffer ≡ b

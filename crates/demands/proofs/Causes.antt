@@ -22,7 +22,7 @@ use Rattle.rules.specs.Pieces.{is_late, lent_run}
 use Rattle.judge.specs.declared.answer.Judged.TheVariants.{Verdict, Refused as NotJudged}
 use Rattle.judge.specs.declared.answer.PatternJudged.{PatternJudged}
 use Rattle.judge.specs.declared.answer.PatternJudged.TheVariants.{Verdict as PatternVerdict, Refused as PatternNotJudged}
-use Rattle.judge.specs.Answer.{not_aSchedule, schedule_refusal, judged}
+use Rattle.judge.specs.Answer.{not_a_schedule, schedule_refusal, judged}
 use Rattle.serves.specs.declared.answer.ServesAnswer.{ServesAnswer}
 use Rattle.serves.specs.declared.answer.ServesAnswer.TheVariants.{Told, Refused as NotTold}
 use Rattle.builder.specs.declared.bound.BoundAnswer.TheVariants.{Bound, Refused as NoBound}
@@ -69,14 +69,14 @@ judge_rows : (τ : Table) (s : List ℕ) → FirstRow (schedule_row s ∷ []) (j
 unfolding judging judged
 judge_rows τ s =
     let z = schedule_refusal (length s) in
-    one 7 (not_aSchedule (length s)) (judged_numbers (judging (Read τ) s))
+    one 7 (not_a_schedule (length s)) (judged_numbers (judging (Read τ) s))
     (by_number judged_numbers z (Verdict τ.edition (judge τ (commands_in s))) (NotJudged (refusal z 0 τ.edition)) (refl, refl) (refl, refl))
 
 pattern_rows : (τ : Table) (s : List ℕ) (L : ℕ) (r : PatternJudged) → PatternTold (Read τ) s L r → FirstRow (schedule_row s ∷ row 8 0 (eqb L 0) ∷ []) (pattern_numbers r)
 unfolding PatternTold
-pattern_rows τ s L (PatternVerdict e v) p = two 7 8 (not_aSchedule (length s)) (eqb L 0) (pattern_numbers (PatternVerdict e v)) (sym p.0, refl)
+pattern_rows τ s L (PatternVerdict e v) p = two 7 8 (not_a_schedule (length s)) (eqb L 0) (pattern_numbers (PatternVerdict e v)) (sym p.0, refl)
 pattern_rows τ s L (PatternNotJudged x) p =
-    two 7 8 (not_aSchedule (length s)) (eqb L 0) (refusing x) (ap (λ (y : Refusal). y.number) p.1, ap (λ (y : Refusal). y.position) p.1)
+    two 7 8 (not_a_schedule (length s)) (eqb L 0) (refusing x) (ap (λ (y : Refusal). y.number) p.1, ap (λ (y : Refusal). y.position) p.1)
 
 bound_rows : (τ : Table) (bi bc : ℕ) → FirstRow (row 4 0 (not (within 1 16 bi && (within 1 16 bc && leb bi τ.banks))) ∷ []) (bound_numbers (bounding (Read τ) bi bc))
 unfolding bounding bound_told
@@ -116,9 +116,9 @@ module _ (τ : Table) (l : List Transaction) (s : List ℕ) where
   serves_rows a (r, h, e) = subst (FirstRow (schedule_row s ∷ [])) (sym e) (by_answer r h)
     where
       by_answer : (r : ServesAnswer) → ServesChecked Fine τ l s r → FirstRow (schedule_row s ∷ []) (serves_numbers r)
-      by_answer (Told e v) h = one 7 (not_aSchedule (length s)) (serves_numbers (Told e v)) (sym h.0, refl)
+      by_answer (Told e v) h = one 7 (not_a_schedule (length s)) (serves_numbers (Told e v)) (sym h.0, refl)
       by_answer (NotTold x) h =
-          one 7 (not_aSchedule (length s)) (refusing x) (ap (λ (y : Refusal). y.number) h.1, ap (λ (y : Refusal). y.position) h.1)
+          one 7 (not_a_schedule (length s)) (refusing x) (ap (λ (y : Refusal). y.number) h.1, ap (λ (y : Refusal). y.position) h.1)
 
   serves_gives : (x : Refusal) (a : Numbers) → ServesTells (NotFine x) a → a ≡ refusing x
   unfolding ServesChecked

@@ -22,7 +22,7 @@ use Rattle.rules.specs.declared.verdict.Verdict.TheVariants.{Refused as Broken}
 use Rattle.rules.specs.Verdict.{judge, unnumbered}
 use Rattle.capture.specs.declared.answer.CaptureJudged.TheVariants.{Verdict as Says, Refused as NotCaptured}
 use Rattle.stamps.specs.Capture.{records_in, timed_in, lowest}
-use Rattle.capture.specs.Answer.{not_aCapture, capture_count, commands_seen, capture_refusal, captured}
+use Rattle.capture.specs.Answer.{not_a_capture, capture_count, commands_seen, capture_refusal, captured}
 use Rattle.capture.specs.Eleven.{Such}
 use Rattle.capture.specs.Written.{capture_bytes, all_stamped, without_ticks}
 use Rattle.capture.proofs.Refusals.{length_in}
@@ -82,6 +82,6 @@ traces expected table τ q =
           ap (λ (z : TableRead). (capturing z s b).buffer) q
           ∙ against_by τ s b (capture_refusal s (length b)) e n i x (sym (ap (λ (z : TableRead). (capturing z s b).answer) q) ∙ h);
       eleven = λ s b x h n.
-          eleven_by τ s b (not_aCapture (length s)) (ltb (lowest (timed_in s)) (capture_count s)) (ltb (length b) (8 * length (commands_seen s))) x refl
+          eleven_by τ s b (not_a_capture (length s)) (ltb (lowest (timed_in s)) (capture_count s)) (ltb (length b) (8 * length (commands_seen s))) x refl
           (sym (ap (λ (z : TableRead). (capturing z s b).answer) q) ∙ h) n;
     }

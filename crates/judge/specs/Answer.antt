@@ -15,15 +15,15 @@ use Rattle.judge.specs.declared.answer.PatternJudged.{PatternJudged}
 use Rattle.judge.specs.declared.answer.PatternJudged.TheVariants.{Verdict as PatternSaid, Refused as PatternRefused}
 
 -- number 7: "schedule bytes not a multiple of 8, or over 69,632 records"
-abbrev pub not_aSchedule : ℕ → Bool
-not_aSchedule size = not (eqb (size % 8) 0) || ltb 69632 (size / 8)
+abbrev pub not_a_schedule : ℕ → Bool
+not_a_schedule size = not (eqb (size % 8) 0) || ltb 69632 (size / 8)
 
 abbrev pub schedule_refusal : ℕ → ℕ
-schedule_refusal size = first_failed ((7, not_aSchedule size) ∷ [])
+schedule_refusal size = first_failed ((7, not_a_schedule size) ∷ [])
 
 -- number 8: "pattern length 0"
 abbrev pub pattern_refusal : ℕ → ℕ → ℕ
-pattern_refusal size L = first_failed ((7, not_aSchedule size) ∷ (8, eqb L 0) ∷ [])
+pattern_refusal size L = first_failed ((7, not_a_schedule size) ∷ (8, eqb L 0) ∷ [])
 
 -- what the judge answers on bytes: the table's edition with the verdict, or with the refusal, whose position is 0
 unfoldable pub judged : Table → List ℕ → Judged

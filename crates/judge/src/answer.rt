@@ -1,6 +1,6 @@
 // What the judges answer, and what they refuse before they judge.
 ghost use Rattle.std.specs.Prelude.{◌≡◌};
-ghost use Rattle.judge.specs.Answer.{not_aSchedule, schedule_refusal, pattern_refusal};
+ghost use Rattle.judge.specs.Answer.{not_a_schedule, schedule_refusal, pattern_refusal};
 
 use records::refusal::{Refusal, first_failed};
 use records::tests::either_of;
@@ -21,7 +21,7 @@ pub enum PatternJudged {
 
 // "schedule bytes not a multiple of 8, or over 69,632 records"
 pub fn not_a_schedule(size: usize) -> bool
-    ensures { result ≡ not_aSchedule size }
+    ensures { result ≡ not_a_schedule size }
 {
     either_of(size % 8 != 0, 69632 < size / 8)
 }

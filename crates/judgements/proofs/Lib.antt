@@ -1,2 +1,2 @@
--- What the walk of `serves` needs of a lent run.
+-- What `serves` needs of a lent run.
 mod LentServes

@@ -1,4 +1,4 @@
-// Lists in the bytes that the covered code reads, eight to a transaction: a lent run of records, gathered, and records of 4 bytes, widened.
+// Lists in the bytes that the engines read, eight to a transaction: a lent run of records, gathered, and records of 4 bytes, widened.
 ghost use Rattle.std.specs.Prelude.{◌≡◌, [], ◌+◌, ◌*◌, ◌≤◌, length};
 ghost use Rattle.records.specs.Told.{put_at};
 ghost use Rattle.records.specs.Transaction.{transaction, arriving, later_bytes, transactions_in};

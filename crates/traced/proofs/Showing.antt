@@ -19,7 +19,7 @@ use Rattle.records.specs.Command.{bytes_of_all}
 use Rattle.rules.specs.Verdict.{judge}
 use Rattle.capture.specs.declared.answer.CaptureJudged.TheVariants.{Verdict as Says, Refused}
 use Rattle.stamps.specs.Capture.{timed_in, lowest}
-use Rattle.capture.specs.Answer.{not_aCapture, capture_count, commands_seen, capture_refusal, position_of, Captured, captured}
+use Rattle.capture.specs.Answer.{not_a_capture, capture_count, commands_seen, capture_refusal, position_of, Captured, captured}
 use Rattle.capture.proofs.Refusals.{few_records, few_commands, at_most, stand_seen}
 use Rattle.promises.specs.Admit.{admitted}
 use Rattle.promises.specs.Tracing.{capturing}
@@ -47,7 +47,7 @@ module _ (τ : Table) (s b : List ℕ) (room : 557056 ≤ length b) where
   abbrev Told : List ℕ → Type 0
   Told text = Shows7 τ s text ⊎ (Shows11 τ s text ⊎ ShowsVerdict τ s text)
 
-  by : (x y z : Bool) → not_aCapture (length s) ≡ x → late ≡ y → tight ≡ z → Told (left_text (left (first_failed ((7, x) ∷ (11, y) ∷ (5, z) ∷ []))))
+  by : (x y z : Bool) → not_a_capture (length s) ≡ x → late ≡ y → tight ≡ z → Told (left_text (left (first_failed ((7, x) ∷ (11, y) ∷ (5, z) ∷ []))))
   unfolding answer_text
   by true y z p q r = inl (record { size = p; is = refl })
   by false true z p q r = inr (inl (record { size = p; low = ltb-true (lowest (timed_in s)) (capture_count s) q; is = refl }))
@@ -61,7 +61,7 @@ module _ (τ : Table) (s b : List ℕ) (room : 557056 ≤ length b) where
 
   told : Told (left_text (captured τ s b))
   unfolding captured capture_refusal
-  told = by (not_aCapture (length s)) late tight refl refl refl
+  told = by (not_a_capture (length s)) late tight refl refl refl
 
 enough : (n : ℕ) → n ≡ 557056 → 557056 ≤ n
 enough n e = omega arith

@@ -7,25 +7,25 @@ use Rattle.records.specs.declared.table.TableRead.TheVariants.{Read, Refused}
 use Rattle.records.specs.declared.refusal.Refusal.{Refusal}
 use Rattle.rules.specs.Verdict.{judge}
 use Rattle.stamps.specs.Capture.{timed_in, lowest}
-use Rattle.capture.specs.Answer.{not_aCapture, capture_count, commands_seen}
+use Rattle.capture.specs.Answer.{not_a_capture, capture_count, commands_seen}
 use Rattle.promises.specs.Admit.{admitted}
 use Rattle.lines.specs.Lines.{refused_line}
 use Rattle.traced.specs.Trace.{trace_text}
 
 -- "Number 7 (bytes not a multiple of 4, or over 69,632 records)"
 pub record Shows7 (τ : Table) (capture text : List ℕ) : Type 0 where
-  pub size : not_aCapture (length capture) ≡ true
+  pub size : not_a_capture (length capture) ≡ true
   pub is : text ≡ refused_line (refusal 7 0 τ.edition)
 
 -- "Number 11, at the lowest such record"; "Number 7 .. goes before 11"
 pub record Shows11 (τ : Table) (capture text : List ℕ) : Type 0 where
-  pub size : not_aCapture (length capture) ≡ false
+  pub size : not_a_capture (length capture) ≡ false
   pub low : lowest (timed_in capture) < capture_count capture
   pub is : text ≡ refused_line (refusal 11 (lowest (timed_in capture)) τ.edition)
 
 -- "The capture is written as command records .. and judged"
 pub record ShowsVerdict (τ : Table) (capture text : List ℕ) : Type 0 where
-  pub size : not_aCapture (length capture) ≡ false
+  pub size : not_a_capture (length capture) ≡ false
   pub none : lowest (timed_in capture) ≡ capture_count capture
   pub is : text ≡ trace_text τ.edition (commands_seen capture) (judge τ (commands_seen capture))
 
