@@ -6,7 +6,7 @@ use mathlib.Core.Path.{◌≡◌, sym, ap, ◌∙◌, subst, refl}
 use mathlib.Core.List.{List, ◌++◌}
 use native.Mathlib.Omega.{arith}
 use native.Mathlib.Nat.{zero-add}
-use lib.ListN.{length, take, drop, length-append, length-drop, length-replicate, drop_of_length-le}
+use lib.ListN.{length, take, drop, length-append, length-drop, replicate, length-replicate, drop_of_length-le}
 use lib.Seq.{take_all, drop-length}
 use borrow.Author.Tests.{lt-ltb, le-ltb}
 use Rattle.records.specs.Tests.{pick}
@@ -78,9 +78,13 @@ fits (Read τ) s b e n v h =
     omega (arith, same, (taken s (length b) k.0).fits)
 fits (NoTable x) s b e n v h = let y : ◌≡◌ {A = ℕ} 0 1 = cc in absurd (omega arith)
 
+zeros_size : (n : ℕ) (b : List ℕ) → b ≡ replicate n 0 → n ≡ length b
+zeros_size n b e = sym (ap length e ∙ length-replicate {A = ℕ} n 0)
+
+-- the count is read off the room, so that another count is seen as a number and no list of so many is made
 pub room_size : (b : List ℕ) → b ≡ empty_room → 557056 ≡ length b
 unfolding empty_room
-room_size b e = sym (ap length e ∙ length-replicate {A = ℕ} 557056 0)
+room_size b e = let s = zeros_size _ b e in s
 
 module _ (expected : ℕ) (table capture room b : List ℕ) (r : CaptureJudged) (blank : b ≡ empty_room) (g : LeavesCapture (capturing (admitted expected table) capture b) r room) where
   h : LeavesCapture (capturing (admitted expected table) capture empty_room) r room
