@@ -2,27 +2,29 @@
 ghost use Rattle.std.specs.Prelude.{◌≡◌};
 ghost use Rattle.admission.specs.Admit.{expects, admitted, by_length, way_in};
 
-use records::refusal::refuse;
-use records::table::{Table, TableRead};
+use records::refusal::{Refusal, refuse};
+use records::table::Table;
 use tables::table::read_table;
 
 // The table, if its edition is the expected one.
-fn expect(expected: u16, t: Table) -> TableRead
+fn expect(expected: u16, t: Table) -> Result<Table, Refusal>
     ensures { result ≡ expects expected t }
 {
     if t.edition == expected {
-        return TableRead::Read(t);
+        Ok(t)
+    } else {
+        Err(refuse(10, u32::from(t.edition), t.edition))
     }
-    TableRead::Refused(refuse(10, t.edition as u32, t.edition))
 }
 
 // The one way in for a table.
-pub fn admit(expected: u16, table: &[u8]) -> TableRead
+#[tactic(auto, unfolding(crate::specs::Admit::admitted))]
+pub fn admit(expected: u16, table: &[u8]) -> Result<Table, Refusal>
     ensures { result ≡ admitted expected table.now }
 {
     match read_table(table) {
-        TableRead::Read(t) => expect(expected, t),
-        TableRead::Refused(r) => TableRead::Refused(r),
+        Ok(t) => expect(expected, t),
+        Err(r) => Err(r),
     }
 }
 
@@ -30,7 +32,7 @@ pub fn admit(expected: u16, table: &[u8]) -> TableRead
 #[derive(Clone, Copy)]
 pub struct WayIn {
     pub n: usize,
-    pub table: TableRead,
+    pub table: Result<Table, Refusal>,
 }
 
 // No record of a run of more than 256 is looked at.
@@ -38,11 +40,13 @@ fn within(t: Table, n: usize) -> WayIn
     ensures { result ≡ by_length n t }
 {
     if n <= 256 {
-        let table = TableRead::Read(t);
-        return WayIn { n, table };
+        WayIn { n, table: Ok(t) }
+    } else {
+        WayIn {
+            n: 0,
+            table: Err(refuse(3, 0, t.edition)),
+        }
     }
-    let table = TableRead::Refused(refuse(3, 0, t.edition));
-    WayIn { n: 0, table }
 }
 
 // The one way in for a table and a lent run of n records.
@@ -50,10 +54,10 @@ pub fn admit_lent(expected: u16, table: &[u8], n: usize) -> WayIn
     ensures { result ≡ way_in n (admitted expected table.now) }
 {
     match admit(expected, table) {
-        TableRead::Read(t) => within(t, n),
-        TableRead::Refused(r) => {
-            let table = TableRead::Refused(r);
-            WayIn { n: 0, table }
-        }
+        Ok(t) => within(t, n),
+        Err(r) => WayIn {
+            n: 0,
+            table: Err(r),
+        },
     }
 }

@@ -2,13 +2,10 @@
 ghost use Rattle.std.specs.Prelude.{◌≡◌, ◌<◌};
 ghost use Rattle.answers.specs.Answers.{answer, refusing, of_written, of_read, count_of, of_build, of_bound, of_start, start_of, of_run, run_of};
 
-use builder::bound::BoundAnswer;
-use builder::build::BuildAnswer;
 use controller::controller::Controller;
-use controller::run::RunTold;
-use lists::decode::Decoded;
+use controller::run::{RunReport, RunTold};
 use promises::starting::StartTold;
-use records::refusal::{Refusal, Written};
+use records::refusal::Refusal;
 
 // `refused` is 0, or the refusal's number; `edition` is the table's, or the refusal's; `count` the commands written, the transactions read or
 // the bound; `cycles` the cycles run.
@@ -55,8 +52,8 @@ pub fn told(edition: u16, count: u32, cycles: u32) -> Answer
         refused: 0,
         position: 0,
         edition: from_16(edition),
-        count: count,
-        cycles: cycles,
+        count,
+        cycles,
     }
 }
 
@@ -72,59 +69,59 @@ pub fn refused(x: Refusal) -> Answer
     }
 }
 
-pub fn of_written(w: Written) -> Answer
+pub fn of_written(w: Result<u16, Refusal>) -> Answer
     ensures { result ≡ of_written w }
 {
     match w {
-        Written::Done(e) => told(e, 0, 0),
-        Written::Refused(x) => refused(x),
+        Ok(e) => told(e, 0, 0),
+        Err(x) => refused(x),
     }
 }
 
-pub fn of_read(d: Decoded) -> Answer
+pub fn of_read(d: Result<(u16, u32), Refusal>) -> Answer
     ensures { result ≡ of_read d }
 {
     match d {
-        Decoded::Done(e, n) => told(e, n, 0),
-        Decoded::Refused(x) => refused(x),
+        Ok((e, count)) => told(e, count, 0),
+        Err(x) => refused(x),
     }
 }
 
 // A schedule's commands are counted in 32 bits: there are at most 69,632.
-pub fn of_build(b: BuildAnswer) -> Answer
+pub fn of_build(b: Result<(u16, usize), Refusal>) -> Answer
     requires { count_of b < 4294967296 }
     ensures { result ≡ of_build b }
 {
     match b {
-        BuildAnswer::Built(e, n) => told(e, n as u32, 0),
-        BuildAnswer::Refused(x) => refused(x),
+        Ok((e, n)) => told(e, n as u32, 0),
+        Err(x) => refused(x),
     }
 }
 
-pub fn of_bound(b: BoundAnswer) -> Answer
+pub fn of_bound(b: Result<(u16, u32), Refusal>) -> Answer
     ensures { result ≡ of_bound b }
 {
     match b {
-        BoundAnswer::Bound(e, n) => told(e, n, 0),
-        BoundAnswer::Refused(x) => refused(x),
+        Ok((e, n)) => told(e, n, 0),
+        Err(x) => refused(x),
     }
 }
 
-pub fn of_start(s: promises::starting::StartAnswer) -> Answer
+pub fn of_start(s: Result<u16, Refusal>) -> Answer
     ensures { result ≡ of_start s }
 {
     match s {
-        promises::starting::StartAnswer::Started(e) => told(e, 0, 0),
-        promises::starting::StartAnswer::Refused(x) => refused(x),
+        Ok(e) => told(e, 0, 0),
+        Err(x) => refused(x),
     }
 }
 
-pub fn of_run(a: controller::run::RunAnswer) -> Answer
+pub fn of_run(a: Result<RunReport, Refusal>) -> Answer
     ensures { result ≡ of_run a }
 {
     match a {
-        controller::run::RunAnswer::Ran(x) => told(x.edition, x.commands, x.cycles),
-        controller::run::RunAnswer::Refused(x) => refused(x),
+        Ok(x) => told(x.edition, x.commands, x.cycles),
+        Err(x) => refused(x),
     }
 }
 
@@ -134,10 +131,7 @@ pub fn start_of(s: StartTold) -> StartAnswer
     let controller = s.controller;
     let said = s.answer;
     let answer = of_start(said);
-    StartAnswer {
-        controller: controller,
-        answer: answer,
-    }
+    StartAnswer { controller, answer }
 }
 
 pub fn run_of(o: RunTold) -> RunAnswer
@@ -146,8 +140,5 @@ pub fn run_of(o: RunTold) -> RunAnswer
     let controller = o.controller;
     let said = o.answer;
     let answer = of_run(said);
-    RunAnswer {
-        controller: controller,
-        answer: answer,
-    }
+    RunAnswer { controller, answer }
 }

@@ -3,7 +3,7 @@ ghost use Rattle.std.specs.Prelude.{◌≡◌, ◌<◌};
 ghost use Rattle.answers.specs.Answers.{shortest_of, shortest_found, records_found};
 
 use crate::answer::{from_16, refused};
-use shortest::answer::ShortestAnswer;
+use records::refusal::Refusal;
 
 // `length` is the least; `count` is how many records were written.
 #[repr(C)]
@@ -24,18 +24,18 @@ pub fn found(edition: u16, least: u32, count: u32) -> PatternAnswer
         position: 0,
         edition: from_16(edition),
         length: least,
-        count: count,
+        count,
     }
 }
 
 // A pattern's records are counted in 32 bits: there are at most 6.
-pub fn shortest_of(s: ShortestAnswer) -> PatternAnswer
+pub fn shortest_of(s: Result<(u16, u32, usize), Refusal>) -> PatternAnswer
     requires { records_found s < 4294967296 }
     ensures { result ≡ shortest_of s }
 {
     match s {
-        ShortestAnswer::Pattern(e, least, n) => found(e, least, n as u32),
-        ShortestAnswer::Refused(x) => {
+        Ok((e, least, n)) => found(e, least, n as u32),
+        Err(x) => {
             let r = refused(x);
             PatternAnswer {
                 refused: r.refused,

@@ -4,11 +4,11 @@ ghost use Rattle.records.specs.Table.{group_numbers_of};
 ghost use Rattle.answers.specs.Answers.{of_table, of_transaction, command_answer, of_command, of_capture_record};
 
 use crate::answer::{from_16, refused};
-use commands::command::kind_number;
-use records::command::{Command, CommandRead};
-use records::table::{Table, TableRead};
-use records::transaction::TransactionRead;
-use stamps::one_record::CaptureRecordRead;
+use records::command::Command;
+use records::refusal::Refusal;
+use records::table::Table;
+use records::transaction::Transaction;
+use stamps::one_record::CaptureRecord;
 
 // Of a table of 32 bytes the last four numbers are one group and the short CCD, RRD and WTR again.
 #[repr(C)]
@@ -66,20 +66,20 @@ pub fn numbers_of(t: Table) -> [u16; 20]
     ]
 }
 
-pub fn of_table(a: TableRead) -> TableAnswer
+pub fn of_table(a: Result<Table, Refusal>) -> TableAnswer
     ensures { result ≡ of_table a }
 {
     match a {
-        TableRead::Read(t) => {
+        Ok(t) => {
             let numbers = numbers_of(t);
             TableAnswer {
                 refused: 0,
                 position: 0,
                 edition: from_16(t.edition),
-                numbers: numbers,
+                numbers,
             }
         }
-        TableRead::Refused(x) => {
+        Err(x) => {
             let r = refused(x);
             TableAnswer {
                 refused: r.refused,
@@ -91,11 +91,11 @@ pub fn of_table(a: TableRead) -> TableAnswer
     }
 }
 
-pub fn of_transaction(a: TransactionRead) -> TransactionAnswer
+pub fn of_transaction(a: Result<Transaction, Refusal>) -> TransactionAnswer
     ensures { result ≡ of_transaction a }
 {
     match a {
-        TransactionRead::Read(t) => TransactionAnswer {
+        Ok(t) => TransactionAnswer {
             refused: 0,
             position: 0,
             edition: 0,
@@ -105,7 +105,7 @@ pub fn of_transaction(a: TransactionRead) -> TransactionAnswer
             bc: t.bc,
             arrival: t.arrival,
         },
-        TransactionRead::Refused(x) => {
+        Err(x) => {
             let r = refused(x);
             TransactionAnswer {
                 refused: r.refused,
@@ -124,24 +124,23 @@ pub fn of_transaction(a: TransactionRead) -> TransactionAnswer
 pub fn told_command(c: Command) -> CommandAnswer
     ensures { result ≡ command_answer c }
 {
-    let k = c.kind;
     CommandAnswer {
         refused: 0,
         position: 0,
         edition: 0,
         cycle: c.cycle,
-        kind: kind_number(k),
+        kind: u8::from(c.kind),
         bank: c.bank,
         number: c.number,
     }
 }
 
-pub fn of_command(a: CommandRead) -> CommandAnswer
+pub fn of_command(a: Result<Command, Refusal>) -> CommandAnswer
     ensures { result ≡ of_command a }
 {
     match a {
-        CommandRead::Read(c) => told_command(c),
-        CommandRead::Refused(x) => {
+        Ok(c) => told_command(c),
+        Err(x) => {
             let r = refused(x);
             CommandAnswer {
                 refused: r.refused,
@@ -156,11 +155,11 @@ pub fn of_command(a: CommandRead) -> CommandAnswer
     }
 }
 
-pub fn of_capture_record(a: CaptureRecordRead) -> CaptureRecordAnswer
+pub fn of_capture_record(a: Result<CaptureRecord, Refusal>) -> CaptureRecordAnswer
     ensures { result ≡ of_capture_record a }
 {
     match a {
-        CaptureRecordRead::Read(x) => CaptureRecordAnswer {
+        Ok(x) => CaptureRecordAnswer {
             refused: 0,
             position: 0,
             edition: 0,
@@ -168,7 +167,7 @@ pub fn of_capture_record(a: CaptureRecordRead) -> CaptureRecordAnswer
             kind: x.kind,
             bank: x.bank,
         },
-        CaptureRecordRead::Refused(x) => {
+        Err(x) => {
             let r = refused(x);
             CaptureRecordAnswer {
                 refused: r.refused,

@@ -1,16 +1,10 @@
 -- No number of the bound is large.
 -- Assumes nothing.
-use Prim.Native.Nat.{ℕ, ◌-◌, ◌*◌, ◌≤◌}
+use Prim.Native.Nat.{◌≤◌}
 use native.Mathlib.Omega.{arith}
-use native.Mathlib.Nat.{mul-le-mul, max-le}
+use native.Mathlib.Nat.{max-le}
 use Rattle.records.specs.declared.table.Table.{Table}
 use Rattle.rules.specs.Bound.{bound_s, bound_d, bound_x}
-
-pub spaced_small : (n d : ℕ) → n ≤ 65025 → d ≤ 65536 → ((n - 1) * d ≤ 65024 * d) × ((n - 1) * d ≤ n * 65536)
-spaced_small n d h k = (mul-le-mul {n₁ = n - 1} {m₁ = d} {n₂ = 65024} {m₂ = d} (omega arith) (omega arith), mul-le-mul {n₁ = n - 1} {m₁ = d} {n₂ = n} {m₂ = 65536} (omega arith) k)
-
-pub bytes_times : (i c : ℕ) → i ≤ 255 → c ≤ 255 → i * c ≤ 65025
-bytes_times i c h k = mul-le-mul {n₁ = i} {m₁ = c} {n₂ = 255} {m₂ = 255} h k
 
 -- the numbers of a table are of 16 bits
 pub record Words (τ : Table) : Type 0 where

@@ -1,5 +1,7 @@
 -- What the proofs of the leaves cite.
 -- Assumes nothing.
+use Rattle.std.specs.Prelude.{Some, None}
+use Rattle.rules.specs.Types.{Stamp}
 use Prim.Native.Nat.{ℕ, ◌≤◌, ◌<◌}
 use mathlib.Core.Path.{◌≡◌, refl, sym, ap, ◌∙◌}
 use mathlib.Core.Logic.{inl}
@@ -12,12 +14,10 @@ use Rattle.records.specs.Tests.{pick}
 use Rattle.records.specs.declared.table.Table.{Table}
 use Rattle.records.specs.declared.command.Kind.{Kind}
 use Rattle.records.specs.declared.command.Kind.TheVariants.{Act, Rd, Rda, Wr, Wra, Ref, Other}
-use Rattle.rules.specs.declared.state.Stamp.{Stamp}
 use Rattle.rules.specs.declared.state.Bank.{Bank}
 use Rattle.rules.specs.declared.state.Group.{Group}
 use Rattle.rules.specs.declared.state.State.{State}
 use Rattle.rules.specs.declared.verdict.Rule.TheVariants.{Range, Order, Opened, Precharge, Rc, Rrd, Faw, Rcd, Distance, Refresh, Rfc}
-use Rattle.rules.specs.declared.verdict.Found.TheVariants.{Fine, Broken}
 use Rattle.rules.specs.Kinds.{is_act, is_wr, is_ref, is_known, first_broken, rules_in_order}
 use Rattle.rules.specs.Square.{group_of, square}
 use Rattle.rules.specs.State.{past, is_open, bank_of, quiet, charged, acts_far, far_by, data_far, rule11, act_tests_of, refresh_tests_of, data_tests_of, tests_by}
@@ -28,7 +28,7 @@ use Rattle.broken.specs.ByState.{found_by, groups_far, own_far, tests_on, found_
 
 -- the rules that an ACT, a REF, and a data command, can break, one after the other
 act_tests_lem : (a b c d e f : Bool)
-    → pick a (pick b (pick c (pick d (pick e (pick f Fine (Broken Rfc)) (Broken Faw)) (Broken Rrd)) (Broken Rc)) (Broken Precharge)) (Broken Opened)
+    → pick a (pick b (pick c (pick d (pick e (pick f None (Some Rfc)) (Some Faw)) (Some Rrd)) (Some Rc)) (Some Precharge)) (Some Opened)
     ≡ first_broken (true ∷ true ∷ a ∷ b ∷ c ∷ d ∷ e ∷ true ∷ true ∷ true ∷ f ∷ []) rules_in_order
 act_tests_lem false b c d e f = refl
 act_tests_lem true false c d e f = refl
@@ -38,13 +38,13 @@ act_tests_lem true true true true false f = refl
 act_tests_lem true true true true true false = refl
 act_tests_lem true true true true true true = refl
 
-pub refresh_order : (a b : Bool) → pick a (pick b Fine (Broken Rfc)) (Broken Refresh) ≡ first_broken (true ∷ true ∷ refresh_tests_of a b) rules_in_order
+pub refresh_order : (a b : Bool) → pick a (pick b None (Some Rfc)) (Some Refresh) ≡ first_broken (true ∷ true ∷ refresh_tests_of a b) rules_in_order
 refresh_order false b = refl
 refresh_order true false = refl
 refresh_order true true = refl
 
 data_tests_lem : (a b c : Bool)
-    → pick a (pick b (pick c Fine (Broken Distance)) (Broken Rcd)) (Broken Opened)
+    → pick a (pick b (pick c None (Some Distance)) (Some Rcd)) (Some Opened)
     ≡ first_broken (true ∷ true ∷ a ∷ true ∷ true ∷ true ∷ true ∷ b ∷ c ∷ []) rules_in_order
 data_tests_lem false b c = refl
 data_tests_lem true false c = refl
@@ -52,18 +52,18 @@ data_tests_lem true true false = refl
 data_tests_lem true true true = refl
 
 pub act_order : (τ : Table) (k : Bank) (keeps6 : Bool) (a4 : Stamp) (keeps12 : Bool) (t : ℕ)
-    → pick (not (is_open k)) (pick (charged τ k t) (pick (past k.act τ.rc t) (pick keeps6 (pick (past a4 τ.faw t) (pick keeps12 Fine (Broken Rfc)) (Broken Faw)) (Broken Rrd)) (Broken Rc)) (Broken Precharge)) (Broken Opened)
+    → pick (not (is_open k)) (pick (charged τ k t) (pick (past k.act τ.rc t) (pick keeps6 (pick (past a4 τ.faw t) (pick keeps12 None (Some Rfc)) (Some Faw)) (Some Rrd)) (Some Rc)) (Some Precharge)) (Some Opened)
     ≡ first_broken (true ∷ true ∷ act_tests_of τ k keeps6 (past a4 τ.faw t) keeps12 t) rules_in_order
 act_order τ k keeps6 a4 keeps12 t = act_tests_lem (not (is_open k)) (charged τ k t) (past k.act τ.rc t) keeps6 (past a4 τ.faw t) keeps12
 
 pub data_order : (τ : Table) (k : Bank) (keeps9 : Bool) (t : ℕ)
-    → pick (is_open k) (pick (past k.act τ.rcd t) (pick keeps9 Fine (Broken Distance)) (Broken Rcd)) (Broken Opened)
+    → pick (is_open k) (pick (past k.act τ.rcd t) (pick keeps9 None (Some Distance)) (Some Rcd)) (Some Opened)
     ≡ first_broken (true ∷ true ∷ data_tests_of τ k keeps9 t) rules_in_order
 data_order τ k keeps9 t = data_tests_lem (is_open k) (past k.act τ.rcd t) keeps9
 
 -- the rules of a record that is no REF, in the order in which the code comes to them
 module _ (τ : Table) (cycle : ℕ) (k : Bank) (far : Bool) (a4 : Stamp) (refresh : Stamp) (kind : Kind) (t : ℕ) where
-  pub found_order : t < cycle → Broken Order ≡ found_on τ cycle k far a4 refresh kind t
+  pub found_order : t < cycle → Some Order ≡ found_on τ cycle k far a4 refresh kind t
   unfolding found_on
   found_order l = rw (lt-leb cycle t l)
 
@@ -101,7 +101,7 @@ module _ (τ : Table) (cycle : ℕ) (k : Bank) (far : Bool) (a4 : Stamp) (refres
 
 -- and of a REF
 module _ (τ : Table) (cycle : ℕ) (rests : Bool) (refresh : Stamp) (t : ℕ) where
-  pub ref_order : t < cycle → Broken Order ≡ found_ref τ cycle rests refresh t
+  pub ref_order : t < cycle → Some Order ≡ found_ref τ cycle rests refresh t
   unfolding found_ref
   ref_order l = rw (lt-leb cycle t l)
 
@@ -138,7 +138,7 @@ one_far τ one gs k t =
 
 -- the rules of a record, of a whole state
 module _ (τ : Table) (s : State) (k : Kind) (t b : ℕ) where
-  pub found_range : in_table τ k b ≡ false → Broken Range ≡ found_by τ s k t b
+  pub found_range : in_table τ k b ≡ false → Some Range ≡ found_by τ s k t b
   unfolding found_by
   found_range e = rw e
 

@@ -1,14 +1,14 @@
 -- What a record breaks, and whether every bank is closed, read off a state.
 use Rattle.std.specs.Prelude.{ℕ, zero, suc, Bool, true, not, ◌&&◌, List, [], ◌∷◌, leb}
+use Rattle.rules.specs.Types.{Stamp}
+use Rattle.rules.specs.Types.{Found}
 use Rattle.records.specs.Tests.{pick}
 use Rattle.records.specs.declared.table.Table.{Table}
 use Rattle.records.specs.declared.command.Kind.{Kind}
 use Rattle.records.specs.declared.command.Kind.TheVariants.{Act, Rd, Rda, Wr, Wra, Ref, Other}
-use Rattle.rules.specs.declared.state.Stamp.{Stamp}
 use Rattle.rules.specs.declared.state.Bank.{Bank}
 use Rattle.rules.specs.declared.state.Group.{Group}
 use Rattle.rules.specs.declared.state.State.{State}
-use Rattle.rules.specs.declared.verdict.Found.{Found}
 use Rattle.rules.specs.Kinds.{is_act, is_wr, first_broken, rules_in_order}
 use Rattle.rules.specs.Square.{square}
 use Rattle.rules.specs.State.{past, is_open, bank_of, acts_far, far_by, data_far, act_tests_of, refresh_tests_of, data_tests_of, tests_by}

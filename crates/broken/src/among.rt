@@ -10,11 +10,12 @@ use distances::kinds::{is_act, is_wr};
 use grouped::groups::{acts_far, data_far};
 use records::command::Kind;
 use records::table::Table;
-use rules::verdict::{Found, Rule};
+use rules::verdict::Rule;
 use timing::kept::{KeptBank, KeptGroup};
 
 // Rules 2 to 12 of a record that keeps rule 1 and is no REF, to bank k of the group `own` at cycle c; `cycle` is the first that rule 2 lets it
 // have. "Rules 6 and 9 .. over all earlier commands, since a neighbour in another group hides an older one": each group is asked for its latest.
+#[tactic(auto, unfolding(crate::specs::ByState::found_on))]
 pub fn found_among(
     t: Table,
     near: [[u32; 2]; 2],
@@ -27,20 +28,20 @@ pub fn found_among(
     refresh: u64,
     kind: Kind,
     c: u64,
-) -> Found
+) -> Option<Rule>
     requires { (t.groups ≤ 8) × (near ≡ square t true) × (away ≡ square t false) × (is_known kind ≡ true) × (is_ref kind ≡ false) }
     ensures { result ≡ found_on t cycle (told_bank k) (groups_far t (map told_group groups) own kind c) (stamp_of a4) (stamp_of refresh) kind c }
 {
     if c < cycle {
-        return Found::Broken(Rule::Order);
+        Some(Rule::Order)
+    } else if is_act(kind) {
+        act_found(t, k, acts_far(t, groups, own, c), a4, refresh, c)
+    } else {
+        data_found(
+            t,
+            k,
+            data_far(t, near, away, groups, own, is_wr(kind), c),
+            c,
+        )
     }
-    if is_act(kind) {
-        return act_found(t, k, acts_far(t, groups, own, c), a4, refresh, c);
-    }
-    data_found(
-        t,
-        k,
-        data_far(t, near, away, groups, own, is_wr(kind), c),
-        c,
-    )
 }

@@ -1,5 +1,6 @@
 -- What the proofs of building cite: the number told is the definition's, and what each answer leaves.
 -- Assumes nothing.
+use Rattle.std.specs.Prelude.{Ok, Err}
 use Prim.Native.Nat.{ℕ, ◌+◌, ◌*◌, ◌≤◌}
 use mathlib.Core.Path.{◌≡◌, refl, sym, ap, ◌∙◌}
 use mathlib.Core.List.{List, [], ◌∷◌}
@@ -17,7 +18,6 @@ use Rattle.rules.specs.Queues.{act_queue, data_queue}
 use Rattle.heads.proofs.Laws.{length_from}
 use Rattle.engine.specs.declared.build.Schedule.{Schedule}
 use Rattle.engine.specs.Build.{Builds}
-use Rattle.builder.specs.declared.build.BuildAnswer.TheVariants.{Built, Refused}
 use Rattle.builder.specs.Build.{build_refusal, LeavesBuild}
 
 -- numbers 5 and 6 by counts
@@ -36,7 +36,7 @@ module _ (τ : Table) (bs : List ℕ) (n : ℕ) where
 
 module _ (τ : Table) (l : List Transaction) (b₀ f₀ : List ℕ) (z : ℕ) (told : z ≡ build_refusal τ l (length b₀) (length f₀)) where
   -- a refused build changes neither buffer
-  pub refused_left_lem : (q : Refusal) → q ≡ refusal z 0 τ.edition → (z ≡ 0 → ⊥) → LeavesBuild τ l b₀ b₀ f₀ f₀ (Refused q)
+  pub refused_left_lem : (q : Refusal) → q ≡ refusal z 0 τ.edition → (z ≡ 0 → ⊥) → LeavesBuild τ l b₀ b₀ f₀ f₀ (Err q)
   refused_left_lem q e h = (λ k. h (told ∙ k), e ∙ ap (λ (y : ℕ). refusal y 0 τ.edition) told, refl, refl)
 
   -- both buffers are long enough
@@ -46,6 +46,6 @@ module _ (τ : Table) (l : List Transaction) (b₀ f₀ : List ℕ) (z : ℕ) (t
       let q = passes 6 (ltb (length f₀) (length l)) [] (λ k. omega arith) p.1 in
       (ltb-false (length b₀) (8 * (length (act_queue τ l) + length (data_queue τ l))) p.0, ltb-false (length f₀) (length l) q.0)
 
-  pub built_left : (b f : List ℕ) (s : Schedule) → z ≡ 0 → Builds τ l b₀ b f₀ f s → LeavesBuild τ l b₀ b f₀ f (Built τ.edition s.commands)
+  pub built_left : (b f : List ℕ) (s : Schedule) → z ≡ 0 → Builds τ l b₀ b f₀ f s → LeavesBuild τ l b₀ b f₀ f (Ok (τ.edition, s.commands))
   built_left b f s e k =
       (sym told ∙ e, refl, record { schedule = k.schedule; built = k.built; count = k.commands; buffer = k.buffer; finishes = k.finishes })

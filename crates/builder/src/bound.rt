@@ -1,33 +1,29 @@
 // The bound for (BI, BC), or number 4.
 ghost use Rattle.std.specs.Prelude.{◌≡◌};
+ghost use Rattle.records.specs.Told.{checked};
 ghost use Rattle.builder.specs.Bound.{bound_refusal, bound_told};
 
 use bounds::bound::bound_of;
-use records::refusal::{Refusal, first_failed, refuse};
+use records::refusal::{Refusal, refuse};
 use records::table::Table;
-use records::tests::{both_of, is_within, not_of};
+use records::tests::is_within;
 
-// The table's edition and the bound, or the refusal.
-#[derive(Clone, Copy)]
-pub enum BoundAnswer {
-    Bound(u16, u32),
-    Refused(Refusal),
-}
-
-pub fn bound_refusal(banks: u16, bi: u8, bc: u8) -> u8
-    ensures { result ≡ bound_refusal banks bi bc }
+// Number 4.
+pub fn check_bound(banks: u16, bi: u8, bc: u8, edition: u16) -> Result<(), Refusal>
+    ensures { result ≡ checked (bound_refusal banks bi bc) 0 edition }
 {
-    let few = both_of(is_within(1, 16, bc as u16), bi as u16 <= banks);
-    let good = both_of(is_within(1, 16, bi as u16), few);
-    first_failed(4, not_of(good), 4, false)
+    let few = is_within(1, 16, bc as u16) && bi as u16 <= banks;
+    let good = is_within(1, 16, bi as u16) && few;
+    if !good {
+        return Err(refuse(4, 0, edition));
+    }
+    Ok(())
 }
 
-pub fn tell_bound(t: Table, bi: u8, bc: u8) -> BoundAnswer
+#[tactic(auto, unfolding(crate::specs::Bound::bound_told))]
+pub fn tell_bound(t: Table, bi: u8, bc: u8) -> Result<(u16, u32), Refusal>
     ensures { result ≡ bound_told t bi bc }
 {
-    let z = bound_refusal(t.banks, bi, bc);
-    if z != 0 {
-        return BoundAnswer::Refused(refuse(z, 0, t.edition));
-    }
-    BoundAnswer::Bound(t.edition, bound_of(t, bi, bc))
+    check_bound(t.banks, bi, bc, t.edition)?;
+    Ok((t.edition, bound_of(t, bi, bc)))
 }

@@ -1,13 +1,9 @@
-// Captures: the host's judge of them, and its reader and writer of one record.
-use crate::told::{buffer, numbers};
-use answers::reader::CaptureRecordAnswer;
-use host::one_record::{skv_read_capture_record, skv_write_capture_record};
+// The host's judge of captures, and its shortest patterns.
+use host::patterns::skv_shortest_pattern;
 use host::tracing::skv_judge_capture;
-use prints::{long, number, text};
-use records::transaction::Transaction;
+use prints::InHex;
 use std::io;
 use std::io::Write;
-use verdict_answers::verdict::CaptureAnswer;
 
 // Room for three commands, and a byte more.
 pub(crate) fn captures<W: Write>(
@@ -16,46 +12,47 @@ pub(crate) fn captures<W: Write>(
     table: &[u8],
     bytes: &[u8],
 ) -> io::Result<()> {
-    text(out, b"skv_judge_capture")?;
-    let mut room = [9u8; 25];
-    let commands = &mut room[..];
-    judged(out, skv_judge_capture(expected, table, bytes, commands))?;
-    buffer(out, commands)
+    let mut commands = [9; 25];
+    let a = skv_judge_capture(expected, table, bytes, &mut commands);
+    writeln!(
+        out,
+        "skv_judge_capture {} {} {} {} {} {} {}",
+        a.refused,
+        a.position,
+        a.edition,
+        a.count,
+        a.rule,
+        a.record,
+        InHex(&commands)
+    )
 }
 
-fn judged<W: Write>(out: &mut W, a: CaptureAnswer) -> io::Result<()> {
-    long(out, a.refused)?;
-    long(out, a.position)?;
-    long(out, a.edition)?;
-    long(out, a.count)?;
-    long(out, a.rule)?;
-    long(out, a.record)
+// What is asked of the shortest pattern.
+#[derive(Clone, Copy)]
+pub(crate) struct Question {
+    pub kind: u8,
+    pub bi: u8,
+    pub bc: u8,
+    pub most: u32,
 }
 
-pub(crate) fn capture_record_read<W: Write>(out: &mut W, bytes: &[u8]) -> io::Result<()> {
-    text(out, b"skv_read_capture_record")?;
-    record(out, skv_read_capture_record(bytes))?;
-    text(out, b"\n")
-}
-
-fn record<W: Write>(out: &mut W, a: CaptureRecordAnswer) -> io::Result<()> {
-    long(out, a.refused)?;
-    long(out, a.position)?;
-    long(out, a.edition)?;
-    number(out, a.stamp)?;
-    long(out, a.kind as u32)?;
-    long(out, a.bank as u32)
-}
-
-// The values are an edition and a transaction's, for want of others.
-pub(crate) fn capture_record_written<W: Write>(
+// Room for six records, and a byte more.
+pub(crate) fn found<W: Write>(
     out: &mut W,
-    stamp: u16,
-    x: Transaction,
+    expected: u16,
+    table: &[u8],
+    q: Question,
 ) -> io::Result<()> {
-    text(out, b"skv_write_capture_record")?;
-    let mut bytes = [255u8; 5];
-    let room = &mut bytes[..];
-    numbers(out, skv_write_capture_record(stamp, x.kind, x.start, room))?;
-    buffer(out, room)
+    let mut pattern = [9; 49];
+    let a = skv_shortest_pattern(expected, table, q.kind, q.bi, q.bc, q.most, &mut pattern);
+    writeln!(
+        out,
+        "skv_shortest_pattern {} {} {} {} {} {}",
+        a.refused,
+        a.position,
+        a.edition,
+        a.length,
+        a.count,
+        InHex(&pattern)
+    )
 }

@@ -1,34 +1,39 @@
 // Does a schedule serve a list?
-use crate::lent::{lent_schedule, lent_serves};
-use crate::lent_host::host_serves;
-use crate::told::{built, refused};
-use host::serving::{skv_serves_bytes, skv_serves_later_bytes};
-use prints::{long, number, text};
+use crate::schedules::built;
+use crate::told::Refused;
+use desk::{schedule, serves};
+use host::serving::{skv_serves, skv_serves_bytes, skv_serves_later_bytes};
 use promises::numbers::rule_number;
+use records::refusal::Refusal;
 use records::transaction::Transaction;
 use serves::answer::Served;
 use std::io;
 use std::io::Write;
-use verdict_answers::verdict::ServesAnswer;
+use verdict_answers::verdict::ServesAnswer as HostServesAnswer;
 
 // The four calls, on a list, the bytes of another, and a schedule.
 pub(crate) fn asked<W: Write>(
     out: &mut W,
     expected: u16,
     table: &[u8],
-    list: [Transaction; 3],
+    list: &[Transaction],
     bytes: &[u8],
     commands: &[u8],
 ) -> io::Result<()> {
-    text(out, b"serves")?;
-    told(out, lent_serves(expected, table, list, commands))?;
-    text(out, b"skv_serves")?;
-    host_told(out, host_serves(expected, table, list, commands))?;
-    text(out, b"skv_serves_bytes")?;
-    host_told(out, skv_serves_bytes(expected, table, bytes, commands))?;
-    text(out, b"skv_serves_later_bytes")?;
+    told(out, serves(expected, table, list, commands))?;
     host_told(
         out,
+        "skv_serves",
+        skv_serves(expected, table, list, commands),
+    )?;
+    host_told(
+        out,
+        "skv_serves_bytes",
+        skv_serves_bytes(expected, table, bytes, commands),
+    )?;
+    host_told(
+        out,
+        "skv_serves_later_bytes",
         skv_serves_later_bytes(expected, table, bytes, commands),
     )
 }
@@ -37,55 +42,39 @@ pub(crate) fn asked<W: Write>(
 pub(crate) fn asked_built<W: Write>(
     out: &mut W,
     table: &[u8],
-    one: [Transaction; 3],
-    list: [Transaction; 3],
+    one: &[Transaction],
+    list: &[Transaction],
     bytes: &[u8],
 ) -> io::Result<()> {
-    text(out, b"schedule")?;
-    let mut room = [0u8; 40];
-    let mut places = [9u32; 3];
-    let commands = &mut room[..];
-    let finishes = &mut places[..];
-    built(out, lent_schedule(7, table, one, commands, finishes))?;
-    text(out, b"\n")?;
-    asked(out, 7, table, list, bytes, commands)
+    let mut commands = [0; 40];
+    let mut finishes = [9; 3];
+    built(out, schedule(7, table, one, &mut commands, &mut finishes))?;
+    out.write_all(b"\n")?;
+    asked(out, 7, table, list, bytes, &commands)
 }
 
-fn told<W: Write>(out: &mut W, a: serves::answer::ServesAnswer) -> io::Result<()> {
+fn told<W: Write>(out: &mut W, a: Result<(u16, Served), Refusal>) -> io::Result<()> {
     match a {
-        serves::answer::ServesAnswer::Told(edition, said) => {
-            number(out, edition)?;
+        Ok((edition, said)) => {
+            write!(out, "serves {edition}")?;
             served(out, said)
         }
-        serves::answer::ServesAnswer::Refused(r) => {
-            refused(out, r)?;
-            text(out, b"\n")
-        }
+        Err(r) => writeln!(out, "serves {}", Refused(r)),
     }
 }
 
 fn served<W: Write>(out: &mut W, a: Served) -> io::Result<()> {
     match a {
-        Served::Serves => text(out, b"\n"),
-        Served::Refused(x, i) => {
-            long(out, rule_number(x))?;
-            long(out, i)?;
-            text(out, b"\n")
-        }
-        Served::AtFault(x) => {
-            long(out, x)?;
-            text(out, b"\n")
-        }
+        Served::Serves => out.write_all(b"\n"),
+        Served::Refused(x, i) => writeln!(out, " {} {i}", rule_number(x)),
+        Served::AtFault(x) => writeln!(out, " {x}"),
     }
 }
 
-fn host_told<W: Write>(out: &mut W, a: ServesAnswer) -> io::Result<()> {
-    long(out, a.refused)?;
-    long(out, a.position)?;
-    long(out, a.edition)?;
-    long(out, a.serves)?;
-    long(out, a.rule)?;
-    long(out, a.record)?;
-    long(out, a.transaction)?;
-    text(out, b"\n")
+fn host_told<W: Write>(out: &mut W, name: &str, a: HostServesAnswer) -> io::Result<()> {
+    writeln!(
+        out,
+        "{name} {} {} {} {} {} {} {}",
+        a.refused, a.position, a.edition, a.serves, a.rule, a.record, a.transaction
+    )
 }

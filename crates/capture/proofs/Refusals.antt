@@ -1,28 +1,29 @@
 -- Numbers 7, 11 and 5 of a capture, and what judging it leaves.
 -- Assumes nothing.
-use Prim.Native.Nat.{ℕ, zero, suc, ◌+◌, ◌*◌, ◌/◌, ◌%◌, ◌≤◌}
+use Rattle.std.specs.Prelude.{Result, Ok, Err}
+use Rattle.rules.specs.declared.verdict.Verdict.{Verdict}
+use Prim.Native.Nat.{ℕ, zero, suc, ◌+◌, ◌*◌, ◌/◌, ◌%◌, ◌≤◌, ◌<◌}
 use native.Mathlib.Omega.{arith}
 use mathlib.Core.Path.{◌≡◌, refl, sym, ap, ◌∙◌}
 use mathlib.Core.Bool.{Bool, true, false, not}
 use mathlib.Core.List.{List, [], ◌∷◌}
 use lib.Dec.{ltb, eqb}
 use lib.ListN.{length, take, drop}
-use borrow.Author.Tests.{le-ltb, ltb-false}
+use borrow.Author.Tests.{lt-ltb, le-ltb, ltb-false}
 use Rattle.records.specs.Tests.{pick}
 use Rattle.records.specs.Told.{refusal, first_failed, over}
 use Rattle.records.specs.declared.refusal.Refusal.{Refusal}
 use Rattle.records.specs.declared.table.Table.{Table}
 use Rattle.records.specs.Command.{kind_of, commands_from, commands_in, bytes_of_all}
-use Rattle.records.proofs.Laws.{refuses, answers, passes}
+use Rattle.records.proofs.Laws.{refuses, answers, answered, passes}
 use Rattle.records.proofs.Inverse.{kind_number_lem}
 use Rattle.rules.specs.declared.verdict.Verdict as Verdicts
 use Rattle.rules.specs.Verdict.{judge}
 use Rattle.rules.proofs.laws.TestLaws.{neither}
 use Rattle.stamps.specs.declared.one_record.CaptureRecord.{CaptureRecord}
 use Rattle.capture.specs.declared.scan.Scanned.{Scanned}
-use Rattle.capture.specs.declared.answer.CaptureJudged.TheVariants.{Verdict, Refused}
 use Rattle.stamps.specs.Capture.{Timed, records_from, records_in, gap, timed_after, timed_of, timed_in, too_late, bad_after, lowest_after, lowest, is_tick, command_of, commands_of}
-use Rattle.capture.specs.Answer.{not_a_capture, capture_count, commands_seen, capture_refusal, position_of, Captured, captured, LeavesCapture, Scans}
+use Rattle.capture.specs.Answer.{not_a_capture, capture_count, commands_seen, capture_refusal, position_of, checked_capture, Captured, captured, LeavesCapture, Scans}
 use Rattle.records.proofs.Written.{Each, Readable, read_back, bytes_stand, read_whole}
 
 -- ---- counts
@@ -94,6 +95,13 @@ module _ (s : List ℕ) (room : ℕ) where
   pub refused_7 : not_a_capture (length s) ≡ true → 7 ≡ capture_refusal s room
   refused_7 e = by true late tight e refl refl
 
+  pub refused_11 : not_a_capture (length s) ≡ false → lowest (timed_in s) < capture_count s → 11 ≡ capture_refusal s room
+  refused_11 e h = by false true tight e (lt-ltb (lowest (timed_in s)) (capture_count s) h) refl
+
+  pub refused_5 : not_a_capture (length s) ≡ false → capture_count s ≤ lowest (timed_in s) → room < 8 * length (commands_seen s) → 5 ≡ capture_refusal s room
+  refused_5 e h k =
+      by false false true e (le-ltb (lowest (timed_in s)) (capture_count s) h) (lt-ltb room (8 * length (commands_seen s)) k)
+
   pub refused_none : not_a_capture (length s) ≡ false → capture_count s ≤ lowest (timed_in s) → 8 * length (commands_seen s) ≤ room → 0 ≡ capture_refusal s room
   refused_none e h k = by false false false e (le-ltb (lowest (timed_in s)) (capture_count s) h) (le-ltb room (8 * length (commands_seen s)) k)
 
@@ -124,28 +132,39 @@ module _ (s : List ℕ) (room : ℕ) where
         fits = ltb-false room (8 * length (commands_seen s)) c.0;
       }
 
--- as the code finds it: r is what the pass over the capture found
-module _ (s : List ℕ) (room : ℕ) (r : Scanned) (found : Scans s r) (z : ℕ)
-    (e : z ≡ first_failed ((11, ltb r.place (capture_count s)) ∷ (5, ltb room (8 * r.count)) ∷ [])) where
-  counts : ltb r.place (capture_count s) ≡ false → r.count ≡ length (commands_seen s)
-  counts q = found.commands (omega (arith, found.place, at_most s room, ltb-false r.place (capture_count s) q))
+-- ---- what the check finds, by the number z
 
-  pub number_told : not_a_capture (length s) ≡ false → z ≡ capture_refusal s room
-  number_told h = on (ltb r.place (capture_count s)) refl
-    where
-      lates : (b : Bool) → ltb r.place (capture_count s) ≡ b → ltb (lowest (timed_in s)) (capture_count s) ≡ b
-      lates b q = ap (λ (n : ℕ). ltb n (capture_count s)) (sym found.place) ∙ q
+module _ (s : List ℕ) (room e z : ℕ) (h : z ≡ capture_refusal s room) where
+  pub check_refuses : (p : ℕ) (q : Refusal) → p ≡ position_of z s → q ≡ refusal z p e → (z ≡ 0 → ⊥) → Err q ≡ checked_capture s room e
+  check_refuses p q f g n =
+      ap Err (g ∙ ap (λ (y : ℕ). refusal z y e) f)
+      ∙ refuses z (capture_refusal s room) h (Ok (length (commands_seen s))) (λ (y : ℕ). Err (refusal y (position_of y s) e)) n
 
-      on : (b : Bool) → ltb r.place (capture_count s) ≡ b → z ≡ capture_refusal s room
-      on true q = e ∙ (ap (λ (b : Bool). number_by false b (ltb room (8 * r.count))) q ∙ by s room false true (tight s room) h (lates true q) refl)
-      on false q =
-          e
-          ∙ (ap (λ (b : Bool). number_by false b (ltb room (8 * r.count))) q
-          ∙ (ap (λ (n : ℕ). number_by false false (ltb room (8 * n))) (counts q) ∙ by s room false false (tight s room) h (lates false q) refl))
+  pub check_passes : (count : ℕ) → count ≡ length (commands_seen s) → z ≡ 0 → Ok count ≡ checked_capture s room e
+  check_passes count f k =
+      ap Ok f
+      ∙ answers z (capture_refusal s room) h (Ok (length (commands_seen s)))
+      (Err (refusal (capture_refusal s room) (position_of (capture_refusal s room) s) e)) k
 
-  pub count_told : z ≡ 0 → r.count ≡ length (commands_seen s)
-  count_told k =
-      counts (passes 11 (ltb r.place (capture_count s)) ((5, ltb room (8 * r.count)) ∷ []) (λ n. omega arith) (sym e ∙ k)).0
+-- r is what the pass over the capture found
+module _ (s : List ℕ) (r : Scanned) (found : Scans s r) where
+  pub count_told : capture_count s ≤ r.place → r.count ≡ length (commands_seen s)
+  count_told q = found.commands (omega (arith, found.place, at_most s 0))
+
+-- what is known where the check answers the count
+count_due : (s : List ℕ) (room e count : ℕ) → checked_capture s room e ≡ Ok count → (capture_refusal s room ≡ 0) × (count ≡ length (commands_seen s))
+count_due s room e count k =
+    let a =
+    answered (λ (x : Result ℕ Refusal). x) z (Ok (length (commands_seen s))) (Err (refusal z (position_of z s) e)) (Ok count) k
+    (λ y. let w : ◌≡◌ {A = ℕ} 0 1 = cc in absurd (omega arith)) in
+    (a.0, ap (λ (r : Result ℕ Refusal). elim r [ Ok n ↦ n | Err x ↦ 0 ]) (sym a.1))
+  where
+    z : ℕ
+    z = capture_refusal s room
+
+pub count_taken : (s : List ℕ) (room e count : ℕ) (r : Result ℕ Refusal) → r ≡ checked_capture s room e → r ≡ Ok count
+    → Taken s room × (count ≡ length (commands_seen s))
+count_taken s room e count r f g = let d = count_due s room e count (sym f ∙ g) in (taken s room d.0, d.1)
 
 -- ---- the commands that were written are read
 
@@ -193,41 +212,47 @@ stand_seen s b e =
 
 -- ---- what is left
 
-module _ (τ : Table) (s b : List ℕ) (z : ℕ) (e : z ≡ capture_refusal s (length b)) where
-  abbrev refused : ℕ → Captured
-  refused n = record { answer = Refused (refusal n (position_of n s) τ.edition); buffer = b }
+module _ (τ : Table) (s b : List ℕ) where
+  abbrev z : ℕ
+  z = capture_refusal s (length b)
+
+  abbrev refused : Captured
+  refused = record { answer = Err (refusal z (position_of z s) τ.edition); buffer = b }
 
   abbrev judged : Captured
   judged = record {
-    answer = Verdict τ.edition (length (commands_seen s)) (judge τ (commands_seen s));
+    answer = Ok (τ.edition, length (commands_seen s), judge τ (commands_seen s));
     buffer = over (bytes_of_all (commands_seen s)) b;
   }
 
-  pub capture_refused : (p : ℕ) (q : Refusal) → p ≡ position_of z s → q ≡ refusal z p τ.edition → (z ≡ 0 → ⊥) → LeavesCapture (captured τ s b) (Refused q) b
+  pub capture_refused : (q : Result (ℕ × ℕ × Verdict) Refusal) (x : Refusal) → checked_capture s (length b) τ.edition ≡ Err x → q ≡ Err x
+      → LeavesCapture (captured τ s b) q b
   unfolding captured
-  capture_refused p q f g n = (
-    ap Refused (g ∙ ap (λ (y : ℕ). refusal z y τ.edition) f) ∙ ap (λ (w : Captured). w.answer) left,
-    ap (λ (w : Captured). w.buffer) left,
-  )
+  capture_refused q x k p = on (eqb z 0) k
     where
-      left : refused z ≡ captured τ s b
-      left = refuses z (capture_refusal s (length b)) e judged refused n
+      on : (t : Bool) → pick t (Ok (length (commands_seen s))) (Err (refusal z (position_of z s) τ.edition)) ≡ Err x
+          → LeavesCapture (pick t judged refused) q b
+      on true h = let y : ◌≡◌ {A = ℕ} 0 1 = cc in absurd (omega arith)
+      on false h = (p ∙ ap (λ (y : Refusal). Err y) (ap (λ (r : Result ℕ Refusal). elim r [ Ok n ↦ x | Err y ↦ y ]) (sym h)), refl)
 
-  pub capture_judged : (count : ℕ) (v : Verdicts.Verdict) (b' : List ℕ) → z ≡ 0 → count ≡ length (commands_seen s)
+  pub capture_judged : (count : ℕ) (v : Verdicts.Verdict) (b' : List ℕ) → checked_capture s (length b) τ.edition ≡ Ok count
       → b' ≡ over (bytes_of_all (commands_seen s)) b → v ≡ judge τ (commands_in (take (8 * count) b'))
-      → LeavesCapture (captured τ s b) (Verdict τ.edition count v) b'
+      → LeavesCapture (captured τ s b) (Ok (τ.edition, count, v)) b'
   unfolding captured
-  capture_judged count v b' k n f g = (same ∙ ap (λ (w : Captured). w.answer) left, f ∙ ap (λ (w : Captured). w.buffer) left)
+  capture_judged count v b' k f g = (same ∙ ap (λ (w : Captured). w.answer) left, f ∙ ap (λ (w : Captured). w.buffer) left)
     where
+      due : (z ≡ 0) × (count ≡ length (commands_seen s))
+      due = count_due s (length b) τ.edition count k
+
       left : judged ≡ captured τ s b
-      left = answers z (capture_refusal s (length b)) e judged (refused (capture_refusal s (length b))) k
+      left = answers z z refl judged refused due.0
 
       read : commands_in (take (8 * count) b') ≡ commands_seen s
       read =
-          ap (λ (m : ℕ). commands_in (take (8 * m) b')) n
-          ∙ (ap commands_in (bytes_stand (commands_seen s) b b' f) ∙ read_seen s (taken s (length b) (sym e ∙ k)).none)
+          ap (λ (m : ℕ). commands_in (take (8 * m) b')) due.1
+          ∙ (ap commands_in (bytes_stand (commands_seen s) b b' f) ∙ read_seen s (taken s (length b) due.0).none)
 
-      same : Verdict τ.edition count v ≡ judged.answer
+      same : Ok (τ.edition, count, v) ≡ judged.answer
       same =
-          ap (λ (m : ℕ). Verdict τ.edition m v) n
-          ∙ ap (Verdict τ.edition (length (commands_seen s))) (g ∙ ap (judge τ) read)
+          ap (λ (m : ℕ). Ok (τ.edition, m, v)) due.1
+          ∙ ap (λ (w : Verdict). Ok (τ.edition, length (commands_seen s), w)) (g ∙ ap (judge τ) read)

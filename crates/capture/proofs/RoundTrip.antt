@@ -1,11 +1,13 @@
 -- A legal schedule, written as a capture with ticks, is read again.
 -- Assumes nothing.
+use Rattle.std.specs.Prelude.{Ok, Err, Some, None}
+use Rattle.rules.specs.Types.{Found}
 use Prim.Native.Nat.{ℕ, zero, suc, ◌+◌, ◌*◌, ◌/◌, ◌%◌, ◌≤◌, ◌<◌}
 use native.Mathlib.Omega.{arith}
 use mathlib.Core.Path.{◌≡◌, refl, sym, ap, ◌∙◌, subst}
 use mathlib.Core.Logic.{⊎_elim}
 use mathlib.Core.Bool.{Bool, true, false, ◌&&◌}
-use mathlib.Core.Option.{some, none, none-ne-some, some-injective}
+use mathlib.Core.Option.{some, none-ne-some, some-injective}
 use mathlib.Core.List.{List, [], ◌∷◌}
 use lib.Dec.{eqb}
 use lib.ListN.{length, get_elem?}
@@ -18,8 +20,6 @@ use Rattle.records.specs.declared.command.Kind.TheVariants.{Act, Rd, Rda, Wr, Wr
 use Rattle.records.specs.declared.command.Command.{Command}
 use Rattle.records.specs.Command.{kind_of, kind_number, command, bytes_of_all}
 use Rattle.records.proofs.Laws.{answers}
-use Rattle.rules.specs.declared.verdict.Found.{Found}
-use Rattle.rules.specs.declared.verdict.Found.TheVariants.{Fine, Broken}
 use Rattle.rules.specs.declared.verdict.Verdict.TheVariants.{Accepted, Refused as Against}
 use Rattle.rules.specs.Kinds.{is_known}
 use Rattle.rules.specs.History.{later, broken}
@@ -29,7 +29,6 @@ use Rattle.rules.proofs.laws.DataKinds.{kind_back_lem}
 use Rattle.rules.proofs.laws.Numbers.{same?}
 use Rattle.rules.proofs.history.Judged.{holds}
 use Rattle.rules.proofs.history.Unnumbered.{judge_same, length_unnumbered}
-use Rattle.capture.specs.declared.answer.CaptureJudged.TheVariants.{Verdict, Refused}
 use Rattle.stamps.specs.Capture.{Timed, timed, timed_after, timed_of, timed_in, gap, bad_after, lowest_after, lowest, commands_of}
 use Rattle.capture.specs.Answer.{not_a_capture, capture_count, commands_seen, capture_refusal, Captured, captured}
 use Rattle.capture.specs.Written.{Sent, sends, ticks, cycle_of, record_of, capture_bytes, commands_sent, WrittenAs, ReadAgain}
@@ -129,10 +128,10 @@ rises : (τ : Table) (rs : List Command) (n : ℕ) (h : List Command) → judge_
 rises τ [] n h e = tt
 rises τ (r ∷ rs) n h e = on (broken τ r h) refl e (rises τ rs (suc n) (r ∷ h))
   where
-    on : (f : Found) → broken τ r h ≡ f → (elim f [ Fine ↦ judge_from τ rs (suc n) (r ∷ h) | Broken x ↦ Against x n ]) ≡ Accepted
+    on : (f : Found) → broken τ r h ≡ f → (elim f [ None ↦ judge_from τ rs (suc n) (r ∷ h) | Some x ↦ Against x n ]) ≡ Accepted
         → (judge_from τ rs (suc n) (r ∷ h) ≡ Accepted → Rises rs (r ∷ h)) → Rises (r ∷ rs) h
-    on Fine b e ih = (and_fst (is_known r.kind) _ (holds τ r h b 0), holds τ r h b 1, ih e)
-    on (Broken x) b e ih = let z : ◌≡◌ {A = ℕ} 0 1 = cc in absurd (omega arith)
+    on None b e ih = (and_fst (is_known r.kind) _ (holds τ r h b 0), holds τ r h b 1, ih e)
+    on (Some x) b e ih = let z : ◌≡◌ {A = ℕ} 0 1 = cc in absurd (omega arith)
 
 known_all : (rs h : List Command) → Rises rs h → Each Known rs
 known_all [] h k = tt
@@ -228,16 +227,16 @@ module _ (τ : Table) (es : List Sent) (l : Legal τ (commands_sent es)) (w : Wr
   commands_are = ap commands_of timed_is ∙ commands_all es (known_all (commands_sent es) [] k)
 
   abbrev judged : List ℕ → List Command → Captured
-  judged b rs = record { answer = Verdict τ.edition (length rs) (judge τ rs); buffer = over (bytes_of_all rs) b }
+  judged b rs = record { answer = Ok (τ.edition, length rs, judge τ rs); buffer = over (bytes_of_all rs) b }
 
   answer_is : (b : List ℕ) → 8 * length (commands_sent es) ≤ length b
-      → captured τ s b ≡ record { answer = Verdict τ.edition (length (commands_sent es)) Accepted; buffer = over (bytes_of_all (unnumbered (commands_sent es))) b }
+      → captured τ s b ≡ record { answer = Ok (τ.edition, length (commands_sent es), Accepted); buffer = over (bytes_of_all (unnumbered (commands_sent es))) b }
   unfolding captured
   answer_is b h =
-      sym (answers 0 (capture_refusal s (length b)) taken (judged b (commands_seen s)) (record { answer = Refused _; buffer = b }) refl)
+      sym (answers 0 (capture_refusal s (length b)) taken (judged b (commands_seen s)) (record { answer = Err _; buffer = b }) refl)
       ∙ (ap (judged b) commands_are
-      ∙ (ap (λ (n : ℕ). record { answer = Verdict τ.edition n (judge τ (unnumbered (commands_sent es))); buffer = over (bytes_of_all (unnumbered (commands_sent es))) b }) (length_unnumbered (commands_sent es))
-      ∙ ap (λ v. record { answer = Verdict τ.edition (length (commands_sent es)) v; buffer = over (bytes_of_all (unnumbered (commands_sent es))) b }) (judge_same τ (commands_sent es) ∙ l)))
+      ∙ (ap (λ (n : ℕ). record { answer = Ok (τ.edition, n, judge τ (unnumbered (commands_sent es))); buffer = over (bytes_of_all (unnumbered (commands_sent es))) b }) (length_unnumbered (commands_sent es))
+      ∙ ap (λ v. record { answer = Ok (τ.edition, length (commands_sent es), v); buffer = over (bytes_of_all (unnumbered (commands_sent es))) b }) (judge_same τ (commands_sent es) ∙ l)))
     where
       count : length (commands_seen s) ≡ length (commands_sent es)
       count = ap length commands_are ∙ length_unnumbered (commands_sent es)

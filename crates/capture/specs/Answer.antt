@@ -1,5 +1,7 @@
 -- What the judge of captures answers and leaves, and what it refuses.
-use Rattle.std.specs.Prelude.{ℕ, ◌*◌, ◌/◌, ◌%◌, ◌≤◌, Bool, not, ◌||◌, ◌≡◌, List, [], ◌∷◌, ltb, eqb, length}
+use Rattle.std.specs.Prelude.{ℕ, ◌*◌, ◌/◌, ◌%◌, ◌≤◌, Bool, not, ◌||◌, ◌≡◌, List, [], ◌∷◌, ltb, eqb, length, Result, Ok, Err}
+use Rattle.rules.specs.declared.verdict.Verdict.{Verdict}
+use Rattle.records.specs.declared.refusal.Refusal.{Refusal}
 use Rattle.records.specs.Tests.{pick}
 use Rattle.records.specs.Told.{refusal, first_failed, over}
 use Rattle.records.specs.declared.table.Table.{Table}
@@ -7,8 +9,6 @@ use Rattle.records.specs.declared.command.Command.{Command}
 use Rattle.records.specs.Command.{bytes_of_all}
 use Rattle.rules.specs.Verdict.{judge}
 use Rattle.capture.specs.declared.scan.Scanned.{Scanned}
-use Rattle.capture.specs.declared.answer.CaptureJudged.{CaptureJudged}
-use Rattle.capture.specs.declared.answer.CaptureJudged.TheVariants.{Verdict, Refused}
 use Rattle.stamps.specs.Capture.{timed_in, lowest, commands_of}
 
 -- "Number 7 (bytes not a multiple of 4, or over 69,632 records)"
@@ -33,9 +33,14 @@ capture_refusal s room =
 abbrev pub position_of : ℕ → List ℕ → ℕ
 position_of z s = pick (eqb z 11) (lowest (timed_in s)) 0
 
+-- what a check of a capture finds: the commands that are due, or the refusal
+abbrev pub checked_capture : List ℕ → ℕ → ℕ → Result ℕ Refusal
+checked_capture s room e =
+    let z = capture_refusal s room in pick (eqb z 0) (Ok (length (commands_seen s))) (Err (refusal z (position_of z s) e))
+
 -- what judging a capture leaves: its answer, and the buffer
 pub record Captured : Type 0 where
-  pub answer : CaptureJudged
+  pub answer : Result (ℕ × ℕ × Verdict) Refusal
   pub buffer : List ℕ
 
 -- what it leaves in a buffer that held b: "a verdict against it is an answer and not a refused call, and leaves them written"
@@ -44,13 +49,13 @@ captured τ s b =
     let z = capture_refusal s (length b) in
     pick (eqb z 0)
     (record {
-      answer = Verdict τ.edition (length (commands_seen s)) (judge τ (commands_seen s));
+      answer = Ok (τ.edition, length (commands_seen s), judge τ (commands_seen s));
       buffer = over (bytes_of_all (commands_seen s)) b;
     })
-    (record { answer = Refused (refusal z (position_of z s) τ.edition); buffer = b })
+    (record { answer = Err (refusal z (position_of z s) τ.edition); buffer = b })
 
 -- the promise: r is the answer, b what the buffer holds as the call returns
-abbrev pub LeavesCapture : Captured → CaptureJudged → List ℕ → Type 0
+abbrev pub LeavesCapture : Captured → Result (ℕ × ℕ × Verdict) Refusal → List ℕ → Type 0
 LeavesCapture w r b = (r ≡ w.answer) × (b ≡ w.buffer)
 
 -- what the pass over a capture finds: the lowest record that number 11 names, or how many there are, and then how many commands they hold

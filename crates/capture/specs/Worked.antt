@@ -1,5 +1,5 @@
 -- Captures worked out, by table A: one that goes round the wrap with ticks, and what number 11 names.
-use Rattle.std.specs.Prelude.{◌≡◌, List, [], ◌∷◌}
+use Rattle.std.specs.Prelude.{◌≡◌, List, [], ◌∷◌, Ok, Err}
 use Rattle.records.specs.declared.command.Kind.TheVariants.{Act, Rda}
 use Rattle.records.specs.Command.{command}
 use Rattle.records.specs.Told.{refusal}
@@ -7,7 +7,6 @@ use Rattle.records.specs.House.{table_a}
 use Rattle.rules.specs.declared.verdict.Rule.TheVariants.{Range}
 use Rattle.rules.specs.declared.verdict.Verdict.TheVariants.{Accepted, Refused as Against}
 use Rattle.rules.specs.Verdict.{Legal}
-use Rattle.capture.specs.declared.answer.CaptureJudged.TheVariants.{Verdict, Refused}
 use Rattle.stamps.specs.Record.{capture_record}
 use Rattle.stamps.specs.Capture.{timed_after, lowest_after}
 use Rattle.capture.specs.Answer.{captured}
@@ -25,20 +24,20 @@ pub record Worked : Type 0 where
   -- the two commands are written and accepted, and the byte beyond stands
   pub accepted : captured table_a (capture_bytes wrapped) (9 ∷ 9 ∷ 9 ∷ 9 ∷ 9 ∷ 9 ∷ 9 ∷ 9 ∷ 9 ∷ 9 ∷ 9 ∷ 9 ∷ 9 ∷ 9 ∷ 9 ∷ 9 ∷ 9 ∷ [])
       ≡ record {
-        answer = Verdict 7 2 Accepted;
+        answer = Ok (7, 2, Accepted);
         buffer = 250 ∷ 255 ∷ 0 ∷ 0 ∷ 0 ∷ 0 ∷ 0 ∷ 0 ∷ 4 ∷ 0 ∷ 1 ∷ 0 ∷ 2 ∷ 0 ∷ 0 ∷ 0 ∷ 9 ∷ [];
       }
   -- number 5: room for one command only
   pub tight : captured table_a (capture_bytes wrapped) (9 ∷ 9 ∷ 9 ∷ 9 ∷ 9 ∷ 9 ∷ 9 ∷ 9 ∷ [])
-      ≡ record { answer = Refused (refusal 5 0 7); buffer = 9 ∷ 9 ∷ 9 ∷ 9 ∷ 9 ∷ 9 ∷ 9 ∷ 9 ∷ [] }
+      ≡ record { answer = Err (refusal 5 0 7); buffer = 9 ∷ 9 ∷ 9 ∷ 9 ∷ 9 ∷ 9 ∷ 9 ∷ 9 ∷ [] }
   -- number 11, at record 2 of tick, tick, tick with stamps 5, 6, 6, without room too
   pub equal : captured table_a (5 ∷ 0 ∷ 255 ∷ 0 ∷ 6 ∷ 0 ∷ 255 ∷ 0 ∷ 6 ∷ 0 ∷ 0 ∷ 0 ∷ []) []
-      ≡ record { answer = Refused (refusal 11 2 7); buffer = [] }
+      ≡ record { answer = Err (refusal 11 2 7); buffer = [] }
   -- number 7
-  pub size : captured table_a (5 ∷ 0 ∷ 255 ∷ []) [] ≡ record { answer = Refused (refusal 7 0 7); buffer = [] }
+  pub size : captured table_a (5 ∷ 0 ∷ 255 ∷ []) [] ≡ record { answer = Err (refusal 7 0 7); buffer = [] }
   -- kind 255 with bank 1 is a command, and breaks rule 1 as record 0
   pub bank : captured table_a (5 ∷ 0 ∷ 255 ∷ 0 ∷ 6 ∷ 0 ∷ 255 ∷ 1 ∷ []) (9 ∷ 9 ∷ 9 ∷ 9 ∷ 9 ∷ 9 ∷ 9 ∷ 9 ∷ [])
-      ≡ record { answer = Verdict 7 1 (Against Range 0); buffer = 6 ∷ 0 ∷ 0 ∷ 0 ∷ 255 ∷ 1 ∷ 0 ∷ 0 ∷ [] }
+      ≡ record { answer = Ok (7, 1, Against Range 0); buffer = 6 ∷ 0 ∷ 0 ∷ 0 ∷ 255 ∷ 1 ∷ 0 ∷ 0 ∷ [] }
   -- number 11: one past 4,294,967,295, a tick too
   pub late : lowest_after 8 65535 (timed_after 65535 4294967295 (capture_record 0 255 0 ∷ [])) ≡ 8
   pub last : lowest_after 8 65534 (timed_after 65534 4294967294 (capture_record 65535 255 0 ∷ [])) ≡ 9

@@ -1,7 +1,7 @@
 -- Document 02, request 6: "For any legal schedule, written as a capture of at most that many records in order of cycle, with ticks only at cycles
 -- without a command, one at most in each and none past 4,294,967,295, the first record below cycle 65,536 and no gap of 65,536 or more, reading it
 -- gives the schedule's cycles, kinds and banks again." What is written is said here without the reader.
-use Rattle.std.specs.Prelude.{ℕ, suc, ◌+◌, ◌*◌, ◌%◌, ◌≤◌, ◌<◌, false, ◌≡◌, List, [], ◌∷◌, ◌++◌, length}
+use Rattle.std.specs.Prelude.{ℕ, suc, ◌+◌, ◌*◌, ◌%◌, ◌≤◌, ◌<◌, false, ◌≡◌, List, [], ◌∷◌, ◌++◌, length, Ok}
 use Rattle.std.proofs.Math.Option.{some}
 use Rattle.std.proofs.Math.ListN.{get_elem?}
 use Rattle.records.specs.Tests.{pick}
@@ -11,7 +11,6 @@ use Rattle.records.specs.declared.command.Command.{Command}
 use Rattle.records.specs.Command.{kind_number, bytes_of_all}
 use Rattle.rules.specs.declared.verdict.Verdict.TheVariants.{Accepted}
 use Rattle.rules.specs.Verdict.{unnumbered}
-use Rattle.capture.specs.declared.answer.CaptureJudged.TheVariants.{Verdict}
 use Rattle.stamps.specs.declared.one_record.CaptureRecord.{CaptureRecord}
 use Rattle.stamps.specs.Record.{capture_record, bytes_of_record}
 use Rattle.stamps.specs.Capture.{records_in, timed_in, lowest, is_tick}
@@ -77,7 +76,7 @@ pub record ReadAgain (τ : Table) (rs : List Command) (s : List ℕ) : Type 0 wh
   pub commands : commands_seen s ≡ unnumbered rs
   -- with room for them, they are written and accepted
   pub answer : (b : List ℕ) → 8 * length rs ≤ length b
-      → captured τ s b ≡ record { answer = Verdict τ.edition (length rs) Accepted; buffer = over (bytes_of_all (unnumbered rs)) b }
+      → captured τ s b ≡ record { answer = Ok (τ.edition, length rs, Accepted); buffer = over (bytes_of_all (unnumbered rs)) b }
 
 -- ---- beyond that sentence, of any capture at all: nothing is lost or moved
 

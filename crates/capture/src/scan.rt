@@ -4,7 +4,6 @@ ghost use Rattle.records.specs.Tests.{pick};
 ghost use Rattle.stamps.specs.Capture.{too_late};
 ghost use Rattle.capture.specs.Answer.{Scans};
 
-use records::tests::{both_of, either_of};
 use stamps::one_record::{cycle_after, is_tick, record_at};
 
 // The lowest record that number 11 names, or how many records there are; and the commands before it.
@@ -18,7 +17,7 @@ pub struct Scanned {
 pub fn is_bad(i: usize, before: u16, stamp: u16, cycle: u64) -> bool
     ensures { result ≡ ((ltb 0 i && eqb stamp before) || too_late cycle) }
 {
-    either_of(both_of(0 < i, stamp == before), 4294967295 < cycle)
+    (0 < i && stamp == before) || 4294967295 < cycle
 }
 
 // One more, but for a tick.
@@ -26,10 +25,7 @@ pub fn counted(tick: bool, count: usize) -> usize
     requires { count < 18446744073709551615 }
     ensures { result ≡ pick tick count (count + 1) }
 {
-    if tick {
-        return count;
-    }
-    count + 1
+    if tick { count } else { count + 1 }
 }
 
 // Before the first record stamp and cycle are 0, so that its own stamp is its true cycle.
@@ -40,23 +36,15 @@ pub fn scan(s: &[u8]) -> Scanned
     let mut stamp: u16 = 0;
     let mut cycle: u64 = 0;
     let mut count: usize = 0;
-    let mut i: usize = 0;
-    while i < n {
+    for i in 0..n {
         let x = record_at(s, i * 4);
         let c = cycle_after(stamp, cycle, x.stamp);
         if is_bad(i, stamp, x.stamp, c) {
-            return Scanned {
-                place: i,
-                count: count,
-            };
+            return Scanned { place: i, count };
         }
         stamp = x.stamp;
         cycle = c;
         count = counted(is_tick(x.kind, x.bank), count);
-        i = i + 1;
     }
-    Scanned {
-        place: n,
-        count: count,
-    }
+    Scanned { place: n, count }
 }

@@ -1,10 +1,10 @@
 -- What is tried of a head, by the bank, the bank's group and the stamps that the rules read. The other groups are asked after it.
 use Rattle.std.specs.Prelude.{ℕ, Bool, true, ◌&&◌, leb}
+use Rattle.rules.specs.Types.{Stamp}
 use Rattle.records.specs.Tests.{all_of}
 use Rattle.records.specs.declared.table.Table.{Table}
 use Rattle.records.specs.declared.command.Command.{Command}
 use Rattle.records.specs.Command.{command}
-use Rattle.rules.specs.declared.state.Stamp.{Stamp}
 use Rattle.rules.specs.declared.state.Bank.{Bank}
 use Rattle.rules.specs.declared.state.Group.{Group}
 use Rattle.rules.specs.Kinds.{is_wr}

@@ -7,11 +7,9 @@ ghost use Rattle.timing.specs.Kept.{stamp_of, told_bank, told_group};
 ghost use Rattle.choices.specs.Choose.{command_of, seen_at, data_free, act_free};
 
 use distances::kinds::is_wr;
-use distances::square::wide;
 use heads::head::Head;
 use records::command::Command;
 use records::table::Table;
-use records::tests::both_of;
 use timing::kept::{KeptBank, KeptGroup, kept_act_free, kept_data_free, since};
 
 // The command of a head, at cycle c.
@@ -19,10 +17,9 @@ pub fn command_of(h: Head, c: u64) -> Command
     requires { c < 4294967296 }
     ensures { result ≡ command_of h c }
 {
-    let k = h.kind;
     Command {
         cycle: c as u32,
-        kind: k,
+        kind: h.kind,
         bank: h.bank,
         number: h.number,
     }
@@ -32,7 +29,7 @@ pub fn command_of(h: Head, c: u64) -> Command
 pub fn seen_at(there: bool, arrival: u32, c: u64) -> bool
     ensures { result ≡ (there && leb arrival c) }
 {
-    both_of(there, arrival as u64 <= c)
+    there && arrival as u64 <= c
 }
 
 // The data queue's head is seen, has had its ACT and breaks no rule at cycle c by its own group.
@@ -48,14 +45,9 @@ pub fn data_goes(
     requires { near ≡ square t true }
     ensures { result ≡ (seen_at c d && (ltb d.act acts && data_free t (told_bank k) (told_group own) (command_of d c))) }
 {
-    if seen_at(d.there, d.arrival, c) {
-        if d.act < acts {
-            let kind = d.kind;
-            return kept_data_free(t, near, k, own.rd, own.wr, is_wr(kind), c);
-        }
-        return false;
-    }
-    false
+    seen_at(d.there, d.arrival, c)
+        && d.act < acts
+        && kept_data_free(t, near, k, own.rd, own.wr, is_wr(d.kind), c)
 }
 
 // The ACT queue's head, an ACT, is seen and breaks no rule at cycle c by its own group.
@@ -70,16 +62,12 @@ pub fn act_goes(
 ) -> bool
     ensures { result ≡ (seen_at c a && act_free t (told_bank k) (told_group own) (stamp_of a4) (stamp_of refresh) (command_of a c)) }
 {
-    if seen_at(a.there, a.arrival, c) {
-        return kept_act_free(t, k, own.act, a4, refresh, c);
-    }
-    false
+    seen_at(a.there, a.arrival, c) && kept_act_free(t, k, own.act, a4, refresh, c)
 }
 
 // The ACT queue's head, a REF, is seen and keeps rule 12 at cycle c. Rule 11 is asked of it after that alone, since it goes over all banks.
 pub fn ref_waited(t: Table, a: Head, refresh: u64, c: u64) -> bool
     ensures { result ≡ (seen_at c a && past (stamp_of refresh) t.rfc c) }
 {
-    let sees = seen_at(a.there, a.arrival, c);
-    both_of(sees, since(refresh, wide(t.rfc), c))
+    seen_at(a.there, a.arrival, c) && since(refresh, t.rfc as u32, c)
 }

@@ -1,5 +1,6 @@
 -- From a fresh controller.
 -- Assumes nothing.
+use Rattle.std.specs.Prelude.{Ok}
 use Prim.Native.Nat.{ℕ, zero, suc, ◌+◌, ◌≤◌}
 use native.Mathlib.Omega.{arith}
 use mathlib.Core.Bool.{Bool, true, false}
@@ -26,7 +27,6 @@ use Rattle.rules.proofs.runs.RunTo.{stopped, going, n_then_m}
 use Rattle.rules.proofs.runs.Lent.{lend_ran, run_lent}
 use Rattle.rules.proofs.shown.Promises.{kept as promised}
 use Rattle.controller.specs.declared.run.RunReport.{RunReport}
-use Rattle.controller.specs.declared.run.RunAnswer.TheVariants.{Ran}
 use Rattle.controller.specs.Controller.{tells, kept, fresh_controller, Ranged}
 use Rattle.sound.specs.Refused.{sound}
 use Rattle.controller.specs.Run.{RunLeft, written, run_controller}
@@ -91,7 +91,7 @@ serves_by τ l rs q n m big h = on (stops τ l first.state) refl
 
 -- a run to the end that is not refused writes the built schedule and reports the last command's cycle plus one, 0 for an empty list
 pub fresh_ends : (τ : Table) → Accepted τ → (l : List Transaction) → list_fits τ l ≡ true → (rs : List Command) → Built τ l rs
-    → (n : ℕ) → next_cycle (onto rs []) ≤ n → (b : List ℕ) (x : RunReport) → (run_controller (fresh_controller τ) τ l n b).told.answer ≡ Ran x
+    → (n : ℕ) → next_cycle (onto rs []) ≤ n → (b : List ℕ) (x : RunReport) → (run_controller (fresh_controller τ) τ l n b).told.answer ≡ Ok x
     → ((run_controller (fresh_controller τ) τ l n b).buffer ≡ over (bytes_of_all rs) b) × (x.commands ≡ length rs) × (x.cycles ≡ next_cycle (onto rs []))
 fresh_ends τ acc l fit rs built n h b x e =
     let p = ran τ l (fresh_controller τ) n b x e in

@@ -1,5 +1,6 @@
 -- n cycles of the controller and then m, by way of its numbers, are n + m at once.
 -- Assumes nothing.
+use Rattle.std.specs.Prelude.{Ok, Err}
 use Prim.Native.Nat.{ℕ, ◌+◌, ◌<◌}
 use native.Mathlib.Omega.{arith}
 use mathlib.Core.Bool.{Bool, true, false, ◌||◌}
@@ -24,7 +25,6 @@ use Rattle.rules.proofs.queues.Counts.{after_size, after_groups}
 use Rattle.rules.proofs.runs.Lent.{lent_kept}
 use Rattle.controller.specs.declared.controller.Controller.{Controller}
 use Rattle.controller.specs.declared.run.RunReport.{RunReport}
-use Rattle.controller.specs.declared.run.RunAnswer.TheVariants.{Ran, Refused}
 use Rattle.controller.specs.Controller.{tells, kept, Ranged}
 use Rattle.sound.specs.Refused.{run_refusal}
 use Rattle.controller.specs.Run.{RunLeft, ran_left, refused_left, run_controller}
@@ -58,7 +58,7 @@ module _ (τ : Table) (l : List Transaction) where
   lent_held n s q = run_held n (lend (length l) s) [] (held_lent (length l) s q)
 
   -- what an answer that is no refusal tells
-  pub ran : (c : Controller) (n : ℕ) (b : List ℕ) (x : RunReport) → (run_controller c τ l n b).told.answer ≡ Ran x
+  pub ran : (c : Controller) (n : ℕ) (b : List ℕ) (x : RunReport) → (run_controller c τ l n b).told.answer ≡ Ok x
       → (run_refusal τ l (tells c) n (length b) ≡ 0)
       × (run_controller c τ l n b ≡ ran_left τ.edition (lent_run n τ l (tells c)) b)
       × (x.commands ≡ length (lent_run n τ l (tells c)).history)
@@ -67,9 +67,9 @@ module _ (τ : Table) (l : List Transaction) where
   ran c n b x e =
       let z = run_refusal τ l (tells c) n (length b) in
       let r = lent_run n τ l (tells c) in
-      let k = answered (λ (w : RunLeft). w.told.answer) z (ran_left τ.edition r b) (refused_left τ.edition z c b) (Ran x) e
+      let k = answered (λ (w : RunLeft). w.told.answer) z (ran_left τ.edition r b) (refused_left τ.edition z c b) (Ok x) e
       (λ f. let y : ◌≡◌ {A = ℕ} 0 1 = cc in absurd (omega arith)) in
-      let j : Ran (record { edition = τ.edition; commands = length r.history; cycles = r.cycles }) ≡ Ran x = k.1 in (
+      let j : Ok (record { edition = τ.edition; commands = length r.history; cycles = r.cycles }) ≡ Ok x = k.1 in (
         k.0,
         rw (eq-eqb z 0 k.0),
         cc,
@@ -77,7 +77,7 @@ module _ (τ : Table) (l : List Transaction) where
       )
 
   -- a refusal leaves the controller and the buffer as they stood
-  pub refused : (c : Controller) (n : ℕ) (b : List ℕ) (x : Refusal) → (run_controller c τ l n b).told.answer ≡ Refused x
+  pub refused : (c : Controller) (n : ℕ) (b : List ℕ) (x : Refusal) → (run_controller c τ l n b).told.answer ≡ Err x
       → run_controller c τ l n b ≡ refused_left τ.edition (run_refusal τ l (tells c) n (length b)) c b
   unfolding run_controller
   refused c n b x e = on (eqb (run_refusal τ l (tells c) n (length b)) 0) e
@@ -88,7 +88,7 @@ module _ (τ : Table) (l : List Transaction) where
       z : RunLeft
       z = refused_left τ.edition (run_refusal τ l (tells c) n (length b)) c b
 
-      on : (t : Bool) → (pick t r z).told.answer ≡ Refused x → pick t r z ≡ z
+      on : (t : Bool) → (pick t r z).told.answer ≡ Err x → pick t r z ≡ z
       on true e = let y : ◌≡◌ {A = ℕ} 0 1 = cc in absurd (omega arith)
       on false e = refl
 
@@ -99,14 +99,14 @@ module _ (τ : Table) (l : List Transaction) where
     abbrev r₂ : RanTo
     r₂ = lent_run m τ l r₁.state
 
-    pub together : (run_controller c τ l n b₁).told.answer ≡ Ran x
-        → (run_controller (run_controller c τ l n b₁).told.controller τ l m b₂).told.answer ≡ Ran y
-        → (run_controller c τ l (n + m) b).told.answer ≡ Ran z
+    pub together : (run_controller c τ l n b₁).told.answer ≡ Ok x
+        → (run_controller (run_controller c τ l n b₁).told.controller τ l m b₂).told.answer ≡ Ok y
+        → (run_controller c τ l (n + m) b).told.answer ≡ Ok z
         → Together (run_controller c τ l n b₁) (run_controller (run_controller c τ l n b₁).told.controller τ l m b₂) (run_controller c τ l (n + m) b) x y z b
     together e₁ e₂ e =
         let p₁ = ran c n b₁ x e₁ in
         let mid : (run_controller c τ l n b₁).told.controller ≡ kept r₁.state = ap (λ (w : RunLeft). w.told.controller) p₁.1 in
-        let e₂' = subst (λ (d : Controller). (run_controller d τ l m b₂).told.answer ≡ Ran y) mid e₂ in
+        let e₂' = subst (λ (d : Controller). (run_controller d τ l m b₂).told.answer ≡ Ok y) mid e₂ in
         let p₂ = subst (λ (s : State). (run_controller (kept r₁.state) τ l m b₂ ≡ ran_left τ.edition (lent_run m τ l s) b₂) × (y.commands ≡ length (lent_run m τ l s).history) × (y.cycles ≡ (lent_run m τ l s).cycles))
         (tells_kept r₁.state (lent_held n (tells c) (told_held c rg)))
         (let q = ran (kept r₁.state) m b₂ y e₂' in (q.1, q.2, q.3)) in

@@ -1,5 +1,7 @@
 -- The controller's numbers and the state that they tell, there and back.
 -- Assumes nothing.
+use Rattle.std.specs.Prelude.{Some, None}
+use Rattle.rules.specs.Types.{Stamp}
 use Prim.Native.Nat.{ℕ, zero, suc, ◌+◌, min, ◌≤◌}
 use native.Mathlib.Omega.{arith}
 use native.Mathlib.Nat.{min-eq_left}
@@ -11,8 +13,6 @@ use lib.ListN.{length, get_or, get_elem?, length-map}
 use lib.Seq.{take_all}
 use borrow.Author.Tests.{eqb-true, eqb-false, ne_eqb, leb-true, le-leb}
 use Rattle.records.specs.Tests.{pick, every}
-use Rattle.rules.specs.declared.state.Stamp.{Stamp}
-use Rattle.rules.specs.declared.state.Stamp.TheVariants.{Never, At}
 use Rattle.rules.specs.declared.state.Bank.{Bank}
 use Rattle.rules.specs.declared.state.Group.{Group}
 use Rattle.rules.specs.declared.state.State.{State}
@@ -30,7 +30,7 @@ use Rattle.sound.proofs.StoredKept.{Stored}
 number_stamp : (x : ℕ) → in32 x ≡ true → number_of (stamp_of x) ≡ x
 number_stamp x h = on (eqb x 4294967295) refl
   where
-    on : (b : Bool) → eqb x 4294967295 ≡ b → number_of (pick b Never (At x)) ≡ x
+    on : (b : Bool) → eqb x 4294967295 ≡ b → number_of (pick b None (Some x)) ≡ x
     on true e = sym (eqb-true x 4294967295 e)
     on false e = min-eq_left (leb-true x 4294967295 h)
 
@@ -91,8 +91,8 @@ kept_tells c h =
 -- ---- from a state whose stamps are below 4294967295
 
 stamp_number : (s : Stamp) → before 4294967295 s ≡ true → stamp_of (number_of s) ≡ s
-stamp_number Never h = refl
-stamp_number (At c) h =
+stamp_number None h = refl
+stamp_number (Some c) h =
     let p : c + 1 ≤ 4294967295 = leb-true (c + 1) 4294967295 h in
     let m : min c 4294967295 ≡ c = min-eq_left (omega arith) in
     rw (m, ne_eqb c 4294967295 (λ e. omega arith))
@@ -158,7 +158,7 @@ tells_kept s h =
 stamp_before : (x : ℕ) → in32 x ≡ true → before 4294967295 (stamp_of x) ≡ true
 stamp_before x h = on (eqb x 4294967295) refl
   where
-    on : (b : Bool) → eqb x 4294967295 ≡ b → before 4294967295 (pick b Never (At x)) ≡ true
+    on : (b : Bool) → eqb x 4294967295 ≡ b → before 4294967295 (pick b None (Some x)) ≡ true
     on true e = refl
     on false e = le-leb (x + 1) 4294967295 (below (leb-true x 4294967295 h) (eqb-false x 4294967295 e))
       where

@@ -1,5 +1,6 @@
 -- What a run's refusal, and that there is none, tell.
 -- Assumes nothing.
+use Rattle.std.specs.Prelude.{Ok, Err}
 use Prim.Native.Nat.{ℕ, ◌*◌, min, ◌≤◌, ◌<◌}
 use native.Mathlib.Omega.{arith}
 use mathlib.Core.Bool.{true, false, not}
@@ -23,7 +24,6 @@ use Rattle.engine.specs.declared.run.Ran.{Ran as Answer}
 use Rattle.engine.specs.Run.{commands_left, Ready, Runs}
 use Rattle.timing.specs.Kept.{told}
 use Rattle.controller.specs.declared.controller.Controller.{Controller}
-use Rattle.controller.specs.declared.run.RunAnswer.TheVariants.{Ran, Refused}
 use Rattle.controller.specs.Controller.{tells, kept}
 use Rattle.sound.specs.Refused.{room_short, sound, run_refusal}
 use Rattle.controller.specs.Run.{run_controller, LeavesRun}
@@ -46,7 +46,7 @@ module _ (c : Controller) (τ : Table) (bs : List ℕ) (n count : ℕ) (b : List
   z_told = e ∙ ap (λ (u : State). run_refusal τ (later_from bs n 0) u count (length b)) k
 
   pub leaves_refused : (q : Refusal) → q ≡ refusal z 0 τ.edition → (z ≡ 0 → ⊥)
-      → LeavesRun (run_controller c τ (later_from bs n 0) count b) (record { controller = c; answer = Refused q }) b
+      → LeavesRun (run_controller c τ (later_from bs n 0) count b) (record { controller = c; answer = Err q }) b
   unfolding run_controller
   leaves_refused q p h = rw (← z_told, ne_eqb z 0 h, p) (refl, refl)
 
@@ -54,7 +54,7 @@ module _ (c : Controller) (τ : Table) (bs : List ℕ) (n count : ℕ) (b : List
   pub leaves_ran : (d : Controller) (r : Answer) (b' : List ℕ) (u : State) → u ≡ lend n s → d ≡ kept (told r.state)
       → Runs (run count τ (later_from bs n 0) u []) b b' r → z ≡ 0
       → LeavesRun (run_controller c τ (later_from bs n 0) count b)
-      (record { controller = d; answer = Ran (record { edition = τ.edition; commands = r.commands; cycles = r.cycles }) }) b'
+      (record { controller = d; answer = Ok (record { edition = τ.edition; commands = r.commands; cycles = r.cycles }) }) b'
   unfolding run_controller
   leaves_ran d r b' u v p q h =
       let lent : u ≡ lend (length (later_from bs n 0)) (tells c) =

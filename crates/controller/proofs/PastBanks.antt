@@ -1,6 +1,7 @@
 -- A run of the controller that is not refused: what it leaves is not refused but for its cycle; what lies past the table's banks is
 -- neither read nor changed.
 -- Assumes nothing.
+use Rattle.std.specs.Prelude.{Ok}
 use Prim.Native.Nat.{ℕ, zero, suc, ◌<◌}
 use mathlib.Core.Bool.{Bool, true, false}
 use mathlib.Core.Path.{◌≡◌, refl, sym, ap, ◌∙◌, subst}
@@ -19,7 +20,6 @@ use Rattle.rules.proofs.shown.Promises.{runs_kept}
 use Rattle.rules.proofs.runs.Lent.{lent_is}
 use Rattle.controller.specs.declared.controller.Controller.{Controller}
 use Rattle.controller.specs.declared.run.RunReport.{RunReport}
-use Rattle.controller.specs.declared.run.RunAnswer.TheVariants.{Ran}
 use Rattle.controller.specs.Controller.{bank_tells, bank_kept, group_tells, group_kept, tells, kept, Ranged}
 use Rattle.sound.specs.Refused.{sound, run_refusal}
 use Rattle.controller.specs.Run.{RunLeft, ran_left, refused_left, run_controller}
@@ -36,7 +36,7 @@ drop_map f (suc n) (x ∷ l) = drop_map f n l
 
 module _ (τ : Table) (l : List Transaction) where
   module _ (acc : Accepted τ) (fit : list_fits τ l ≡ true) where
-    pub keeps : (c : Controller) → Ranged c → (n : ℕ) (b : List ℕ) (x : RunReport) → (run_controller c τ l n b).told.answer ≡ Ran x
+    pub keeps : (c : Controller) → Ranged c → (n : ℕ) (b : List ℕ) (x : RunReport) → (run_controller c τ l n b).told.answer ≡ Ok x
         → Keeps τ l c (run_controller c τ l n b).told.controller
     unfolding tells kept
     keeps c rg n b x e =

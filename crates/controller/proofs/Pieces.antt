@@ -1,5 +1,6 @@
 -- A list cut into pieces, none refused, is run as the whole list.
 -- Assumes nothing.
+use Rattle.std.specs.Prelude.{Ok}
 use Prim.Native.Nat.{ℕ, ◌+◌, ◌*◌, ◌≤◌}
 use mathlib.Core.Bool.{true}
 use mathlib.Core.Path.{◌≡◌, refl, sym, ap, ◌∙◌, subst}
@@ -19,7 +20,6 @@ use Rattle.rules.proofs.shown.Built.{run_ends}
 use Rattle.rules.proofs.runs.Pieces.{run_counted, pieces_kept}
 use Rattle.controller.specs.declared.controller.Controller.{Controller}
 use Rattle.controller.specs.declared.run.RunReport.{RunReport}
-use Rattle.controller.specs.declared.run.RunAnswer.TheVariants.{Ran}
 use Rattle.controller.specs.Controller.{tells, kept, fresh_controller}
 use Rattle.controller.specs.Run.{RunLeft, written, ran_left, run_controller}
 use Rattle.controller.specs.Pieces.{Lot, all_of, all_cycles, AllRan, last_left, all_written, AsWhole}
@@ -48,14 +48,14 @@ module _ (τ : Table) where
   runs c l n b = run_controller c τ l n b
 
   -- what a run from what a state is told by leaves, if it is not refused
-  pub one_ran : (l : List Transaction) (s : State) → Held s → (n : ℕ) (b : List ℕ) (x : RunReport) → (run_controller (kept s) τ l n b).told.answer ≡ Ran x
+  pub one_ran : (l : List Transaction) (s : State) → Held s → (n : ℕ) (b : List ℕ) (x : RunReport) → (run_controller (kept s) τ l n b).told.answer ≡ Ok x
       → (run_controller (kept s) τ l n b ≡ ran_left τ.edition (lent_run n τ l s) b)
       × (x.commands ≡ length (lent_run n τ l s).history) × (x.cycles ≡ (lent_run n τ l s).cycles)
   one_ran l s h n b x e =
       subst (λ (u : State). (run_controller (kept s) τ l n b ≡ ran_left τ.edition (lent_run n τ l u) b) × (x.commands ≡ length (lent_run n τ l u).history) × (x.cycles ≡ (lent_run n τ l u).cycles))
       (tells_kept s h) (let p = ran τ l (kept s) n b x e in (p.1, p.2, p.3))
 
-  in_time_lem : (l : List Transaction) (s : State) → Held s → (p : Lot) → (run_controller (kept s) τ (l ++ p.more) p.count p.buffer).told.answer ≡ Ran p.report
+  in_time_lem : (l : List Transaction) (s : State) → Held s → (p : Lot) → (run_controller (kept s) τ (l ++ p.more) p.count p.buffer).told.answer ≡ Ok p.report
       → InTime τ (piece_of p ∷ []) l s
   in_time_lem l s h p e =
       let z = (ran τ (l ++ p.more) (kept s) p.count p.buffer p.report e).0 in
@@ -72,8 +72,8 @@ module _ (τ : Table) where
   cut : (ps : List Lot) (l : List Transaction) (s : State) → Held s → (c : Controller) → c ≡ kept s → AllRan runs ps l c → Cut ps l s c
   cut [] l s h c k a = record { in_time = tt; controller = k; bytes = refl; cycles = refl }
   cut (p ∷ ps) l s h c k a =
-      let e : (runs (kept s) (l ++ p.more) p.count p.buffer).told.answer ≡ Ran p.report =
-      subst (λ (d : Controller). (runs d (l ++ p.more) p.count p.buffer).told.answer ≡ Ran p.report) k a.0 in
+      let e : (runs (kept s) (l ++ p.more) p.count p.buffer).told.answer ≡ Ok p.report =
+      subst (λ (d : Controller). (runs d (l ++ p.more) p.count p.buffer).told.answer ≡ Ok p.report) k a.0 in
       let o = one_ran (l ++ p.more) s h p.count p.buffer p.report e in
       let left : runs c (l ++ p.more) p.count p.buffer ≡ ran_left τ.edition r p.buffer =
       ap (λ (d : Controller). runs d (l ++ p.more) p.count p.buffer) k ∙ o.0 in

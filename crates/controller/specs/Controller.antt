@@ -1,9 +1,8 @@
 -- The host's controller: plain numbers, and the state that they tell.
-use Rattle.std.specs.Prelude.{ℕ, min, ◌≤◌, Bool, true, ◌≡◌, [], ◌∷◌, map, leb, eqb, length, get_or}
+use Rattle.std.specs.Prelude.{ℕ, min, ◌≤◌, Bool, true, ◌≡◌, [], ◌∷◌, map, leb, eqb, length, get_or, Some, None}
+use Rattle.rules.specs.Types.{Stamp}
 use Rattle.records.specs.Tests.{pick, every}
 use Rattle.records.specs.declared.table.Table.{Table}
-use Rattle.rules.specs.declared.state.Stamp.{Stamp}
-use Rattle.rules.specs.declared.state.Stamp.TheVariants.{Never, At}
 use Rattle.rules.specs.declared.state.Bank.{Bank}
 use Rattle.rules.specs.declared.state.Group.{Group}
 use Rattle.rules.specs.declared.state.State.{State}
@@ -14,12 +13,12 @@ use Rattle.controller.specs.declared.controller.Controller.{Controller}
 
 -- "Any of these cycles may be "never"", which is the number 4294967295
 abbrev pub stamp_of : ℕ → Stamp
-stamp_of x = pick (eqb x 4294967295) Never (At x)
+stamp_of x = pick (eqb x 4294967295) None (Some x)
 
 -- and back. A cycle that does not fit, which no run reaches, is written as "never"
 abbrev pub number_of : Stamp → ℕ
-number_of Never = 4294967295
-number_of (At c) = min c 4294967295
+number_of None = 4294967295
+number_of (Some c) = min c 4294967295
 
 -- "for each of the table's banks .. whether it's open, and the cycles of its last ACT and of the last RD and WR since"
 abbrev pub bank_tells : HostBank → Bank

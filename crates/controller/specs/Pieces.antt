@@ -1,9 +1,8 @@
 -- "Requests may come in pieces: each run is lent the whole list so far" (document 02, request 9), of runs of the controller.
-use Rattle.std.specs.Prelude.{ℕ, ◌+◌, ◌*◌, ◌≤◌, ◌≡◌, List, [], ◌∷◌, ◌++◌, take}
+use Rattle.std.specs.Prelude.{ℕ, ◌+◌, ◌*◌, ◌≤◌, ◌≡◌, List, [], ◌∷◌, ◌++◌, take, Ok}
 use Rattle.records.specs.declared.transaction.Transaction.{Transaction}
 use Rattle.controller.specs.declared.controller.Controller.{Controller}
 use Rattle.controller.specs.declared.run.RunReport.{RunReport}
-use Rattle.controller.specs.declared.run.RunAnswer.TheVariants.{Ran}
 use Rattle.controller.specs.Run.{RunLeft}
 
 -- a piece: the new transactions, the count of its run, what the run's buffer held, and what the run reports
@@ -31,7 +30,7 @@ module _ (run : Controller → List Transaction → ℕ → List ℕ → RunLeft
   -- none of the pieces is refused
   abbrev pub AllRan : List Lot → List Transaction → Controller → Type 0
   AllRan [] l c = Unit {0}
-  AllRan (p ∷ ps) l c = ((lot_run p l c).told.answer ≡ Ran p.report) × AllRan ps (l ++ p.more) (lot_run p l c).told.controller
+  AllRan (p ∷ ps) l c = ((lot_run p l c).told.answer ≡ Ok p.report) × AllRan ps (l ++ p.more) (lot_run p l c).told.controller
 
   -- the controller that the last leaves
   abbrev pub last_left : List Lot → List Transaction → Controller → Controller
@@ -51,10 +50,10 @@ module _ (run : Controller → List Transaction → ℕ → List ℕ → RunLeft
   -- one run
   pub record AsWhole (c : Controller) (ps : List Lot) : Type 0 where
     -- every run of the whole list that reports as many cycles as the pieces together leaves what they leave, to the end or not
-    pub alike : AllRan ps [] c → (n : ℕ) (b : List ℕ) (x : RunReport) → (run c (all_of ps) n b).told.answer ≡ Ran x → all_cycles ps ≡ x.cycles
+    pub alike : AllRan ps [] c → (n : ℕ) (b : List ℕ) (x : RunReport) → (run c (all_of ps) n b).told.answer ≡ Ok x → all_cycles ps ≡ x.cycles
         → Alike c ps (run c (all_of ps) n b) x
     -- one of just so many cycles reports them
-    pub as_many : AllRan ps [] c → (b : List ℕ) (x : RunReport) → (run c (all_of ps) (all_cycles ps) b).told.answer ≡ Ran x → all_cycles ps ≡ x.cycles
+    pub as_many : AllRan ps [] c → (b : List ℕ) (x : RunReport) → (run c (all_of ps) (all_cycles ps) b).told.answer ≡ Ok x → all_cycles ps ≡ x.cycles
     -- and so do all runs to the end: a last piece, and a run of the whole list, that may take 100,000,000 cycles
     pub to_end : AllRan ps [] c → (qs : List Lot) (p : Lot) → ps ≡ qs ++ p ∷ [] → 100000000 ≤ p.count
-        → (n : ℕ) → 100000000 ≤ n → (b : List ℕ) (x : RunReport) → (run c (all_of ps) n b).told.answer ≡ Ran x → all_cycles ps ≡ x.cycles
+        → (n : ℕ) → 100000000 ≤ n → (b : List ℕ) (x : RunReport) → (run c (all_of ps) n b).told.answer ≡ Ok x → all_cycles ps ≡ x.cycles

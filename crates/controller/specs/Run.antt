@@ -1,5 +1,5 @@
 -- A run of the controller: what it tells, the controller and the buffer, refused or not.
-use Rattle.std.specs.Prelude.{ℕ, ◌≡◌, List, [], eqb, length}
+use Rattle.std.specs.Prelude.{ℕ, ◌≡◌, List, [], eqb, length, Ok, Err}
 use Rattle.records.specs.Tests.{pick}
 use Rattle.records.specs.Told.{refusal, over}
 use Rattle.records.specs.Command.{bytes_of_all}
@@ -11,7 +11,6 @@ use Rattle.rules.specs.Run.{Ran as RanTo}
 use Rattle.rules.specs.Pieces.{lent_run}
 use Rattle.controller.specs.declared.controller.Controller.{Controller}
 use Rattle.controller.specs.declared.run.RunTold.{RunTold}
-use Rattle.controller.specs.declared.run.RunAnswer.TheVariants.{Ran, Refused}
 use Rattle.controller.specs.Controller.{tells, kept}
 use Rattle.sound.specs.Refused.{run_refusal}
 
@@ -27,13 +26,13 @@ written h = bytes_of_all (onto h [])
 abbrev pub ran_left : ℕ → RanTo → List ℕ → RunLeft
 ran_left e r b =
     record {
-      told = record { controller = kept r.state; answer = Ran (record { edition = e; commands = length r.history; cycles = r.cycles }) };
+      told = record { controller = kept r.state; answer = Ok (record { edition = e; commands = length r.history; cycles = r.cycles }) };
       buffer = over (written r.history) b;
     }
 
 -- "Each returns its number and the position shown, and no buffer or state changes."
 abbrev pub refused_left : ℕ → ℕ → Controller → List ℕ → RunLeft
-refused_left e z c b = record { told = record { controller = c; answer = Refused (refusal z 0 e) }; buffer = b }
+refused_left e z c b = record { told = record { controller = c; answer = Err (refusal z 0 e) }; buffer = b }
 
 abbrev pub left_by : ℕ → ℕ → RanTo → Controller → List ℕ → RunLeft
 left_by z e r c b = pick (eqb z 0) (ran_left e r b) (refused_left e z c b)

@@ -49,224 +49,155 @@ pub struct Controller {
 pub fn number_in(x: u32) -> u64
     ensures { kept_stamp result ≡ stamp_of x }
 {
-    if x == NEVER {
-        return 0;
-    }
-    x as u64 + 1
+    if x == NEVER { 0 } else { u64::from(x) + 1 }
 }
 
 // A cycle in 32 bits. None that a run reaches is cut.
 pub fn cut(c: u64) -> u32
     ensures { result ≡ min c 4294967295 }
 {
-    if c < 4294967295 { c as u32 } else { NEVER }
+    c.min(u64::from(NEVER)) as u32
 }
 
 pub fn number_of(s: u64) -> u32
     ensures { result ≡ number_of (kept_stamp s) }
 {
-    if s == 0 {
-        return NEVER;
-    }
-    cut(s - 1)
+    if s == 0 { NEVER } else { cut(s - 1) }
 }
 
-pub fn bank_in(k: HostBank) -> KeptBank
-    ensures { told_bank result ≡ bank_tells k }
-{
-    let act = number_in(k.act);
-    let rd = number_in(k.rd);
-    let wr = number_in(k.wr);
-    KeptBank {
-        opened: k.opened,
-        act: act,
-        rd: rd,
-        wr: wr,
+impl From<HostBank> for KeptBank {
+    ghost from_gives = { λ k r. told_bank r ≡ bank_tells k };
+
+    fn from(k: HostBank) -> KeptBank {
+        KeptBank {
+            opened: k.opened,
+            act: number_in(k.act),
+            rd: number_in(k.rd),
+            wr: number_in(k.wr),
+        }
     }
 }
 
-pub fn bank_kept(k: KeptBank) -> HostBank
-    ensures { result ≡ bank_kept (told_bank k) }
-{
-    let act = k.act;
-    let rd = k.rd;
-    let wr = k.wr;
-    HostBank {
-        opened: k.opened,
-        act: number_of(act),
-        rd: number_of(rd),
-        wr: number_of(wr),
+impl From<KeptBank> for HostBank {
+    ghost from_gives = { λ k r. r ≡ bank_kept (told_bank k) };
+
+    fn from(k: KeptBank) -> HostBank {
+        HostBank {
+            opened: k.opened,
+            act: number_of(k.act),
+            rd: number_of(k.rd),
+            wr: number_of(k.wr),
+        }
     }
 }
 
 pub fn banks_in(ks: [HostBank; 16]) -> [KeptBank; 16]
     ensures { map told_bank result ≡ map bank_tells ks }
 {
-    let shut = KeptBank {
-        opened: 0,
-        act: 0,
-        rd: 0,
-        wr: 0,
-    };
-    let mut kept = [shut; 16];
-    let mut i: usize = 0;
-    while i < 16 {
-        kept[i] = bank_in(ks[i]);
-        i += 1;
-    }
-    kept
+    ks.map(KeptBank::from)
 }
 
 pub fn banks_kept(ks: [KeptBank; 16]) -> [HostBank; 16]
     ensures { result ≡ map bank_kept (map told_bank ks) }
 {
-    let shut = HostBank {
-        opened: 0,
-        act: NEVER,
-        rd: NEVER,
-        wr: NEVER,
-    };
-    let mut held = [shut; 16];
-    let mut k: usize = 0;
-    while k < 16 {
-        held[k] = bank_kept(ks[k]);
-        k += 1;
-    }
-    held
+    ks.map(HostBank::from)
 }
 
-pub fn group_in(g: HostGroup) -> KeptGroup
-    ensures { told_group result ≡ group_tells g }
-{
-    let act = number_in(g.act);
-    let rd = number_in(g.rd);
-    let wr = number_in(g.wr);
-    KeptGroup {
-        act: act,
-        rd: rd,
-        wr: wr,
+impl From<HostGroup> for KeptGroup {
+    ghost from_gives = { λ g r. told_group r ≡ group_tells g };
+
+    fn from(g: HostGroup) -> KeptGroup {
+        KeptGroup {
+            act: number_in(g.act),
+            rd: number_in(g.rd),
+            wr: number_in(g.wr),
+        }
     }
 }
 
-pub fn group_kept(g: KeptGroup) -> HostGroup
-    ensures { result ≡ group_kept (told_group g) }
-{
-    let act = g.act;
-    let rd = g.rd;
-    let wr = g.wr;
-    HostGroup {
-        act: number_of(act),
-        rd: number_of(rd),
-        wr: number_of(wr),
+impl From<KeptGroup> for HostGroup {
+    ghost from_gives = { λ g r. r ≡ group_kept (told_group g) };
+
+    fn from(g: KeptGroup) -> HostGroup {
+        HostGroup {
+            act: number_of(g.act),
+            rd: number_of(g.rd),
+            wr: number_of(g.wr),
+        }
     }
 }
 
 pub fn groups_in(gs: [HostGroup; 8]) -> [KeptGroup; 8]
     ensures { map told_group result ≡ map group_tells gs }
 {
-    let quiet = KeptGroup {
-        act: 0,
-        rd: 0,
-        wr: 0,
-    };
-    let mut kept = [quiet; 8];
-    let mut i: usize = 0;
-    while i < 8 {
-        kept[i] = group_in(gs[i]);
-        i += 1;
-    }
-    kept
+    gs.map(KeptGroup::from)
 }
 
 pub fn groups_kept(gs: [KeptGroup; 8]) -> [HostGroup; 8]
     ensures { result ≡ map group_kept (map told_group gs) }
 {
-    let quiet = HostGroup {
-        act: NEVER,
-        rd: NEVER,
-        wr: NEVER,
-    };
-    let mut held = [quiet; 8];
-    let mut k: usize = 0;
-    while k < 8 {
-        held[k] = group_kept(gs[k]);
-        k += 1;
-    }
-    held
+    gs.map(HostGroup::from)
 }
 
 // What the controller tells, as a run keeps it.
+#[tactic(auto, unfolding(timing::specs::Kept::told, crate::specs::Controller::tells))]
 pub fn kept_in(c: Controller) -> Kept
     ensures { told result ≡ tells c }
 {
-    let held = c.banks;
-    let banks = banks_in(held);
-    let held_groups = c.groups;
-    let groups = groups_in(held_groups);
-    let a1 = number_in(c.last[0]);
-    let a2 = number_in(c.last[1]);
-    let a3 = number_in(c.last[2]);
-    let a4 = number_in(c.last[3]);
-    let refresh = number_in(c.refresh);
+    let [a1, a2, a3, a4] = c.last;
     Kept {
         edition: c.edition,
-        cycle: c.cycle as u64,
+        cycle: u64::from(c.cycle),
         acts: c.acts,
         datas: c.datas,
-        banks: banks,
-        a1: a1,
-        a2: a2,
-        a3: a3,
-        a4: a4,
-        groups: groups,
-        refresh: refresh,
+        banks: banks_in(c.banks),
+        a1: number_in(a1),
+        a2: number_in(a2),
+        a3: number_in(a3),
+        a4: number_in(a4),
+        groups: groups_in(c.groups),
+        refresh: number_in(c.refresh),
         lent: c.lent,
     }
 }
 
 // What a run keeps, once n transactions are lent to it.
+#[tactic(auto, unfolding(timing::specs::Kept::told))]
 pub fn lend_to(s: Kept, n: usize) -> Kept
     requires { n ≤ 256 }
     ensures { told result ≡ lend n (told s) }
 {
-    let mut lent = s;
-    lent.lent = n as u32;
-    lent
+    Kept {
+        lent: n as u32,
+        ..s
+    }
 }
 
 // The controller that tells a state.
+#[tactic(auto, unfolding(timing::specs::Kept::told, crate::specs::Controller::kept))]
 pub fn controller_of(s: Kept) -> Controller
     ensures { result ≡ kept (told s) }
 {
-    let told = s.banks;
-    let banks = banks_kept(told);
-    let told_groups = s.groups;
-    let groups = groups_kept(told_groups);
-    let a1 = s.a1;
-    let a2 = s.a2;
-    let a3 = s.a3;
-    let a4 = s.a4;
-    let refresh = s.refresh;
-    let n1 = number_of(a1);
-    let n2 = number_of(a2);
-    let n3 = number_of(a3);
-    let n4 = number_of(a4);
-    let last_ref = number_of(refresh);
-    let cycle = cut(s.cycle);
     Controller {
         edition: s.edition,
-        cycle: cycle,
+        cycle: cut(s.cycle),
         acts: s.acts,
         datas: s.datas,
-        banks: banks,
-        last: [n1, n2, n3, n4],
-        groups: groups,
-        refresh: last_ref,
+        banks: banks_kept(s.banks),
+        last: [
+            number_of(s.a1),
+            number_of(s.a2),
+            number_of(s.a3),
+            number_of(s.a4),
+        ],
+        groups: groups_kept(s.groups),
+        refresh: number_of(s.refresh),
         lent: s.lent,
     }
 }
 
 // A fresh controller.
+#[tactic(auto, using(timing::proofs::Telling::told_fresh))]
 pub fn start_of(t: Table) -> Controller
     ensures { result ≡ fresh_controller t }
 {

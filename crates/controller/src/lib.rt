@@ -1,4 +1,4 @@
-// The host's running controller: what its numbers tell, and its run by value by the plain engine; where it lies is the affair of `lending`.
+// The host's running controller: what its numbers tell, and its run by value by either engine; where it lies is the affair of `lending`.
 #![tactic(auto)]
 
 pub mod controller;

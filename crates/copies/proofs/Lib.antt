@@ -1,5 +1,4 @@
 -- The theorems about the loop over a copy's records.
-pub mod Laws
 pub mod Seen
 pub mod Turn
 pub mod InPlace

@@ -6,7 +6,6 @@ ghost use Rattle.rules.specs.declared.verdict.Rule.TheVariants.{End};
 ghost use Rattle.timing.specs.Kept.{told};
 ghost use Rattle.broken.specs.ByState.{shut_by};
 
-use records::tests::{both_of, not_of};
 use rules::verdict::{Rule, Verdict};
 use timing::kept::{Kept, kept_open};
 
@@ -30,13 +29,9 @@ pub fn all_shut(s: Kept, banks: u16) -> bool
     requires { banks ≤ 16 }
     ensures { result ≡ shut_by (told s) banks }
 {
-    let n = banks as usize;
     let mut shut = true;
-    let mut b: usize = 0;
-    while b < n {
-        let k = s.banks[b];
-        shut = both_of(not_of(kept_open(k)), shut);
-        b = b + 1;
+    for b in 0..banks as usize {
+        shut = !kept_open(s.banks[b]) & shut;
     }
     shut
 }

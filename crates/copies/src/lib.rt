@@ -1,4 +1,6 @@
-// What the judge's loops over one copy of a schedule share; no loop stands here.
+// The judge of one copy of a schedule; it knows that copy alone.
 #![tactic(auto)]
 
 pub mod copy;
+pub mod grouping;
+pub mod judging;

@@ -5,20 +5,21 @@ ghost use Rattle.admission.specs.Admit.{admitted};
 ghost use Rattle.decoding.specs.Transactions.{reading, reading_plan};
 
 use admission::admit::admit;
-use lists::decode::{Decoded, Plan, planned, store};
-use records::table::TableRead;
+use lists::decode::{Plan, planned, store};
+use records::refusal::Refusal;
 use records::transaction::Transaction;
 
 // What is answered for so many places, and how many transactions are stored. The bytes are records of 8 where `later`, else of 4.
+#[tactic(auto, unfolding(crate::specs::Transactions::reading_plan))]
 pub fn plan_reading(expected: u16, table: &[u8], later: bool, bytes: &[u8], places: usize) -> Plan
     ensures { result ≡ reading_plan later (admitted expected table.now) bytes.now places }
 {
     match admit(expected, table) {
-        TableRead::Read(t) => planned(t, later, bytes, places),
-        TableRead::Refused(r) => {
-            let answer = Decoded::Refused(r);
-            Plan { n: 0, answer }
-        }
+        Ok(t) => planned(t, later, bytes, places),
+        Err(r) => Plan {
+            n: 0,
+            answer: Err(r),
+        },
     }
 }
 
@@ -29,7 +30,7 @@ fn read_records(
     later: bool,
     bytes: &[u8],
     list: &mut [Transaction],
-) -> Decoded
+) -> Result<(u16, u32), Refusal>
     ensures { Decodes (reading later (admitted expected table.now) bytes.now list.old) result list.new }
 {
     let p = plan_reading(expected, table, later, bytes, list.len());
@@ -43,7 +44,7 @@ pub fn read_transactions(
     table: &[u8],
     bytes: &[u8],
     list: &mut [Transaction],
-) -> Decoded
+) -> Result<(u16, u32), Refusal>
     ensures { Decodes (reading false (admitted expected table.now) bytes.now list.old) result list.new }
 {
     read_records(expected, table, false, bytes, list)
@@ -55,7 +56,7 @@ pub fn read_later_transactions(
     table: &[u8],
     bytes: &[u8],
     list: &mut [Transaction],
-) -> Decoded
+) -> Result<(u16, u32), Refusal>
     ensures { Decodes (reading true (admitted expected table.now) bytes.now list.old) result list.new }
 {
     read_records(expected, table, true, bytes, list)

@@ -1,5 +1,6 @@
 -- The public calls with arrivals and in pieces answer as the list says.
 -- Assumes nothing.
+use Rattle.std.specs.Prelude.{Ok, Err}
 use mathlib.Core.Bool.{true}
 use mathlib.Core.Path.{refl}
 use mathlib.Core.List.{[], ◌∷◌, ◌++◌}
@@ -11,7 +12,6 @@ use Rattle.records.specs.Command.{bytes_of_all}
 use Rattle.rules.specs.Queues.{act_queue, data_queue}
 use Rattle.rules.specs.Worked.{refresh, then_ref, All}
 use Rattle.rules.specs.WorkedArrivals.{read_at, arrivals, arrived_schedule}
-use Rattle.builder.specs.declared.build.BuildAnswer.TheVariants.{Built, Refused as NotBuilt}
 use Rattle.lists.specs.Check.{range_from, check_list, check_bytes, check_into}
 use Rattle.lists.specs.Decode.{decoding}
 use Rattle.lists.specs.Packed.{records_of}
@@ -66,17 +66,17 @@ of_lists =
 of_schedules : All arrival_schedules
 unfolding admitted read_table Schedules BuildsChecked check_list check_bytes range_from transactions_from later_from act_queue data_queue
 of_schedules =
-    build_tells 7 A (9 ∷ []) (8 ∷ []) (9 ∷ []) (8 ∷ []) (NotBuilt (refusal 5 0 7)) (read_at 20000000 0 ∷ []) (some 4, refl, refl, refl)
-    ⨾ build_tells 7 A (9 ∷ []) (8 ∷ []) (9 ∷ []) (8 ∷ []) (NotBuilt (refusal 4 0 7)) (read_at 20000001 0 ∷ []) (refl, refl, refl)
-    ⨾ build_tells 7 A (9 ∷ []) (8 ∷ []) (9 ∷ []) (8 ∷ []) (NotBuilt (refusal 4 1 7)) (read_at 5 0 ∷ read_at 4 1 ∷ []) (refl, refl, refl)
-    ⨾ build_tells 7 A (replicate 48 9) (8 ∷ 8 ∷ 8 ∷ []) (bytes_of_all arrived_schedule) (24 ∷ 32 ∷ 64 ∷ []) (Built 7 6) arrivals (refl, refl, record { schedule = arrived_schedule; built = record { cycles = 51; schedule = refl; acts = refl; datas = refl }; count = refl; buffer = refl; finishes = refl })
-    ⨾ build_tells 7 R (replicate 24 9) (8 ∷ 8 ∷ []) (bytes_of_all (then_ref 60 0)) (24 ∷ 110 ∷ []) (Built 7 3) (fine ∷ arriving refresh 60 ∷ []) (refl, refl, record { schedule = then_ref 60 0; built = record { cycles = 61; schedule = refl; acts = refl; datas = refl }; count = refl; buffer = refl; finishes = refl })
-    ⨾ bytes_tell 8 A [] [] [] [] (NotBuilt (refusal 10 7 7)) true (0 ∷ []) (refl, refl, refl)
-    ⨾ bytes_tell 7 A (9 ∷ []) (8 ∷ []) (9 ∷ []) (8 ∷ []) (NotBuilt (refusal 3 0 7)) true (records_of true (out ∷ []) ++ (0 ∷ [])) (refl, refl, refl)
-    ⨾ bytes_tell 7 A (9 ∷ []) (8 ∷ []) (9 ∷ []) (8 ∷ []) (NotBuilt (refusal 4 1 7)) true (records_of true (read_at 5 0 ∷ read_at 4 1 ∷ [])) (refl, refl, refl)
-    ⨾ bytes_tell 7 A (replicate 47 9) [] (replicate 47 9) [] (NotBuilt (refusal 5 0 7)) true (records_of true arrivals) (some 4, refl, refl, refl)
-    ⨾ bytes_tell 7 A (replicate 48 9) (8 ∷ 8 ∷ []) (replicate 48 9) (8 ∷ 8 ∷ []) (NotBuilt (refusal 6 0 7)) true (records_of true arrivals) (some 5, refl, refl, refl)
-    ⨾ bytes_tell 7 A (replicate 49 9) (8 ∷ 8 ∷ 8 ∷ []) (bytes_of_all arrived_schedule ++ (9 ∷ [])) (24 ∷ 32 ∷ 64 ∷ []) (Built 7 6) true (records_of true arrivals) (refl, refl, record { schedule = arrived_schedule; built = record { cycles = 51; schedule = refl; acts = refl; datas = refl }; count = refl; buffer = refl; finishes = refl })
+    build_tells 7 A (9 ∷ []) (8 ∷ []) (9 ∷ []) (8 ∷ []) (Err (refusal 5 0 7)) (read_at 20000000 0 ∷ []) (some 4, refl, refl, refl)
+    ⨾ build_tells 7 A (9 ∷ []) (8 ∷ []) (9 ∷ []) (8 ∷ []) (Err (refusal 4 0 7)) (read_at 20000001 0 ∷ []) (refl, refl, refl)
+    ⨾ build_tells 7 A (9 ∷ []) (8 ∷ []) (9 ∷ []) (8 ∷ []) (Err (refusal 4 1 7)) (read_at 5 0 ∷ read_at 4 1 ∷ []) (refl, refl, refl)
+    ⨾ build_tells 7 A (replicate 48 9) (8 ∷ 8 ∷ 8 ∷ []) (bytes_of_all arrived_schedule) (24 ∷ 32 ∷ 64 ∷ []) (Ok (7, 6)) arrivals (refl, refl, record { schedule = arrived_schedule; built = record { cycles = 51; schedule = refl; acts = refl; datas = refl }; count = refl; buffer = refl; finishes = refl })
+    ⨾ build_tells 7 R (replicate 24 9) (8 ∷ 8 ∷ []) (bytes_of_all (then_ref 60 0)) (24 ∷ 110 ∷ []) (Ok (7, 3)) (fine ∷ arriving refresh 60 ∷ []) (refl, refl, record { schedule = then_ref 60 0; built = record { cycles = 61; schedule = refl; acts = refl; datas = refl }; count = refl; buffer = refl; finishes = refl })
+    ⨾ bytes_tell 8 A [] [] [] [] (Err (refusal 10 7 7)) true (0 ∷ []) (refl, refl, refl)
+    ⨾ bytes_tell 7 A (9 ∷ []) (8 ∷ []) (9 ∷ []) (8 ∷ []) (Err (refusal 3 0 7)) true (records_of true (out ∷ []) ++ (0 ∷ [])) (refl, refl, refl)
+    ⨾ bytes_tell 7 A (9 ∷ []) (8 ∷ []) (9 ∷ []) (8 ∷ []) (Err (refusal 4 1 7)) true (records_of true (read_at 5 0 ∷ read_at 4 1 ∷ [])) (refl, refl, refl)
+    ⨾ bytes_tell 7 A (replicate 47 9) [] (replicate 47 9) [] (Err (refusal 5 0 7)) true (records_of true arrivals) (some 4, refl, refl, refl)
+    ⨾ bytes_tell 7 A (replicate 48 9) (8 ∷ 8 ∷ []) (replicate 48 9) (8 ∷ 8 ∷ []) (Err (refusal 6 0 7)) true (records_of true arrivals) (some 5, refl, refl, refl)
+    ⨾ bytes_tell 7 A (replicate 49 9) (8 ∷ 8 ∷ 8 ∷ []) (bytes_of_all arrived_schedule ++ (9 ∷ [])) (24 ∷ 32 ∷ 64 ∷ []) (Ok (7, 6)) true (records_of true arrivals) (refl, refl, record { schedule = arrived_schedule; built = record { cycles = 51; schedule = refl; acts = refl; datas = refl }; count = refl; buffer = refl; finishes = refl })
     ⨾ many_built true
     ⨾ tt
 

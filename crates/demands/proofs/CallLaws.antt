@@ -1,5 +1,9 @@
 -- Laws for the list of worked calls: what every answer that keeps a promise tells, and calls by the length of their bytes alone.
 -- Assumes nothing.
+use Rattle.std.specs.Prelude.{Result, Ok, Err}
+use Rattle.rules.specs.declared.verdict.Verdict.{Verdict}
+use Rattle.records.specs.declared.refusal.Refusal.{Refusal}
+use Rattle.rules.specs.declared.verdict.PatternVerdict.{PatternVerdict}
 use Prim.Native.Nat.{ℕ, zero, suc, ◌*◌, ◌%◌, ◌/◌}
 use native.Mathlib.Omega.{arith}
 use mathlib.Core.Bool.{Bool, true, false, not, ◌||◌}
@@ -22,17 +26,9 @@ use Rattle.rules.specs.Verdict.{judge}
 use Rattle.rules.specs.Pattern.{copies}
 use Rattle.rules.specs.Worked.{table_r, one}
 use Rattle.rules.specs.WorkedGroups.{one_group}
-use Rattle.judge.specs.declared.answer.Judged.{Judged}
-use Rattle.judge.specs.declared.answer.Judged.TheVariants.{Verdict, Refused as NotJudged}
-use Rattle.judge.specs.declared.answer.PatternJudged.{PatternJudged}
 use Rattle.judge.specs.Answer.{schedule_refusal, judged}
-use Rattle.capture.specs.declared.answer.CaptureJudged.TheVariants.{Verdict as CaptureSays, Refused as NotCaptured}
 use Rattle.stamps.specs.Capture.{timed_in, lowest}
 use Rattle.capture.specs.Answer.{not_a_capture, capture_count, commands_seen, capture_refusal, position_of, Captured, captured}
-use Rattle.builder.specs.declared.build.BuildAnswer.{BuildAnswer}
-use Rattle.builder.specs.declared.build.BuildAnswer.TheVariants.{Refused as NotBuilt}
-use Rattle.lists.specs.declared.check.Checked.{Checked}
-use Rattle.lists.specs.declared.check.Checked.TheVariants.{Refused as NotFine}
 use Rattle.lists.specs.Check.{range_from, check_list, check_bytes, check_into}
 use Rattle.lists.specs.Decode.{decoded_by, decoding}
 use Rattle.promises.specs.Admit.{admitted}
@@ -55,10 +51,10 @@ p ⨾ ps = (p, ps)
 
 -- ---- what every answer that keeps a promise tells is what one does
 
-pub pattern_tells : (e : ℕ) (t s : List ℕ) (L : ℕ) (v : PatternJudged) → PatternTold (admitted e t) s L v → Patterns e t s L (pattern_numbers v)
+pub pattern_tells : (e : ℕ) (t s : List ℕ) (L : ℕ) (v : Result (ℕ × PatternVerdict) Refusal) → PatternTold (admitted e t) s L v → Patterns e t s L (pattern_numbers v)
 pattern_tells e t s L v w r p = ap pattern_numbers ((only e t).judge_pattern s L r v p w)
 
-module _ (e : ℕ) (t b₀ f₀ b f : List ℕ) (v : BuildAnswer) where
+module _ (e : ℕ) (t b₀ f₀ b f : List ℕ) (v : Result (ℕ × ℕ) Refusal) where
   pub build_tells : (l : List Transaction) → Schedules (λ τ. check_list τ l) (admitted e t) l b₀ b f₀ f v → Builds e t l b₀ f₀ (build_numbers v) b f
   build_tells l w r b' f' p = let q = (only e t).schedule l b₀ f₀ r v b' b f' f p w in (ap build_numbers q.0, q.1, q.2)
 
@@ -78,9 +74,9 @@ few_records s e =
 
 pub many_records : (s : List ℕ) → length s ≡ 557064 → judges_bytes 7 A s ≡ told 7 0 7
 unfolding admitted read_table judging judged
-many_records s e = by (schedule_refusal (length s)) (Verdict 7 (judge table_a (commands_in s))) (ap schedule_refusal e)
+many_records s e = by (schedule_refusal (length s)) (Ok (7, judge table_a (commands_in s))) (ap schedule_refusal e)
   where
-    by : (z : ℕ) (x : Judged) → z ≡ 7 → judged_numbers (pick (eqb z 0) x (NotJudged (refusal z 0 7))) ≡ told 7 0 7
+    by : (z : ℕ) (x : Result (ℕ × Verdict) Refusal) → z ≡ 7 → judged_numbers (pick (eqb z 0) x (Err (refusal z 0 7))) ≡ told 7 0 7
     by z x e = rw e refl
 
 -- what a capture leaves, by whether number 7 applies
@@ -93,8 +89,8 @@ module _ (s b : List ℕ) where
   abbrev left : ℕ → Captured
   left z =
       pick (eqb z 0)
-      (record { answer = CaptureSays 7 (length (commands_seen s)) (judge table_a (commands_seen s)); buffer = over (bytes_of_all (commands_seen s)) b })
-      (record { answer = NotCaptured (refusal z (position_of z s) 7); buffer = b })
+      (record { answer = Ok (7, length (commands_seen s), judge table_a (commands_seen s)); buffer = over (bytes_of_all (commands_seen s)) b })
+      (record { answer = Err (refusal z (position_of z s) 7); buffer = b })
 
   pub few_captured : length s ≡ 278528 → (capture_numbers (capturing (admitted 7 A) s b).answer).refused ≡ 7 → ⊥
   unfolding admitted read_table capturing captured capture_refusal
@@ -137,11 +133,11 @@ many_transactions later s l e k = by (few_into later s (length l)) (range_from t
     over_256 true e = rw e refl
     over_256 false e = rw e refl
 
-    by : (g : Bool) (x : Checked) → g ≡ false → read_numbers (decoded_by (pick g x (NotFine (refusal 3 0 7))) later table_a s l).answer ≡ told 3 0 7
+    by : (g : Bool) (x : Result Unit Refusal) → g ≡ false → read_numbers (decoded_by (pick g x (Err (refusal 3 0 7))) later table_a s l).answer ≡ told 3 0 7
     by g x e = rw e refl
 
 -- the check of so many bytes
-pub bytes_many : (later : Bool) (s : List ℕ) → length s ≡ 257 * record_size later → check_bytes later table_a s ≡ NotFine (refusal 3 0 7)
+pub bytes_many : (later : Bool) (s : List ℕ) → length s ≡ 257 * record_size later → check_bytes later table_a s ≡ Err (refusal 3 0 7)
 unfolding check_bytes
 bytes_many later s e = by (few_bytes later s) (range_from table_a 0 (list_of later s) 0) (over_256 later e)
   where
@@ -149,18 +145,18 @@ bytes_many later s e = by (few_bytes later s) (range_from table_a 0 (list_of lat
     over_256 true e = rw e refl
     over_256 false e = rw e refl
 
-    by : (g : Bool) (x : Checked) → g ≡ false → pick g x (NotFine (refusal 3 0 7)) ≡ NotFine (refusal 3 0 7)
+    by : (g : Bool) (x : Result Unit Refusal) → g ≡ false → pick g x (Err (refusal 3 0 7)) ≡ Err (refusal 3 0 7)
     by g x e = rw e refl
 
 pub many_built : (later : Bool) (s b f : List ℕ) → length s ≡ 257 * record_size later → BuildsBytes later 7 A s b f (told 3 0 7) b f
 unfolding admitted read_table Schedules BuildsChecked
 many_built later s b f e =
-    bytes_tell 7 A b f b f (NotBuilt (refusal 3 0 7)) later s
-    (subst (λ (c : Checked). BuildsChecked c table_a (list_of later s) b b f f (NotBuilt (refusal 3 0 7))) (sym (bytes_many later s e)) (refl, refl, refl))
+    bytes_tell 7 A b f b f (Err (refusal 3 0 7)) later s
+    (subst (λ (c : Result Unit Refusal). BuildsChecked c table_a (list_of later s) b b f f (Err (refusal 3 0 7))) (sym (bytes_many later s e)) (refl, refl, refl))
 
 pub many_run : (later : Bool) (c : Controller) (s : List ℕ) (n room : ℕ) → length s ≡ 257 * record_size later → runs_bytes later 7 A c s n room ≡ told 3 0 7
 unfolding admitted read_table running runs_checked
-many_run later c s n room e = ap (λ (d : Checked). run_numbers (runs_checked d c table_a (list_of later s) n (replicate room 9)).told.answer) (bytes_many later s e)
+many_run later c s n room e = ap (λ (d : Result Unit Refusal). run_numbers (runs_checked d c table_a (list_of later s) n (replicate room 9)).told.answer) (bytes_many later s e)
 
 -- ---- patterns that are refused, for every number of copies
 

@@ -1,5 +1,6 @@
 -- The public calls on given bytes answer as the list says.
 -- Assumes nothing.
+use Rattle.std.specs.Prelude.{Ok, Err}
 use mathlib.Core.Bool.{false}
 use mathlib.Core.Path.{refl}
 use mathlib.Core.List.{[], ◌∷◌, ◌++◌}
@@ -16,12 +17,10 @@ use Rattle.rules.specs.Queues.{act_queue, data_queue}
 use Rattle.rules.specs.Bound.{bound, bound_s, bound_d, bound_x}
 use Rattle.rules.specs.Worked.{refresh, table_r, one, All}
 use Rattle.rules.proofs.patterns.FiveDecide.{five_legal}
-use Rattle.judge.specs.declared.answer.PatternJudged.TheVariants.{Verdict as PatternVerdict, Refused as PatternNotJudged}
 use Rattle.judge.specs.Answer.{judged}
 use Rattle.stamps.specs.Record.{read_capture_record, write_capture_record}
 use Rattle.stamps.specs.Capture.{records_from, gap, timed_in, lowest, commands_of}
 use Rattle.capture.specs.Answer.{commands_seen, capture_refusal, captured}
-use Rattle.builder.specs.declared.build.BuildAnswer.TheVariants.{Built, Refused as NotBuilt}
 use Rattle.builder.specs.Bound.{bound_told}
 use Rattle.lists.specs.Check.{range_from, check_list, check_bytes, check_into}
 use Rattle.lists.specs.Decode.{decoding}
@@ -120,15 +119,15 @@ of_judges =
     ⨾ refl
     ⨾ refl
     ⨾ refl
-    ⨾ pattern_tells 8 A (0 ∷ []) 0 (PatternNotJudged (refusal 10 7 7)) refl
-    ⨾ pattern_tells 7 A (0 ∷ []) 0 (PatternNotJudged (refusal 7 0 7)) (some 6, refl)
-    ⨾ pattern_tells 7 A [] 0 (PatternNotJudged (refusal 8 0 7)) (some 7, refl)
-    ⨾ pattern_tells 7 A (bytes_of_all one) 38 (PatternVerdict 7 AllPassed) (refl, refl, (five_legal table_a 38 one).0 refl)
-    ⨾ pattern_tells 7 A (bytes_of_all one) 37 (PatternVerdict 7 (BrokenAt Precharge 2 0)) (refl, refl, refused_37)
-    ⨾ pattern_tells 7 A (bytes_of_all (command 0 Act 0 0 ∷ [])) 1 (PatternVerdict 7 (BrokenAt End 1 1)) (refl, refl, left_open_lem)
-    ⨾ pattern_tells 7 B (bytes_of_all one) 38 (PatternVerdict 7 (BrokenAt Faw 5 0)) (refl, refl, refused_38)
-    ⨾ pattern_tells 7 R (bytes_of_all (command 0 Ref 0 0 ∷ [])) 50 (PatternVerdict 7 AllPassed) (refl, refl, (five_legal table_r 50 (command 0 Ref 0 0 ∷ [])).0 refl)
-    ⨾ pattern_tells 7 R (bytes_of_all (command 0 Ref 0 0 ∷ [])) 49 (PatternVerdict 7 (BrokenAt Rfc 2 0)) (refl, refl, refused_49)
+    ⨾ pattern_tells 8 A (0 ∷ []) 0 (Err (refusal 10 7 7)) refl
+    ⨾ pattern_tells 7 A (0 ∷ []) 0 (Err (refusal 7 0 7)) (some 6, refl)
+    ⨾ pattern_tells 7 A [] 0 (Err (refusal 8 0 7)) (some 7, refl)
+    ⨾ pattern_tells 7 A (bytes_of_all one) 38 (Ok (7, AllPassed)) (refl, refl, (five_legal table_a 38 one).0 refl)
+    ⨾ pattern_tells 7 A (bytes_of_all one) 37 (Ok (7, BrokenAt Precharge 2 0)) (refl, refl, refused_37)
+    ⨾ pattern_tells 7 A (bytes_of_all (command 0 Act 0 0 ∷ [])) 1 (Ok (7, BrokenAt End 1 1)) (refl, refl, left_open_lem)
+    ⨾ pattern_tells 7 B (bytes_of_all one) 38 (Ok (7, BrokenAt Faw 5 0)) (refl, refl, refused_38)
+    ⨾ pattern_tells 7 R (bytes_of_all (command 0 Ref 0 0 ∷ [])) 50 (Ok (7, AllPassed)) (refl, refl, (five_legal table_r 50 (command 0 Ref 0 0 ∷ [])).0 refl)
+    ⨾ pattern_tells 7 R (bytes_of_all (command 0 Ref 0 0 ∷ [])) 49 (Ok (7, BrokenAt Rfc 2 0)) (refl, refl, refused_49)
     ⨾ tt
 
 of_captures : All capture_calls
@@ -182,27 +181,27 @@ of_lists =
 of_schedules : All schedule_calls
 unfolding admitted read_table Schedules BuildsChecked check_list check_bytes range_from transactions_from act_queue data_queue
 of_schedules =
-    build_tells 8 A (9 ∷ []) (8 ∷ []) (9 ∷ []) (8 ∷ []) (NotBuilt (refusal 10 7 7)) (replicate 257 out) (refl, refl, refl)
-    ⨾ build_tells 7 A (9 ∷ []) (8 ∷ []) (9 ∷ []) (8 ∷ []) (NotBuilt (refusal 3 0 7)) (replicate 257 out) (refl, refl, refl)
-    ⨾ build_tells 7 A (9 ∷ []) (8 ∷ []) (9 ∷ []) (8 ∷ []) (NotBuilt (refusal 4 1 7)) (fine ∷ out ∷ out ∷ []) (refl, refl, refl)
-    ⨾ build_tells 7 A (replicate 15 9) [] (replicate 15 9) [] (NotBuilt (refusal 5 0 7)) (fine ∷ []) (some 4, refl, refl, refl)
-    ⨾ build_tells 7 A (replicate 16 9) [] (replicate 16 9) [] (NotBuilt (refusal 6 0 7)) (fine ∷ []) (some 5, refl, refl, refl)
-    ⨾ build_tells 7 A (replicate 15 9) (8 ∷ []) (replicate 15 9) (8 ∷ []) (NotBuilt (refusal 5 0 7)) (fine ∷ []) (some 4, refl, refl, refl)
-    ⨾ build_tells 7 A (replicate 16 9) (8 ∷ []) (bytes_of_all one) (24 ∷ []) (Built 7 2) (fine ∷ []) (refl, refl, record { schedule = one; built = record { cycles = 11; schedule = refl; acts = refl; datas = refl }; count = refl; buffer = refl; finishes = refl })
-    ⨾ build_tells 7 A (replicate 17 9) (8 ∷ 8 ∷ []) (bytes_of_all one ++ (9 ∷ [])) (24 ∷ 8 ∷ []) (Built 7 2) (fine ∷ []) (refl, refl, record { schedule = one; built = record { cycles = 11; schedule = refl; acts = refl; datas = refl }; count = refl; buffer = refl; finishes = refl })
-    ⨾ build_tells 7 A [] [] [] [] (Built 7 0) [] (refl, refl, record { schedule = []; built = record { cycles = 0; schedule = refl; acts = refl; datas = refl }; count = refl; buffer = refl; finishes = refl })
-    ⨾ build_tells 7 R (replicate 7 9) [] (replicate 7 9) [] (NotBuilt (refusal 5 0 7)) (refresh ∷ []) (some 4, refl, refl, refl)
-    ⨾ build_tells 7 R (replicate 9 9) (8 ∷ []) (bytes_of_all (command 0 Ref 0 0 ∷ []) ++ (9 ∷ [])) (50 ∷ []) (Built 7 1) (refresh ∷ []) (refl, refl, record { schedule = command 0 Ref 0 0 ∷ []; built = record { cycles = 1; schedule = refl; acts = refl; datas = refl }; count = refl; buffer = refl; finishes = refl })
-    ⨾ build_tells 7 A [] [] [] [] (NotBuilt (refusal 4 1 7)) (fine ∷ refresh ∷ []) (refl, refl, refl)
-    ⨾ build_tells 7 A [] [] [] [] (NotBuilt (refusal 5 0 7)) (replicate 256 fine) (some 4, refl, refl, refl)
-    ⨾ bytes_tell 8 A [] [] [] [] (NotBuilt (refusal 10 7 7)) false (0 ∷ []) (refl, refl, refl)
-    ⨾ bytes_tell 7 A (9 ∷ []) (8 ∷ []) (9 ∷ []) (8 ∷ []) (NotBuilt (refusal 3 0 7)) false (records_of false (out ∷ []) ++ (0 ∷ [])) (refl, refl, refl)
-    ⨾ bytes_tell 7 A (9 ∷ []) (8 ∷ []) (9 ∷ []) (8 ∷ []) (NotBuilt (refusal 4 1 7)) false (records_of false (fine ∷ out ∷ out ∷ [])) (refl, refl, refl)
-    ⨾ bytes_tell 7 A (replicate 15 9) [] (replicate 15 9) [] (NotBuilt (refusal 5 0 7)) false (records_of false (fine ∷ [])) (some 4, refl, refl, refl)
-    ⨾ bytes_tell 7 A (replicate 16 9) [] (replicate 16 9) [] (NotBuilt (refusal 6 0 7)) false (records_of false (fine ∷ [])) (some 5, refl, refl, refl)
-    ⨾ bytes_tell 7 A (replicate 17 9) (8 ∷ []) (bytes_of_all one ++ (9 ∷ [])) (24 ∷ []) (Built 7 2) false (records_of false (fine ∷ [])) (refl, refl, record { schedule = one; built = record { cycles = 11; schedule = refl; acts = refl; datas = refl }; count = refl; buffer = refl; finishes = refl })
-    ⨾ bytes_tell 7 R (replicate 8 9) (8 ∷ []) (bytes_of_all (command 0 Ref 0 0 ∷ [])) (50 ∷ []) (Built 7 1) false (records_of false (refresh ∷ [])) (refl, refl, record { schedule = command 0 Ref 0 0 ∷ []; built = record { cycles = 1; schedule = refl; acts = refl; datas = refl }; count = refl; buffer = refl; finishes = refl })
-    ⨾ bytes_tell 7 A [] [] [] [] (NotBuilt (refusal 4 1 7)) false (records_of false (fine ∷ refresh ∷ [])) (refl, refl, refl)
+    build_tells 8 A (9 ∷ []) (8 ∷ []) (9 ∷ []) (8 ∷ []) (Err (refusal 10 7 7)) (replicate 257 out) (refl, refl, refl)
+    ⨾ build_tells 7 A (9 ∷ []) (8 ∷ []) (9 ∷ []) (8 ∷ []) (Err (refusal 3 0 7)) (replicate 257 out) (refl, refl, refl)
+    ⨾ build_tells 7 A (9 ∷ []) (8 ∷ []) (9 ∷ []) (8 ∷ []) (Err (refusal 4 1 7)) (fine ∷ out ∷ out ∷ []) (refl, refl, refl)
+    ⨾ build_tells 7 A (replicate 15 9) [] (replicate 15 9) [] (Err (refusal 5 0 7)) (fine ∷ []) (some 4, refl, refl, refl)
+    ⨾ build_tells 7 A (replicate 16 9) [] (replicate 16 9) [] (Err (refusal 6 0 7)) (fine ∷ []) (some 5, refl, refl, refl)
+    ⨾ build_tells 7 A (replicate 15 9) (8 ∷ []) (replicate 15 9) (8 ∷ []) (Err (refusal 5 0 7)) (fine ∷ []) (some 4, refl, refl, refl)
+    ⨾ build_tells 7 A (replicate 16 9) (8 ∷ []) (bytes_of_all one) (24 ∷ []) (Ok (7, 2)) (fine ∷ []) (refl, refl, record { schedule = one; built = record { cycles = 11; schedule = refl; acts = refl; datas = refl }; count = refl; buffer = refl; finishes = refl })
+    ⨾ build_tells 7 A (replicate 17 9) (8 ∷ 8 ∷ []) (bytes_of_all one ++ (9 ∷ [])) (24 ∷ 8 ∷ []) (Ok (7, 2)) (fine ∷ []) (refl, refl, record { schedule = one; built = record { cycles = 11; schedule = refl; acts = refl; datas = refl }; count = refl; buffer = refl; finishes = refl })
+    ⨾ build_tells 7 A [] [] [] [] (Ok (7, 0)) [] (refl, refl, record { schedule = []; built = record { cycles = 0; schedule = refl; acts = refl; datas = refl }; count = refl; buffer = refl; finishes = refl })
+    ⨾ build_tells 7 R (replicate 7 9) [] (replicate 7 9) [] (Err (refusal 5 0 7)) (refresh ∷ []) (some 4, refl, refl, refl)
+    ⨾ build_tells 7 R (replicate 9 9) (8 ∷ []) (bytes_of_all (command 0 Ref 0 0 ∷ []) ++ (9 ∷ [])) (50 ∷ []) (Ok (7, 1)) (refresh ∷ []) (refl, refl, record { schedule = command 0 Ref 0 0 ∷ []; built = record { cycles = 1; schedule = refl; acts = refl; datas = refl }; count = refl; buffer = refl; finishes = refl })
+    ⨾ build_tells 7 A [] [] [] [] (Err (refusal 4 1 7)) (fine ∷ refresh ∷ []) (refl, refl, refl)
+    ⨾ build_tells 7 A [] [] [] [] (Err (refusal 5 0 7)) (replicate 256 fine) (some 4, refl, refl, refl)
+    ⨾ bytes_tell 8 A [] [] [] [] (Err (refusal 10 7 7)) false (0 ∷ []) (refl, refl, refl)
+    ⨾ bytes_tell 7 A (9 ∷ []) (8 ∷ []) (9 ∷ []) (8 ∷ []) (Err (refusal 3 0 7)) false (records_of false (out ∷ []) ++ (0 ∷ [])) (refl, refl, refl)
+    ⨾ bytes_tell 7 A (9 ∷ []) (8 ∷ []) (9 ∷ []) (8 ∷ []) (Err (refusal 4 1 7)) false (records_of false (fine ∷ out ∷ out ∷ [])) (refl, refl, refl)
+    ⨾ bytes_tell 7 A (replicate 15 9) [] (replicate 15 9) [] (Err (refusal 5 0 7)) false (records_of false (fine ∷ [])) (some 4, refl, refl, refl)
+    ⨾ bytes_tell 7 A (replicate 16 9) [] (replicate 16 9) [] (Err (refusal 6 0 7)) false (records_of false (fine ∷ [])) (some 5, refl, refl, refl)
+    ⨾ bytes_tell 7 A (replicate 17 9) (8 ∷ []) (bytes_of_all one ++ (9 ∷ [])) (24 ∷ []) (Ok (7, 2)) false (records_of false (fine ∷ [])) (refl, refl, record { schedule = one; built = record { cycles = 11; schedule = refl; acts = refl; datas = refl }; count = refl; buffer = refl; finishes = refl })
+    ⨾ bytes_tell 7 R (replicate 8 9) (8 ∷ []) (bytes_of_all (command 0 Ref 0 0 ∷ [])) (50 ∷ []) (Ok (7, 1)) false (records_of false (refresh ∷ [])) (refl, refl, record { schedule = command 0 Ref 0 0 ∷ []; built = record { cycles = 1; schedule = refl; acts = refl; datas = refl }; count = refl; buffer = refl; finishes = refl })
+    ⨾ bytes_tell 7 A [] [] [] [] (Err (refusal 4 1 7)) false (records_of false (fine ∷ refresh ∷ [])) (refl, refl, refl)
     ⨾ many_built false
     ⨾ tt
 

@@ -1,5 +1,8 @@
 -- Each call tells the first row of document 01's table that applies.
 -- Assumes nothing.
+use Rattle.std.specs.Prelude.{Result, Ok, Err}
+use Rattle.rules.specs.declared.verdict.PatternVerdict.{PatternVerdict}
+use Rattle.serves.specs.declared.answer.Served.{Served}
 use Prim.Native.Nat.{ℕ, ◌+◌, ◌-◌, ◌*◌, min}
 use mathlib.Core.Bool.{Bool, not, ◌&&◌}
 use mathlib.Core.Path.{◌≡◌, refl, sym, ap, ◌∙◌, subst}
@@ -7,7 +10,6 @@ use mathlib.Core.List.{List, [], ◌∷◌}
 use lib.Dec.{leb, ltb, eqb}
 use lib.ListN.{length}
 use Rattle.records.specs.declared.table.Table.{Table}
-use Rattle.records.specs.declared.table.TableRead.TheVariants.{Read}
 use Rattle.records.specs.declared.transaction.Transaction.{Transaction}
 use Rattle.records.specs.declared.refusal.Refusal.{Refusal}
 use Rattle.records.specs.Tests.{within}
@@ -19,18 +21,8 @@ use Rattle.rules.specs.Queues.{act_queue, data_queue}
 use Rattle.rules.specs.Verdict.{judge}
 use Rattle.rules.specs.Bound.{bound}
 use Rattle.rules.specs.Pieces.{is_late, lent_run}
-use Rattle.judge.specs.declared.answer.Judged.TheVariants.{Verdict, Refused as NotJudged}
-use Rattle.judge.specs.declared.answer.PatternJudged.{PatternJudged}
-use Rattle.judge.specs.declared.answer.PatternJudged.TheVariants.{Verdict as PatternVerdict, Refused as PatternNotJudged}
 use Rattle.judge.specs.Answer.{not_a_schedule, schedule_refusal, judged}
-use Rattle.serves.specs.declared.answer.ServesAnswer.{ServesAnswer}
-use Rattle.serves.specs.declared.answer.ServesAnswer.TheVariants.{Told, Refused as NotTold}
-use Rattle.builder.specs.declared.bound.BoundAnswer.TheVariants.{Bound, Refused as NoBound}
-use Rattle.builder.specs.declared.build.BuildAnswer.{BuildAnswer}
-use Rattle.builder.specs.declared.build.BuildAnswer.TheVariants.{Built, Refused as NotBuilt}
 use Rattle.builder.specs.Bound.{bound_refusal, bound_told}
-use Rattle.lists.specs.declared.check.Checked.{Checked}
-use Rattle.lists.specs.declared.check.Checked.TheVariants.{Fine, Refused as NotFine}
 use Rattle.lists.specs.Check.{check_sized, check_list, check_bytes, check_into}
 use Rattle.lists.specs.Decode.{decoded_by, decoding}
 use Rattle.controller.specs.declared.controller.Controller.{Controller}
@@ -65,73 +57,76 @@ into_sized later τ s places = refl
 
 -- ---- of a table that is admitted
 
-judge_rows : (τ : Table) (s : List ℕ) → FirstRow (schedule_row s ∷ []) (judged_numbers (judging (Read τ) s))
+judge_rows : (τ : Table) (s : List ℕ) → FirstRow (schedule_row s ∷ []) (judged_numbers (judging (Ok τ) s))
 unfolding judging judged
 judge_rows τ s =
     let z = schedule_refusal (length s) in
-    one 7 (not_a_schedule (length s)) (judged_numbers (judging (Read τ) s))
-    (by_number judged_numbers z (Verdict τ.edition (judge τ (commands_in s))) (NotJudged (refusal z 0 τ.edition)) (refl, refl) (refl, refl))
+    one 7 (not_a_schedule (length s)) (judged_numbers (judging (Ok τ) s))
+    (by_number judged_numbers z (Ok (τ.edition, judge τ (commands_in s))) (Err (refusal z 0 τ.edition)) (refl, refl) (refl, refl))
 
-pattern_rows : (τ : Table) (s : List ℕ) (L : ℕ) (r : PatternJudged) → PatternTold (Read τ) s L r → FirstRow (schedule_row s ∷ row 8 0 (eqb L 0) ∷ []) (pattern_numbers r)
+pattern_rows : (τ : Table) (s : List ℕ) (L : ℕ) (r : Result (ℕ × PatternVerdict) Refusal) → PatternTold (Ok τ) s L r → FirstRow (schedule_row s ∷ row 8 0 (eqb L 0) ∷ []) (pattern_numbers r)
 unfolding PatternTold
-pattern_rows τ s L (PatternVerdict e v) p = two 7 8 (not_a_schedule (length s)) (eqb L 0) (pattern_numbers (PatternVerdict e v)) (sym p.0, refl)
-pattern_rows τ s L (PatternNotJudged x) p =
+pattern_rows τ s L (Ok (e, v)) p = two 7 8 (not_a_schedule (length s)) (eqb L 0) (pattern_numbers (Ok (e, v))) (sym p.0, refl)
+pattern_rows τ s L (Err x) p =
     two 7 8 (not_a_schedule (length s)) (eqb L 0) (refusing x) (ap (λ (y : Refusal). y.number) p.1, ap (λ (y : Refusal). y.position) p.1)
 
-bound_rows : (τ : Table) (bi bc : ℕ) → FirstRow (row 4 0 (not (within 1 16 bi && (within 1 16 bc && leb bi τ.banks))) ∷ []) (bound_numbers (bounding (Read τ) bi bc))
+bound_rows : (τ : Table) (bi bc : ℕ) → FirstRow (row 4 0 (not (within 1 16 bi && (within 1 16 bc && leb bi τ.banks))) ∷ []) (bound_numbers (bounding (Ok τ) bi bc))
 unfolding bounding bound_told
 bound_rows τ bi bc =
     let z = bound_refusal τ.banks bi bc in
-    one 4 (not (within 1 16 bi && (within 1 16 bc && leb bi τ.banks))) (bound_numbers (bounding (Read τ) bi bc))
-    (by_number bound_numbers z (Bound τ.edition (bound τ bi bc)) (NoBound (refusal z 0 τ.edition)) (refl, refl) (refl, refl))
+    one 4 (not (within 1 16 bi && (within 1 16 bc && leb bi τ.banks))) (bound_numbers (bounding (Ok τ) bi bc))
+    (by_number bound_numbers z (Ok (τ.edition, bound τ bi bc)) (Err (refusal z 0 τ.edition)) (refl, refl) (refl, refl))
 
 module _ (τ : Table) (l : List Transaction) (b₀ b f₀ f : List ℕ) where
   -- the numbers that a build may tell, by what the check of the list finds
-  abbrev BuildTells : Checked → Numbers → Type 0
-  BuildTells c a = (r : BuildAnswer) × BuildsChecked c τ l b₀ b f₀ f r × (a ≡ build_numbers r)
+  abbrev BuildTells : Result Unit Refusal → Numbers → Type 0
+  BuildTells c a = (r : Result (ℕ × ℕ) Refusal) × BuildsChecked c τ l b₀ b f₀ f r × (a ≡ build_numbers r)
 
-  build_rows_lem : (a : Numbers) → BuildTells Fine a → FirstRow (build_rows τ l (length b₀) (length f₀)) a
+  build_rows_lem : (a : Numbers) → BuildTells (Ok tt) a → FirstRow (build_rows τ l (length b₀) (length f₀)) a
   unfolding BuildsChecked
   build_rows_lem a (r, h, e) = subst (FirstRow (build_rows τ l (length b₀) (length f₀))) (sym e) (by_answer r h)
     where
       short : Bool
       short = ltb (length b₀) (8 * (length (act_queue τ l) + length (data_queue τ l)))
 
-      by_answer : (r : BuildAnswer) → BuildsChecked Fine τ l b₀ b f₀ f r → FirstRow (build_rows τ l (length b₀) (length f₀)) (build_numbers r)
-      by_answer (Built e n) h = two 5 6 short (ltb (length f₀) (length l)) (build_numbers (Built e n)) (sym h.0, refl)
-      by_answer (NotBuilt x) h =
+      by_answer : (r : Result (ℕ × ℕ) Refusal) → BuildsChecked (Ok tt) τ l b₀ b f₀ f r → FirstRow (build_rows τ l (length b₀) (length f₀)) (build_numbers r)
+      by_answer (Ok (e, n)) h = two 5 6 short (ltb (length f₀) (length l)) (build_numbers (Ok (e, n))) (sym h.0, refl)
+      by_answer (Err x) h =
           two 5 6 short (ltb (length f₀) (length l)) (refusing x) (ap (λ (y : Refusal). y.number) h.1, ap (λ (y : Refusal). y.position) h.1)
 
-  build_gives : (x : Refusal) (a : Numbers) → BuildTells (NotFine x) a → a ≡ refusing x
+  build_gives : (x : Refusal) (a : Numbers) → BuildTells (Err x) a → a ≡ refusing x
   unfolding BuildsChecked
   build_gives x a (r, h, e) = e ∙ ap build_numbers h.0
 
 module _ (τ : Table) (l : List Transaction) (s : List ℕ) where
   -- the numbers that may be told of a list and a schedule, by what the check of the list finds
-  abbrev ServesTells : Checked → Numbers → Type 0
-  ServesTells c a = (r : ServesAnswer) × ServesChecked c τ l s r × (a ≡ serves_numbers r)
+  abbrev ServesTells : Result Unit Refusal → Numbers → Type 0
+  ServesTells c a = (r : Result (ℕ × Served) Refusal) × ServesChecked c τ l s r × (a ≡ serves_numbers r)
 
-  serves_rows : (a : Numbers) → ServesTells Fine a → FirstRow (schedule_row s ∷ []) a
+  serves_rows : (a : Numbers) → ServesTells (Ok tt) a → FirstRow (schedule_row s ∷ []) a
   unfolding ServesChecked
   serves_rows a (r, h, e) = subst (FirstRow (schedule_row s ∷ [])) (sym e) (by_answer r h)
     where
-      by_answer : (r : ServesAnswer) → ServesChecked Fine τ l s r → FirstRow (schedule_row s ∷ []) (serves_numbers r)
-      by_answer (Told e v) h = one 7 (not_a_schedule (length s)) (serves_numbers (Told e v)) (sym h.0, refl)
-      by_answer (NotTold x) h =
+      by_answer : (r : Result (ℕ × Served) Refusal) → ServesChecked (Ok tt) τ l s r → FirstRow (schedule_row s ∷ []) (serves_numbers r)
+      by_answer (Ok (e, v)) h = one 7 (not_a_schedule (length s)) (serves_numbers (Ok (e, v))) (sym h.0, refl)
+      by_answer (Err x) h =
           one 7 (not_a_schedule (length s)) (refusing x) (ap (λ (y : Refusal). y.number) h.1, ap (λ (y : Refusal). y.position) h.1)
 
-  serves_gives : (x : Refusal) (a : Numbers) → ServesTells (NotFine x) a → a ≡ refusing x
+  serves_gives : (x : Refusal) (a : Numbers) → ServesTells (Err x) a → a ≡ refusing x
   unfolding ServesChecked
   serves_gives x a (r, h, e) = e ∙ ap serves_numbers h
 
 module _ (τ : Table) (c : Controller) (l : List Transaction) (n : ℕ) (b : List ℕ) where
-  run_rows_lem : FirstRow (run_rows τ l c n (length b)) (run_numbers (runs_checked Fine c τ l n b).told.answer)
+  run_rows_lem : FirstRow (run_rows τ l c n (length b)) (run_numbers (runs_checked (Ok tt) c τ l n b).told.answer)
   unfolding runs_checked run_controller run_refusal tells
   run_rows_lem =
       let z = run_refusal τ l (tells c) n (length b) in
-      let a = run_numbers (runs_checked Fine c τ l n b).told.answer in
-      three 5 9 12 (ltb (length b) (8 * min n ((length (act_queue τ l) - c.acts) + (length (data_queue τ l) - c.datas)))) (not (sound τ l (tells c))) (is_late l (tells c)) a
-      (by_number (λ (w : RunLeft). run_numbers w.told.answer) z (ran_left τ.edition (lent_run n τ l (tells c)) b) (refused_left τ.edition z c b) (refl, refl) (refl, refl))
+      let a = run_numbers (runs_checked (Ok tt) c τ l n b).told.answer in
+      let short = ltb (length b) (8 * min n ((length (act_queue τ l) - c.acts) + (length (data_queue τ l) - c.datas))) in
+      let rows : row 5 0 short ∷ row 9 0 (not (sound τ l (tells c))) ∷ row 12 0 (is_late l (tells c)) ∷ [] ≡ run_rows τ l c n (length b) = refl in
+      subst (λ (rs : List Row). FirstRow rs a) rows
+      (three 5 9 12 short (not (sound τ l (tells c))) (is_late l (tells c)) a
+      (by_number (λ (w : RunLeft). run_numbers w.told.answer) z (ran_left τ.edition (lent_run n τ l (tells c)) b) (refused_left τ.edition z c b) (refl, refl) (refl, refl)))
 
 -- ---- all of them
 
@@ -145,11 +140,11 @@ module _ (expected : ℕ) (table : List ℕ) where
       by_table expected table (λ a n. n ≡ judged_numbers (judging a s)) (schedule_row s ∷ []) (λ x a e. e)
       (λ a e. subst (FirstRow (schedule_row s ∷ [])) (sym e) (judge_rows t s)) (judged_numbers (judging (admitted expected table) s)) refl
 
-  pattern_told : (s : List ℕ) (L : ℕ) (r : PatternJudged) → PatternTold (admitted expected table) s L r
+  pattern_told : (s : List ℕ) (L : ℕ) (r : Result (ℕ × PatternVerdict) Refusal) → PatternTold (admitted expected table) s L r
       → FirstRow (table_rows expected table (schedule_row s ∷ row 8 0 (eqb L 0) ∷ [])) (pattern_numbers r)
   unfolding PatternTold
   pattern_told s L r p =
-      by_table expected table (λ a n. (v : PatternJudged) × PatternTold a s L v × (n ≡ pattern_numbers v)) rows
+      by_table expected table (λ a n. (v : Result (ℕ × PatternVerdict) Refusal) × PatternTold a s L v × (n ≡ pattern_numbers v)) rows
       (λ x a h. h.2 ∙ ap pattern_numbers h.1) (λ a h. subst (FirstRow rows) (sym h.2) (pattern_rows t s L h.0 h.1)) (pattern_numbers r) (r, p, refl)
     where
       rows : List Row
@@ -181,12 +176,12 @@ module _ (expected : ℕ) (table : List ℕ) where
       (start_numbers (starting (admitted expected table)).answer) refl
 
   -- by a check that goes by the list's size
-  module _ (check : Table → Checked) (good : Bool) (l : List Transaction) (sized : check t ≡ check_sized t good l) where
-    build_told : (b₀ b f₀ f : List ℕ) (r : BuildAnswer) → Schedules check (admitted expected table) l b₀ b f₀ f r
+  module _ (check : Table → Result Unit Refusal) (good : Bool) (l : List Transaction) (sized : check t ≡ check_sized t good l) where
+    build_told : (b₀ b f₀ f : List ℕ) (r : Result (ℕ × ℕ) Refusal) → Schedules check (admitted expected table) l b₀ b f₀ f r
         → FirstRow (table_rows expected table (list_rows t good l (build_rows t l (length b₀) (length f₀)))) (build_numbers r)
     unfolding Schedules
     build_told b₀ b f₀ f r h =
-        by_table expected table (λ a n. (v : BuildAnswer) × Schedules check a l b₀ b f₀ f v × (n ≡ build_numbers v)) (list_rows t good l rows)
+        by_table expected table (λ a n. (v : Result (ℕ × ℕ) Refusal) × Schedules check a l b₀ b f₀ f v × (n ≡ build_numbers v)) (list_rows t good l rows)
         (λ x a k. k.2 ∙ ap build_numbers k.1.0)
         (λ a k. by_list t (BuildTells t l b₀ b f₀ f) rows a (λ x. build_gives t l b₀ b f₀ f x a) (build_rows_lem t l b₀ b f₀ f a) good l (check t) sized k)
         (build_numbers r) (r, h, refl)
@@ -194,11 +189,11 @@ module _ (expected : ℕ) (table : List ℕ) where
         rows : List Row
         rows = build_rows t l (length b₀) (length f₀)
 
-    serves_told : (s : List ℕ) (r : ServesAnswer) → Serving check (admitted expected table) l s r
+    serves_told : (s : List ℕ) (r : Result (ℕ × Served) Refusal) → Serving check (admitted expected table) l s r
         → FirstRow (table_rows expected table (list_rows t good l (schedule_row s ∷ []))) (serves_numbers r)
     unfolding Serving
     serves_told s r h =
-        by_table expected table (λ a n. (v : ServesAnswer) × Serving check a l s v × (n ≡ serves_numbers v)) (list_rows t good l (schedule_row s ∷ []))
+        by_table expected table (λ a n. (v : Result (ℕ × Served) Refusal) × Serving check a l s v × (n ≡ serves_numbers v)) (list_rows t good l (schedule_row s ∷ []))
         (λ x a k. k.2 ∙ ap serves_numbers k.1)
         (λ a k. by_list t (ServesTells t l s) (schedule_row s ∷ []) a (λ x. serves_gives t l s x a) (serves_rows t l s a) good l (check t) sized k)
         (serves_numbers r) (r, h, refl)

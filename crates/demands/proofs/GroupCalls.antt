@@ -1,5 +1,6 @@
 -- The public calls on tables of 40 bytes answer as the list says.
 -- Assumes nothing.
+use Rattle.std.specs.Prelude.{Ok, Err}
 use mathlib.Core.Bool.{false}
 use mathlib.Core.Path.{refl}
 use mathlib.Core.List.{[], ◌∷◌, ◌++◌}
@@ -16,11 +17,9 @@ use Rattle.rules.specs.Bound.{bound, bound_s, bound_d, bound_x}
 use Rattle.rules.specs.Worked.{read, All}
 use Rattle.rules.specs.WorkedGroups.{one_group}
 use Rattle.rules.proofs.patterns.FiveDecide.{five_legal}
-use Rattle.judge.specs.declared.answer.PatternJudged.TheVariants.{Verdict as PatternVerdict, Refused as PatternNotJudged}
 use Rattle.judge.specs.Answer.{judged}
 use Rattle.stamps.specs.Capture.{records_from, gap, timed_in, lowest, commands_of}
 use Rattle.capture.specs.Answer.{commands_seen, capture_refusal, captured}
-use Rattle.builder.specs.declared.build.BuildAnswer.TheVariants.{Built, Refused as NotBuilt}
 use Rattle.builder.specs.Bound.{bound_told}
 use Rattle.lists.specs.Check.{range_from, check_list, check_bytes, check_into}
 use Rattle.lists.specs.Decode.{decoding}
@@ -87,9 +86,9 @@ of_verdicts =
     ⨾ refl
     ⨾ refl
     ⨾ refl
-    ⨾ pattern_tells 7 D [] 0 (PatternNotJudged (refusal 8 0 7)) (some 7, refl)
-    ⨾ pattern_tells 7 D (bytes_of_all one_group) 40 (PatternVerdict 7 AllPassed) (refl, refl, (five_legal table_d 40 one_group).0 refl)
-    ⨾ pattern_tells 7 D (bytes_of_all one_group) 39 (PatternVerdict 7 (BrokenAt Rrd 2 0)) (refl, refl, refused_39)
+    ⨾ pattern_tells 7 D [] 0 (Err (refusal 8 0 7)) (some 7, refl)
+    ⨾ pattern_tells 7 D (bytes_of_all one_group) 40 (Ok (7, AllPassed)) (refl, refl, (five_legal table_d 40 one_group).0 refl)
+    ⨾ pattern_tells 7 D (bytes_of_all one_group) 39 (Ok (7, BrokenAt Rrd 2 0)) (refl, refl, refused_39)
     ⨾ (refl, refl)
     ⨾ tt
 
@@ -102,10 +101,10 @@ of_schedules =
     ⨾ refl
     ⨾ refl
     ⨾ refl
-    ⨾ build_tells 7 D (replicate 32 9) (8 ∷ 8 ∷ []) (bytes_of_all within) (24 ∷ 44 ∷ []) (Built 7 4) (read 0 1 1 ∷ read 4 1 1 ∷ []) (refl, refl, record { schedule = within; built = record { cycles = 31; schedule = refl; acts = refl; datas = refl }; count = refl; buffer = refl; finishes = refl })
-    ⨾ bytes_tell 7 D (replicate 33 9) (8 ∷ 8 ∷ []) (bytes_of_all within ++ (9 ∷ [])) (24 ∷ 44 ∷ []) (Built 7 4) false (records_of false (read 0 1 1 ∷ read 4 1 1 ∷ [])) (refl, refl, record { schedule = within; built = record { cycles = 31; schedule = refl; acts = refl; datas = refl }; count = refl; buffer = refl; finishes = refl })
-    ⨾ build_tells 7 D (replicate 32 9) (8 ∷ 8 ∷ []) (bytes_of_all across) (24 ∷ 30 ∷ []) (Built 7 4) (read 0 1 1 ∷ read 1 1 1 ∷ []) (refl, refl, record { schedule = across; built = record { cycles = 17; schedule = refl; acts = refl; datas = refl }; count = refl; buffer = refl; finishes = refl })
-    ⨾ build_tells 7 D (replicate 15 9) [] (replicate 15 9) [] (NotBuilt (refusal 5 0 7)) (read 0 1 1 ∷ []) (some 4, refl, refl, refl)
+    ⨾ build_tells 7 D (replicate 32 9) (8 ∷ 8 ∷ []) (bytes_of_all within) (24 ∷ 44 ∷ []) (Ok (7, 4)) (read 0 1 1 ∷ read 4 1 1 ∷ []) (refl, refl, record { schedule = within; built = record { cycles = 31; schedule = refl; acts = refl; datas = refl }; count = refl; buffer = refl; finishes = refl })
+    ⨾ bytes_tell 7 D (replicate 33 9) (8 ∷ 8 ∷ []) (bytes_of_all within ++ (9 ∷ [])) (24 ∷ 44 ∷ []) (Ok (7, 4)) false (records_of false (read 0 1 1 ∷ read 4 1 1 ∷ [])) (refl, refl, record { schedule = within; built = record { cycles = 31; schedule = refl; acts = refl; datas = refl }; count = refl; buffer = refl; finishes = refl })
+    ⨾ build_tells 7 D (replicate 32 9) (8 ∷ 8 ∷ []) (bytes_of_all across) (24 ∷ 30 ∷ []) (Ok (7, 4)) (read 0 1 1 ∷ read 1 1 1 ∷ []) (refl, refl, record { schedule = across; built = record { cycles = 17; schedule = refl; acts = refl; datas = refl }; count = refl; buffer = refl; finishes = refl })
+    ⨾ build_tells 7 D (replicate 15 9) [] (replicate 15 9) [] (Err (refusal 5 0 7)) (read 0 1 1 ∷ []) (some 4, refl, refl, refl)
     ⨾ tt
 
 of_runs : All group_runs

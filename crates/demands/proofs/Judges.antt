@@ -1,5 +1,8 @@
 -- Demand 2: what is built is the schedule of the cycle rule, and the judges accept exactly the legal and name the first that is broken.
 -- Assumes nothing.
+use Rattle.std.specs.Prelude.{Result, Ok, Err}
+use Rattle.records.specs.declared.refusal.Refusal.{Refusal}
+use Rattle.rules.specs.declared.verdict.PatternVerdict.{PatternVerdict}
 use Prim.Native.Nat.{ℕ, ◌+◌, ◌*◌}
 use mathlib.Core.Bool.{Bool, true}
 use mathlib.Core.Path.{◌≡◌, refl, sym, ap, ◌∙◌, subst}
@@ -10,8 +13,6 @@ use lib.Dec.{ltb}
 use lib.ListN.{length, take}
 use borrow.Author.Tests.{le-ltb}
 use Rattle.records.specs.declared.table.Table.{Table}
-use Rattle.records.specs.declared.table.TableRead.{TableRead}
-use Rattle.records.specs.declared.table.TableRead.TheVariants.{Read}
 use Rattle.records.specs.declared.transaction.Transaction.{Transaction}
 use Rattle.records.specs.Tests.{pick}
 use Rattle.records.specs.Told.{refusal}
@@ -26,16 +27,9 @@ use Rattle.rules.specs.Verdict.{all_shut, judge}
 use Rattle.rules.specs.Pattern.{onto, copy, end_to_end, copies, EveryNumberLegal}
 use Rattle.rules.specs.Demands.{FineTo}
 use Rattle.rules.proofs.shown.Demands.{demand_2 as of-rules}
-use Rattle.judge.specs.declared.answer.Judged.{Judged}
-use Rattle.judge.specs.declared.answer.Judged.TheVariants.{Verdict, Refused as NotJudged}
-use Rattle.judge.specs.declared.answer.PatternJudged.{PatternJudged}
-use Rattle.judge.specs.declared.answer.PatternJudged.TheVariants.{Verdict as PatternVerdict, Refused as PatternNotJudged}
 use Rattle.judge.specs.Answer.{schedule_refusal, pattern_refusal, judged}
 use Rattle.judge.proofs.Accepts.{pattern_accepts}
-use Rattle.builder.specs.declared.build.BuildAnswer.TheVariants.{Built}
 use Rattle.builder.specs.Build.{Stands}
-use Rattle.lists.specs.declared.check.Checked.{Checked}
-use Rattle.lists.specs.declared.check.Checked.TheVariants.{Fine, Refused as NotFine}
 use Rattle.promises.specs.Admit.{admitted}
 use Rattle.promises.specs.Judging.{judging, PatternTold}
 use Rattle.promises.specs.Schedules.{BuildsChecked, Schedules}
@@ -46,12 +40,12 @@ use Rattle.demands.proofs.Rows.{by_numbers, within_copy, kind_byte_lem, judged_c
 -- ---- of a schedule that is answered
 
 module _ (τ : Table) (l : List Transaction) (b₀ b f₀ f : List ℕ) (e n : ℕ) where
-  checked_stands : (c : Checked) → BuildsChecked c τ l b₀ b f₀ f (Built e n) → Stands τ l b₀ b f₀ f n
+  checked_stands : (c : Result Unit Refusal) → BuildsChecked c τ l b₀ b f₀ f (Ok (e, n)) → Stands τ l b₀ b f₀ f n
   unfolding BuildsChecked
-  checked_stands Fine h = h.2
-  checked_stands (NotFine x) h = let y : ◌≡◌ {A = ℕ} 0 1 = let k = h.0 in cc in absurd (omega arith)
+  checked_stands (Ok _) h = h.2
+  checked_stands (Err x) h = let y : ◌≡◌ {A = ℕ} 0 1 = let k = h.0 in cc in absurd (omega arith)
 
-  stands : (check : Table → Checked) → Schedules check (Read τ) l b₀ b f₀ f (Built e n) → Stands τ l b₀ b f₀ f n
+  stands : (check : Table → Result Unit Refusal) → Schedules check (Ok τ) l b₀ b f₀ f (Ok (e, n)) → Stands τ l b₀ b f₀ f n
   unfolding Schedules
   stands check h = checked_stands (check τ) h
 
@@ -59,14 +53,14 @@ module _ (τ : Table) (l : List Transaction) (b₀ b f₀ f : List ℕ) (e n : �
 
 module _ (τ : Table) (s : List ℕ) where
   -- where number 7 does not refuse, the verdict is told
-  pub told : schedule_refusal (length s) ≡ 0 → judged_numbers (judging (Read τ) s) ≡ telling τ.edition (verdict_values (judge τ (commands_in s)))
+  pub told : schedule_refusal (length s) ≡ 0 → judged_numbers (judging (Ok τ) s) ≡ telling τ.edition (verdict_values (judge τ (commands_in s)))
   unfolding judging judged
   told z =
-      let x = NotJudged (refusal (schedule_refusal (length s)) 0 τ.edition) in
-      sym (ap judged_numbers (answers 0 (schedule_refusal (length s)) (sym z) (Verdict τ.edition (judge τ (commands_in s))) x refl))
+      let x = Err (refusal (schedule_refusal (length s)) 0 τ.edition) in
+      sym (ap judged_numbers (answers 0 (schedule_refusal (length s)) (sym z) (Ok (τ.edition, judge τ (commands_in s))) x refl))
 
   judging_accepts : schedule_refusal (length s) ≡ 0
-      → (judged_numbers (judging (Read τ) s) ≡ telling τ.edition [])
+      → (judged_numbers (judging (Ok τ) s) ≡ telling τ.edition [])
       ↔ (FineTo τ [] (commands_in s) (length (commands_in s)) × (all_shut τ.banks (onto (commands_in s) []) ≡ true))
   judging_accepts z =
       let of = of-rules.accepts τ (commands_in s) in (
@@ -74,38 +68,38 @@ module _ (τ : Table) (s : List ℕ) where
         λ h. told z ∙ ap (λ (v : Says). telling τ.edition (verdict_values v)) (of.1 h),
       )
 
-  verdict_is : (e : ℕ) (x : Rule) (i : ℕ) → judging (Read τ) s ≡ Verdict e (Broken x i) → judge τ (commands_in s) ≡ Broken x i
+  verdict_is : (e : ℕ) (x : Rule) (i : ℕ) → judging (Ok τ) s ≡ Ok (e, Broken x i) → judge τ (commands_in s) ≡ Broken x i
   unfolding judging judged
   verdict_is e x i h =
       let z = schedule_refusal (length s) in
-      let a = answered (λ (j : Judged). j) z (Verdict τ.edition (judge τ (commands_in s))) (NotJudged (refusal z 0 τ.edition)) (Verdict e (Broken x i)) h
+      let a = answered (λ (j : Result (ℕ × Says) Refusal). j) z (Ok (τ.edition, judge τ (commands_in s))) (Err (refusal z 0 τ.edition)) (Ok (e, Broken x i)) h
       (λ k. let y : ◌≡◌ {A = ℕ} 0 1 = cc in absurd (omega arith)) in
-      let k = a.1 in cc
+      ap (λ (r : Result (ℕ × Says) Refusal). elim r [ Ok p ↦ p.1 | Err y ↦ Broken x i ]) a.1
 
-  judging_names : (e n i : ℕ) → judged_numbers (judging (Read τ) s) ≡ telling e (n ∷ i ∷ []) → BreaksNumber τ [] (commands_in s) n i
+  judging_names : (e n i : ℕ) → judged_numbers (judging (Ok τ) s) ≡ telling e (n ∷ i ∷ []) → BreaksNumber τ [] (commands_in s) n i
   judging_names e n i h =
-      let w = judged_case (judging (Read τ) s) e n i h in
+      let w = judged_case (judging (Ok τ) s) e n i h in
       by_numbers τ [] (commands_in s) w.0 n i w.1 (of-rules.names τ (commands_in s) w.0 i (verdict_is e w.0 i w.2))
 
-  pattern_told : (L : ℕ) (r : PatternJudged) → pattern_refusal (length s) L ≡ 0 → PatternTold (Read τ) s L r
+  pattern_told : (L : ℕ) (r : Result (ℕ × PatternVerdict) Refusal) → pattern_refusal (length s) L ≡ 0 → PatternTold (Ok τ) s L r
       → (pattern_numbers r ≡ telling τ.edition []) ↔ EveryNumberLegal τ L (commands_in s)
   unfolding PatternTold
   pattern_told L r z p = let a = pattern_accepts τ s L r p in (λ e. (a.0 (passed r p e)).1, λ h. ap pattern_numbers (a.1 (z, h)))
     where
-      passed : (r : PatternJudged) → PatternTold (Read τ) s L r → pattern_numbers r ≡ telling τ.edition [] → r ≡ PatternVerdict τ.edition AllPassed
-      passed (PatternVerdict e v) p h =
-          ap (λ (k : ℕ). PatternVerdict k v) p.1 ∙ ap (PatternVerdict τ.edition) (all_passed_case v (ap (λ (a : Numbers). a.values) h))
-      passed (PatternNotJudged x) p h = absurd (p.0 z)
+      passed : (r : Result (ℕ × PatternVerdict) Refusal) → PatternTold (Ok τ) s L r → pattern_numbers r ≡ telling τ.edition [] → r ≡ Ok (τ.edition, AllPassed)
+      passed (Ok (e, v)) p h =
+          ap (λ (k : ℕ). Ok (k, v)) p.1 ∙ ap (λ (w : PatternVerdict). Ok (τ.edition, w)) (all_passed_case v (ap (λ (a : Numbers). a.values) h))
+      passed (Err x) p h = absurd (p.0 z)
 
-  pattern_lowest : (L : ℕ) (r : PatternJudged) (e n c i : ℕ) → PatternTold (Read τ) s L r → pattern_numbers r ≡ telling e (n ∷ c ∷ i ∷ [])
+  pattern_lowest : (L : ℕ) (r : Result (ℕ × PatternVerdict) Refusal) (e n c i : ℕ) → PatternTold (Ok τ) s L r → pattern_numbers r ≡ telling e (n ∷ c ∷ i ∷ [])
       → (x : Rule) × (rule_number x ≡ n) × ((m : ℕ) → copies τ L (commands_in s) m ≡ pick (ltb m c) AllPassed (BrokenAt x c i))
   unfolding PatternTold
   pattern_lowest L r e n c i p k =
       let w = pattern_case r e n c i k in
-      let q = subst (λ (y : PatternJudged). PatternTold (Read τ) s L y) w.2 p in
+      let q = subst (λ (y : Result (ℕ × PatternVerdict) Refusal). PatternTold (Ok τ) s L y) w.2 p in
       (w.0, w.1, q.2)
 
-  pattern_within : (L : ℕ) (r : PatternJudged) (e n c i : ℕ) → PatternTold (Read τ) s L r → pattern_numbers r ≡ telling e (n ∷ c ∷ i ∷ [])
+  pattern_within : (L : ℕ) (r : Result (ℕ × PatternVerdict) Refusal) (e n c i : ℕ) → PatternTold (Ok τ) s L r → pattern_numbers r ≡ telling e (n ∷ c ∷ i ∷ [])
       → (k : ℕ) × (c ≡ k + 1) × BreaksNumber τ (onto (end_to_end L (commands_in s) k 0) []) (copy L (commands_in s) k) n i
   pattern_within L r e n c i p k =
       let w = pattern_lowest L r e n c i p k in
@@ -114,18 +108,18 @@ module _ (τ : Table) (s : List ℕ) where
 
 -- ---- the demand
 
-pub demand_2 : (expected : ℕ) (table : List ℕ) (τ : Table) → admitted expected table ≡ Read τ → Demand2 expected table τ
+pub demand_2 : (expected : ℕ) (table : List ℕ) (τ : Table) → admitted expected table ≡ Ok τ → Demand2 expected table τ
 demand_2 expected table τ read =
     record {
       built = λ check l b₀ b f₀ f e n h.
-          let k = stands τ l b₀ b f₀ f e n check (subst (λ (a : TableRead). Schedules check a l b₀ b f₀ f (Built e n)) read h) in
+          let k = stands τ l b₀ b f₀ f e n check (subst (λ (a : Result Table Refusal). Schedules check a l b₀ b f₀ f (Ok (e, n))) read h) in
           (k.schedule, k.built, k.count, ap (λ (m : ℕ). take (8 * m) b) k.count ∙ bytes_stand k.schedule b₀ b k.buffer);
       accepts = λ s z.
-          subst (λ (a : TableRead). (judged_numbers (judging a s) ≡ telling τ.edition [])
+          subst (λ (a : Result Table Refusal). (judged_numbers (judging a s) ≡ telling τ.edition [])
           ↔ (FineTo τ [] (commands_in s) (length (commands_in s)) × (all_shut τ.banks (onto (commands_in s) []) ≡ true))) (sym read) (judging_accepts τ s z);
-      names = λ s e n i h. judging_names τ s e n i (subst (λ (a : TableRead). judged_numbers (judging a s) ≡ telling e (n ∷ i ∷ [])) read h);
-      pattern = λ s L r z p. pattern_told τ s L r z (subst (λ (a : TableRead). PatternTold a s L r) read p);
-      lowest = λ s L r e n c i p. pattern_lowest τ s L r e n c i (subst (λ (a : TableRead). PatternTold a s L r) read p);
-      within = λ s L r e n c i p. pattern_within τ s L r e n c i (subst (λ (a : TableRead). PatternTold a s L r) read p);
+      names = λ s e n i h. judging_names τ s e n i (subst (λ (a : Result Table Refusal). judged_numbers (judging a s) ≡ telling e (n ∷ i ∷ [])) read h);
+      pattern = λ s L r z p. pattern_told τ s L r z (subst (λ (a : Result Table Refusal). PatternTold a s L r) read p);
+      lowest = λ s L r e n c i p. pattern_lowest τ s L r e n c i (subst (λ (a : Result Table Refusal). PatternTold a s L r) read p);
+      within = λ s L r e n c i p. pattern_within τ s L r e n c i (subst (λ (a : Result Table Refusal). PatternTold a s L r) read p);
       kind_byte = kind_byte_lem;
     }

@@ -1,5 +1,6 @@
 -- No run takes the controller that a refused start hands out.
 -- Assumes nothing.
+use Rattle.std.specs.Prelude.{Result, Ok, Err}
 use Prim.Native.Nat.{ℕ, ◌+◌, ◌*◌, ◌≤◌, min}
 use native.Mathlib.Omega.{arith}
 use mathlib.Core.Bool.{Bool, true, false, not, ◌&&◌}
@@ -9,8 +10,6 @@ use lib.Dec.{leb, ltb, eqb}
 use lib.ListN.{length}
 use borrow.Author.Tests.{leb-true, le-ltb, ne_eqb}
 use Rattle.records.specs.declared.table.Table.{Table}
-use Rattle.records.specs.declared.table.TableRead.{TableRead}
-use Rattle.records.specs.declared.table.TableRead.TheVariants.{Read, Refused}
 use Rattle.records.specs.declared.transaction.Transaction.{Transaction}
 use Rattle.records.specs.declared.refusal.Refusal.{Refusal}
 use Rattle.records.specs.Tests.{all_of, every, within}
@@ -21,10 +20,8 @@ use Rattle.rules.specs.Queues.{act_queue, data_queue}
 use Rattle.engine.specs.Run.{commands_left}
 use Rattle.rules.specs.Pieces.{over_lent}
 use Rattle.sound.specs.Refused.{banks_before, groups_before, last_before, gone_backed, sound, run_refusal}
-use Rattle.lists.specs.declared.check.Checked.{Checked}
 use Rattle.controller.specs.Controller.{tells, kept}
 use Rattle.controller.specs.Run.{run_controller}
-use Rattle.promises.specs.declared.starting.StartAnswer.TheVariants.{Refused as NotStarted}
 use Rattle.promises.specs.Admit.{admitted}
 use Rattle.promises.specs.Running.{no_controller, starting, runs_checked, running}
 use Rattle.demands.specs.Runs.{NeverRuns}
@@ -72,13 +69,13 @@ module _ (τ : Table) (acc : Accepted τ) (l : List Transaction) where
 never : NeverRuns no_controller
 unfolding running runs_checked run_controller
 never expected table τ read check l fine n b h =
-    ap (λ (a : TableRead). running check a no_controller l n b) read
-    ∙ (ap (λ (d : Checked). runs_checked d no_controller τ l n b) fine ∙ rw (by_nine τ (read_accepted expected table τ read) l n (length b) h) refl)
+    ap (λ (a : Result Table Refusal). running check a no_controller l n b) read
+    ∙ (ap (λ (d : Result Unit Refusal). runs_checked d no_controller τ l n b) fine ∙ rw (by_nine τ (read_accepted expected table τ read) l n (length b) h) refl)
 
-pub refused_start : (e : ℕ) (t : List ℕ) (x : Refusal) → (starting (admitted e t)).answer ≡ NotStarted x → NeverRuns (starting (admitted e t)).controller
+pub refused_start : (e : ℕ) (t : List ℕ) (x : Refusal) → (starting (admitted e t)).answer ≡ Err x → NeverRuns (starting (admitted e t)).controller
 unfolding starting
 refused_start e t x h = on (admitted e t) h
   where
-    on : (a : TableRead) → (starting a).answer ≡ NotStarted x → NeverRuns (starting a).controller
-    on (Read τ) k = let z : ◌≡◌ {A = ℕ} 0 1 = cc in absurd (omega arith)
-    on (Refused y) k = never
+    on : (a : Result Table Refusal) → (starting a).answer ≡ Err x → NeverRuns (starting a).controller
+    on (Ok τ) k = let z : ◌≡◌ {A = ℕ} 0 1 = cc in absurd (omega arith)
+    on (Err y) k = never

@@ -1,5 +1,7 @@
 -- A table of 40 bytes that has one group, each long number equal to its short one, is answered as the 32 bytes before.
 -- Assumes nothing.
+use Rattle.std.specs.Prelude.{Result, Ok, Err}
+use Rattle.records.specs.declared.refusal.Refusal.{Refusal}
 use Prim.Native.Nat.{ℕ, zero, suc, ◌+◌, ◌*◌, ◌≤◌}
 use native.Mathlib.Omega.{arith}
 use mathlib.Core.Bool.{Bool, true}
@@ -10,8 +12,6 @@ use lib.Dec.{eqb}
 use lib.ListN.{length, get_or, take, length-take}
 use lib.Seq.{get_or-take}
 use Rattle.records.specs.declared.table.Table.{Table}
-use Rattle.records.specs.declared.table.TableRead.{TableRead}
-use Rattle.records.specs.declared.table.TableRead.TheVariants.{Read, Refused}
 use Rattle.records.specs.Tests.{pick}
 use Rattle.records.specs.Told.{refusal}
 use Rattle.records.specs.Little.{le16, num}
@@ -54,8 +54,8 @@ module _ (s : List ℕ) (h : OneGroupBytes s) where
   same_table = as_plain ∙ sym (same_plain s) ∙ sym (plain_at (take 32 s) first)
 
   -- by whether the size is right, and the table
-  abbrev by : Bool → Table → TableRead
-  by right t = let z = table_refusal_by right t in pick (eqb z 0) (Read t) (Refused (refusal z 0 0))
+  abbrev by : Bool → Table → Result Table Refusal
+  by right t = let z = table_refusal_by right t in pick (eqb z 0) (Ok t) (Err (refusal z 0 0))
 
   same_read : read_table s ≡ read_table (take 32 s)
   unfolding read_table
@@ -68,7 +68,7 @@ module _ (s : List ℕ) (h : OneGroupBytes s) where
   unfolding admitted
   same_admitted expected = ap (expecting expected) same_read
 
-both_ways : (P : TableRead → Type 0) (a b : TableRead) → a ≡ b → P a ↔ P b
+both_ways : (P : Result Table Refusal → Type 0) (a b : Result Table Refusal) → a ≡ b → P a ↔ P b
 both_ways P a b e = (subst P e, subst P (sym e))
 
 pub one_group_answers : OneGroupAnswers
@@ -77,12 +77,12 @@ one_group_answers expected table h =
     let a = admitted expected table in
     let p = admitted expected (take 32 table) in
     record {
-      judge = λ s. ap (λ (z : TableRead). judging z s) e;
-      pattern = λ s L r. both_ways (λ (z : TableRead). PatternTold z s L r) a p e;
-      capture = λ s b. ap (λ (z : TableRead). capturing z s b) e;
-      bound = λ bi bc. ap (λ (z : TableRead). bounding z bi bc) e;
-      read = λ later s l. ap (λ (z : TableRead). reading later z s l) e;
-      schedule = λ check l b₀ b f₀ f r. both_ways (λ (z : TableRead). Schedules check z l b₀ b f₀ f r) a p e;
+      judge = λ s. ap (λ (z : Result Table Refusal). judging z s) e;
+      pattern = λ s L r. both_ways (λ (z : Result Table Refusal). PatternTold z s L r) a p e;
+      capture = λ s b. ap (λ (z : Result Table Refusal). capturing z s b) e;
+      bound = λ bi bc. ap (λ (z : Result Table Refusal). bounding z bi bc) e;
+      read = λ later s l. ap (λ (z : Result Table Refusal). reading later z s l) e;
+      schedule = λ check l b₀ b f₀ f r. both_ways (λ (z : Result Table Refusal). Schedules check z l b₀ b f₀ f r) a p e;
       start = ap starting e;
-      run = λ check c l n b. ap (λ (z : TableRead). running check z c l n b) e;
+      run = λ check c l n b. ap (λ (z : Result Table Refusal). running check z c l n b) e;
     }

@@ -1,5 +1,6 @@
 -- The call for the shortest pattern: the cause of each refusal, the edition, the records in the buffer.
 -- Assumes nothing.
+use Rattle.std.specs.Prelude.{Result, Ok, Err}
 use Prim.Native.Nat.{ℕ, suc, ◌*◌}
 use native.Mathlib.Omega.{arith}
 use mathlib.Core.Bool.{Bool, true, false, not}
@@ -12,13 +13,9 @@ use Rattle.records.specs.Tests.{pick}
 use Rattle.records.specs.Told.{first_failed, over}
 use Rattle.records.specs.Table.{table_at}
 use Rattle.records.specs.declared.table.Table.{Table}
-use Rattle.records.specs.declared.table.TableRead.{TableRead}
-use Rattle.records.specs.declared.table.TableRead.TheVariants.{Read, Refused}
 use Rattle.records.specs.declared.refusal.Refusal.{Refusal}
 use Rattle.records.specs.declared.command.Command.{Command}
 use Rattle.records.specs.Command.{commands_from, bytes_of_all}
-use Rattle.shortest.specs.declared.answer.ShortestAnswer.{ShortestAnswer}
-use Rattle.shortest.specs.declared.answer.ShortestAnswer.TheVariants.{Pattern, Refused as NoPattern}
 use Rattle.shortest.specs.Shortest.{Shortest, NoneUpTo}
 use Rattle.shortest.specs.Answer.{is_asked, Cause}
 use Rattle.shortest.proofs.Calls.{pattern_stands}
@@ -48,10 +45,10 @@ stop false false o n = absurd (n refl)
 
 module _ (type bi bc most : ℕ) (b₀ b : List ℕ) where
   -- the numbers that the call may tell, by what `admit` answered
-  abbrev Tells : TableRead → Numbers → Type 0
-  Tells z a = (r : ShortestAnswer) × ShortestTold z type bi bc most b₀ b r × (a ≡ shortest_numbers r)
+  abbrev Tells : Result Table Refusal → Numbers → Type 0
+  Tells z a = (r : Result (ℕ × ℕ × ℕ) Refusal) × ShortestTold z type bi bc most b₀ b r × (a ≡ shortest_numbers r)
 
-  refused_by : (x : Refusal) (a : Numbers) → Tells (Refused x) a → a ≡ refusing x
+  refused_by : (x : Refusal) (a : Numbers) → Tells (Err x) a → a ≡ refusing x
   unfolding ShortestTold
   refused_by x a (r, h, e) = e ∙ ap shortest_numbers h.0
 
@@ -62,16 +59,16 @@ module _ (type bi bc most : ℕ) (b₀ b : List ℕ) where
     abbrev five : Bool
     five = ltb (length b₀) (8 * (bi * suc bc))
 
-    rows : (r : ShortestAnswer) → ShortestTold (Read τ) type bi bc most b₀ b r → FirstRow (shortest_rows τ type bi bc most (length b₀) none) (shortest_numbers r)
+    rows : (r : Result (ℕ × ℕ × ℕ) Refusal) → ShortestTold (Ok τ) type bi bc most b₀ b r → FirstRow (shortest_rows τ type bi bc most (length b₀) none) (shortest_numbers r)
     unfolding ShortestTold
-    rows (Pattern e L n) p =
+    rows (Ok (e, L, n)) p =
         three 4 5 13 four five none (telling e (L ∷ n ∷ []))
         (sym (pass four five none p.0 ∙ on none refl), refl)
       where
         on : (o : Bool) → none ≡ o → ◌≡◌ {A = ℕ} (pick o 13 0) 0
         on true e = absurd (yes e L p.2.shortest.inside p.2.pattern p.2.shortest.is)
         on false e = refl
-    rows (NoPattern x) p = by p.0
+    rows (Err x) p = by p.0
       where
         by : Cause τ type bi bc most b₀ x → FirstRow (shortest_rows τ type bi bc most (length b₀) none) (refusing x)
         by (inl c) =
@@ -88,31 +85,31 @@ module _ (type bi bc most : ℕ) (b₀ b : List ℕ) where
             on true e = refl
             on false e = absurd (but e c.1)
 
-    all_rows : (a : Numbers) → Tells (Read τ) a → FirstRow (shortest_rows τ type bi bc most (length b₀) none) a
+    all_rows : (a : Numbers) → Tells (Ok τ) a → FirstRow (shortest_rows τ type bi bc most (length b₀) none) a
     all_rows a (r, h, e) = subst (FirstRow (shortest_rows τ type bi bc most (length b₀) none)) (sym e) (rows r h)
 
   -- ---- by what `admit` answered
 
-  unchanged : (a : TableRead) (x : Refusal) → ShortestTold a type bi bc most b₀ b (NoPattern x) → b ≡ b₀
+  unchanged : (a : Result Table Refusal) (x : Refusal) → ShortestTold a type bi bc most b₀ b (Err x) → b ≡ b₀
   unfolding ShortestTold
-  unchanged (Read τ) x p = p.1
-  unchanged (Refused y) x p = p.1
+  unchanged (Ok τ) x p = p.1
+  unchanged (Err y) x p = p.1
 
-  names : (a : TableRead) (r : ShortestAnswer) → ShortestTold a type bi bc most b₀ b r → (shortest_numbers r).edition ≡ told a
+  names : (a : Result Table Refusal) (r : Result (ℕ × ℕ × ℕ) Refusal) → ShortestTold a type bi bc most b₀ b r → (shortest_numbers r).edition ≡ told a
   unfolding ShortestTold
-  names (Read τ) (Pattern e L n) p = p.1
-  names (Read τ) (NoPattern x) p = on p.0
+  names (Ok τ) (Ok (e, L, n)) p = p.1
+  names (Ok τ) (Err x) p = on p.0
     where
       on : Cause τ type bi bc most b₀ x → x.edition ≡ τ.edition
       on (inl c) = ap (λ (y : Refusal). y.edition) c.1
       on (inr c) = ap (λ (y : Refusal). y.edition) c.2
-  names (Refused y) r p = ap (λ (z : ShortestAnswer). (shortest_numbers z).edition) p.0
+  names (Err y) r p = ap (λ (z : Result (ℕ × ℕ × ℕ) Refusal). (shortest_numbers z).edition) p.0
 
-  stands : (a : TableRead) (e L n : ℕ) → ShortestTold a type bi bc most b₀ b (Pattern e L n)
-      → (τ : Table) × (a ≡ Read τ) × (n ≡ length (commands_from b n 0)) × Shortest τ (eqb type 1) bi bc most L (commands_from b n 0)
+  stands : (a : Result Table Refusal) (e L n : ℕ) → ShortestTold a type bi bc most b₀ b (Ok (e, L, n))
+      → (τ : Table) × (a ≡ Ok τ) × (n ≡ length (commands_from b n 0)) × Shortest τ (eqb type 1) bi bc most L (commands_from b n 0)
       × (b ≡ over (bytes_of_all (commands_from b n 0)) b₀)
   unfolding ShortestTold
-  stands (Read τ) e L n p =
+  stands (Ok τ) e L n p =
       let s = sym (pattern_stands τ type bi bc most b₀ b e L n p) in (
         τ,
         refl,
@@ -120,7 +117,7 @@ module _ (type bi bc most : ℕ) (b₀ b : List ℕ) where
         subst (Shortest τ (eqb type 1) bi bc most L) s p.2.shortest,
         p.2.buffer ∙ ap (λ (l : List Command). over (bytes_of_all l) b₀) s,
       )
-  stands (Refused y) e L n p = let k = p.0 in let z : ◌≡◌ {A = ℕ} 0 1 = cc in absurd (omega arith)
+  stands (Err y) e L n p = let k = p.0 in let z : ◌≡◌ {A = ℕ} 0 1 = cc in absurd (omega arith)
 
 pub patterns : (expected : ℕ) (table : List ℕ) → Patterns expected table
 patterns expected table =

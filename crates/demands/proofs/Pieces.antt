@@ -1,5 +1,7 @@
 -- A list cut into pieces, run by the public calls and none refused, is run as the whole list.
 -- Assumes nothing.
+use Rattle.std.specs.Prelude.{Result, Ok, Err}
+use Rattle.records.specs.declared.refusal.Refusal.{Refusal}
 use Prim.Native.Nat.{ℕ, ◌*◌, ◌/◌}
 use native.Mathlib.Omega.{arith}
 use mathlib.Core.Bool.{true}
@@ -10,17 +12,12 @@ use Rattle.records.specs.Table.{Accepted}
 use Rattle.records.specs.Transaction.{later_from, later_in}
 use Rattle.records.proofs.Listed.{past_record, first_record}
 use Rattle.records.specs.declared.table.Table.{Table}
-use Rattle.records.specs.declared.table.TableRead.{TableRead}
-use Rattle.records.specs.declared.table.TableRead.TheVariants.{Read, Refused}
 use Rattle.records.specs.declared.transaction.Transaction.{Transaction}
-use Rattle.lists.specs.declared.check.Checked.{Checked}
-use Rattle.lists.specs.declared.check.Checked.TheVariants.{Fine, Refused as NotFine}
 use Rattle.lists.specs.Check.{check_list, check_bytes}
 use Rattle.lists.specs.Packed.{records_of}
 use Rattle.lists.proofs.Checks.{bytes_list, fine_fits}
 use Rattle.controller.specs.declared.controller.Controller.{Controller}
 use Rattle.controller.specs.declared.run.RunReport.{RunReport}
-use Rattle.controller.specs.declared.run.RunAnswer.TheVariants.{Ran}
 use Rattle.controller.specs.Run.{RunLeft, run_controller}
 use Rattle.controller.specs.Pieces.{Lot, all_of, all_cycles, lot_run, AllRan, last_left, all_written, AsWhole}
 use Rattle.controller.proofs.Pieces.{as_whole}
@@ -30,7 +27,7 @@ use Rattle.promises.proofs.Laws.{read_accepted, running_same}
 use Rattle.demands.specs.Pieces.{ran_over, ran_over_bytes, PiecesAsWhole}
 
 -- by what `admit` answered
-abbrev over : TableRead → Controller → List Transaction → ℕ → List ℕ → RunLeft
+abbrev over : Result Table Refusal → Controller → List Transaction → ℕ → List ℕ → RunLeft
 over a c l n b = running (λ τ. check_list τ l) a c l n b
 
 module _ (τ : Table) where
@@ -38,37 +35,37 @@ module _ (τ : Table) where
   runs c l n b = run_controller c τ l n b
 
   -- a run that is not refused is the controller's, over a list that fits
-  of_ran : (c : Controller) (l : List Transaction) (n : ℕ) (b : List ℕ) (x : RunReport) → (over (Read τ) c l n b).told.answer ≡ Ran x
-      → (over (Read τ) c l n b ≡ runs c l n b) × (check_list τ l ≡ Fine)
+  of_ran : (c : Controller) (l : List Transaction) (n : ℕ) (b : List ℕ) (x : RunReport) → (over (Ok τ) c l n b).told.answer ≡ Ok x
+      → (over (Ok τ) c l n b ≡ runs c l n b) × (check_list τ l ≡ Ok tt)
   unfolding running runs_checked
   of_ran c l n b x e = on (check_list τ l) e
     where
-      on : (d : Checked) → (runs_checked d c τ l n b).told.answer ≡ Ran x → (runs_checked d c τ l n b ≡ run_controller c τ l n b) × (d ≡ Fine)
-      on Fine e = (refl, refl)
-      on (NotFine y) e = let z : ◌≡◌ {A = ℕ} 0 1 = cc in absurd (omega arith)
+      on : (d : Result Unit Refusal) → (runs_checked d c τ l n b).told.answer ≡ Ok x → (runs_checked d c τ l n b ≡ run_controller c τ l n b) × (d ≡ Ok tt)
+      on (Ok _) e = (refl, refl)
+      on (Err y) e = let z : ◌≡◌ {A = ℕ} 0 1 = cc in absurd (omega arith)
 
   -- the pieces alike
   record Alike (ps : List Lot) (l : List Transaction) (c : Controller) : Type 0 where
     all_ran : AllRan runs ps l c
-    last : last_left runs ps l c ≡ last_left (over (Read τ)) ps l c
-    bytes : all_written runs ps l c ≡ all_written (over (Read τ)) ps l c
+    last : last_left runs ps l c ≡ last_left (over (Ok τ)) ps l c
+    bytes : all_written runs ps l c ≡ all_written (over (Ok τ)) ps l c
 
-  alike : (ps : List Lot) (l : List Transaction) (c : Controller) → AllRan (over (Read τ)) ps l c → Alike ps l c
+  alike : (ps : List Lot) (l : List Transaction) (c : Controller) → AllRan (over (Ok τ)) ps l c → Alike ps l c
   alike [] l c a = record { all_ran = tt; last = refl; bytes = refl }
   alike (p ∷ ps) l c a =
       let o = (of_ran c (l ++ p.more) p.count p.buffer p.report a.0).0 in
       let k = ap (λ (w : RunLeft). w.told.controller) o in
-      let rest = alike ps (l ++ p.more) (lot_run (over (Read τ)) p l c).told.controller a.1 in
+      let rest = alike ps (l ++ p.more) (lot_run (over (Ok τ)) p l c).told.controller a.1 in
       record {
         all_ran = (ap (λ (w : RunLeft). w.told.answer) (sym o) ∙ a.0, subst (λ (d : Controller). AllRan runs ps (l ++ p.more) d) k rest.all_ran);
         last = ap (λ (d : Controller). last_left runs ps (l ++ p.more) d) (sym k) ∙ rest.last;
         bytes = ap (λ (w : RunLeft). take (8 * p.report.commands) w.buffer ++ all_written runs ps (l ++ p.more) w.told.controller) (sym o)
-            ∙ ap (λ (y : List ℕ). take (8 * p.report.commands) (lot_run (over (Read τ)) p l c).buffer ++ y) rest.bytes;
+            ∙ ap (λ (y : List ℕ). take (8 * p.report.commands) (lot_run (over (Ok τ)) p l c).buffer ++ y) rest.bytes;
       }
 
-by_table : (a : TableRead) → ((τ : Table) → a ≡ Read τ → Accepted τ) → (ps : List Lot) → AsWhole (over a) (starting a).controller ps
+by_table : (a : Result Table Refusal) → ((τ : Table) → a ≡ Ok τ → Accepted τ) → (ps : List Lot) → AsWhole (over a) (starting a).controller ps
 unfolding starting running
-by_table (Read τ) acc ps =
+by_table (Ok τ) acc ps =
     record {
       alike = λ a n b x y z.
           let o = of_ran τ s (all_of ps) n b x y in
@@ -81,17 +78,17 @@ by_table (Read τ) acc ps =
     }
   where
     s : Controller
-    s = (starting (Read τ)).controller
+    s = (starting (Ok τ)).controller
 
-    same : AllRan (over (Read τ)) ps [] s → Alike τ ps [] s
+    same : AllRan (over (Ok τ)) ps [] s → Alike τ ps [] s
     same a = alike τ ps [] s a
 
-    ran : (n : ℕ) (b : List ℕ) (x : RunReport) → (over (Read τ) s (all_of ps) n b).told.answer ≡ Ran x → (runs τ s (all_of ps) n b).told.answer ≡ Ran x
+    ran : (n : ℕ) (b : List ℕ) (x : RunReport) → (over (Ok τ) s (all_of ps) n b).told.answer ≡ Ok x → (runs τ s (all_of ps) n b).told.answer ≡ Ok x
     ran n b x y = ap (λ (v : RunLeft). v.told.answer) (sym (of_ran τ s (all_of ps) n b x y).0) ∙ y
 
-    whole : (n : ℕ) (b : List ℕ) (x : RunReport) → (over (Read τ) s (all_of ps) n b).told.answer ≡ Ran x → AsWhole (runs τ) s ps
+    whole : (n : ℕ) (b : List ℕ) (x : RunReport) → (over (Ok τ) s (all_of ps) n b).told.answer ≡ Ok x → AsWhole (runs τ) s ps
     whole n b x y = as_whole τ (acc τ refl) ps (fine_fits τ (all_of ps) (of_ran τ s (all_of ps) n b x y).1)
-by_table (Refused r) acc ps =
+by_table (Err r) acc ps =
     record {
       alike = λ a n b x y. let z : ◌≡◌ {A = ℕ} 0 1 = cc in absurd (omega arith);
       as_many = λ a b x y. let z : ◌≡◌ {A = ℕ} 0 1 = cc in absurd (omega arith);

@@ -1,5 +1,7 @@
 -- The number of a rule is that of its row, and the number of a kind the byte of its record.
 -- Assumes nothing.
+use Rattle.std.specs.Prelude.{Result, Ok, Err, Some}
+use Rattle.records.specs.declared.refusal.Refusal.{Refusal}
 use Prim.Native.Nat.{ℕ, zero, suc, ◌+◌, ◌<◌}
 use native.Mathlib.Omega.{arith}
 use native.Mathlib.Nat.{zero-add}
@@ -15,7 +17,6 @@ use Rattle.records.specs.Little.{num, num32}
 use Rattle.records.specs.Command.{read_command}
 use Rattle.records.proofs.Inverse.{kind_number_lem}
 use Rattle.rules.specs.declared.verdict.Rule.{Rule}
-use Rattle.rules.specs.declared.verdict.Found.TheVariants.{Broken as Breaks}
 use Rattle.rules.specs.declared.verdict.Verdict.{Verdict}
 use Rattle.rules.specs.declared.verdict.Verdict.TheVariants.{Accepted as Passed, Refused as Broken}
 use Rattle.rules.specs.declared.verdict.PatternVerdict.{PatternVerdict}
@@ -26,14 +27,10 @@ use Rattle.rules.specs.Verdict.{judge_from}
 use Rattle.rules.specs.Pattern.{onto, copy, end_to_end, copies_from, copies}
 use Rattle.rules.specs.Demands.{FirstBroken}
 use Rattle.rules.proofs.shown.Demands.{names_from}
-use Rattle.judge.specs.declared.answer.Judged.{Judged}
-use Rattle.judge.specs.declared.answer.Judged.TheVariants.{Verdict as Says, Refused as NotJudged}
-use Rattle.judge.specs.declared.answer.PatternJudged.{PatternJudged}
-use Rattle.judge.specs.declared.answer.PatternJudged.TheVariants.{Verdict as PatternSays, Refused as PatternNotJudged}
 use Rattle.promises.specs.Numbers.{Numbers, telling, rule_number, command_numbers, verdict_values, judged_numbers, pattern_values, pattern_numbers}
 use Rattle.demands.specs.Demands.{FirstFails, BreaksNumber}
 
-first_fails : (ts : List Bool) (l : List Rule) (x : Rule) → first_broken ts l ≡ Breaks x
+first_fails : (ts : List Bool) (l : List Rule) (x : Rule) → first_broken ts l ≡ Some x
     → (k : ℕ) × (get_elem? (map rule_number l) k ≡ some (rule_number x)) × (get_or ts k true ≡ false) × ((m : ℕ) → m < k → get_or ts m true ≡ true)
 first_fails [] l x e = let z : ◌≡◌ {A = ℕ} 0 1 = cc in absurd (omega arith)
 first_fails (t ∷ ts) [] x e = let z : ◌≡◌ {A = ℕ} 0 1 = cc in absurd (omega arith)
@@ -45,7 +42,7 @@ first_fails (true ∷ ts) (y ∷ l) x e = let q = first_fails ts l x e in (suc q
     lower k f (suc m) h = f m (omega arith)
 
 -- the numbers of `numbers_tested` are those of the rules in their order
-row_number : (τ : Table) (r : Command) (h : List Command) (x : Rule) → broken τ r h ≡ Breaks x → FirstFails (rules τ r h) (rule_number x)
+row_number : (τ : Table) (r : Command) (h : List Command) (x : Rule) → broken τ r h ≡ Some x → FirstFails (rules τ r h) (rule_number x)
 row_number τ r h x e = first_fails (rules τ r h) rules_in_order x e
 
 pub by_numbers : (τ : Table) (h rs : List Command) (x : Rule) (n i : ℕ) → rule_number x ≡ n → FirstBroken τ h rs x i → BreaksNumber τ h rs n i
@@ -102,24 +99,24 @@ pub kind_byte_lem : (s : List ℕ) → length s ≡ 8 → command_numbers (read_
 unfolding read_command
 kind_byte_lem s e = rw e (ap (λ (k : ℕ). telling 0 (num32 s 0 ∷ k ∷ get_or s 5 0 ∷ num s 6 ∷ [])) (kind_number_lem (get_or s 4 0)))
 
-pub judged_case : (r : Judged) (e n i : ℕ) → judged_numbers r ≡ telling e (n ∷ i ∷ []) → (x : Rule) × (rule_number x ≡ n) × (r ≡ Says e (Broken x i))
-judged_case (NotJudged y) e n i h = let z : ◌≡◌ {A = ℕ} 0 2 = ap (λ (a : Numbers). length a.values) h in absurd (omega arith)
-judged_case (Says d v) e n i h = on v h
+pub judged_case : (r : Result (ℕ × Verdict) Refusal) (e n i : ℕ) → judged_numbers r ≡ telling e (n ∷ i ∷ []) → (x : Rule) × (rule_number x ≡ n) × (r ≡ Ok (e, Broken x i))
+judged_case (Err y) e n i h = let z : ◌≡◌ {A = ℕ} 0 2 = ap (λ (a : Numbers). length a.values) h in absurd (omega arith)
+judged_case (Ok (d, v)) e n i h = on v h
   where
-    on : (v : Verdict) → judged_numbers (Says d v) ≡ telling e (n ∷ i ∷ []) → (x : Rule) × (rule_number x ≡ n) × (Says d v ≡ Says e (Broken x i))
+    on : (v : Verdict) → judged_numbers (Ok (d, v)) ≡ telling e (n ∷ i ∷ []) → (x : Rule) × (rule_number x ≡ n) × (◌≡◌ {A = Result (ℕ × Verdict) Refusal} (Ok (d, v)) (Ok (e, Broken x i)))
     on Passed h = let z : ◌≡◌ {A = ℕ} 0 2 = ap (λ (a : Numbers). length a.values) h in absurd (omega arith)
     on (Broken x j) h =
         let same : j ≡ i = ap (λ (a : Numbers). get_or a.values 1 0) h in
         let its : d ≡ e = ap (λ (a : Numbers). a.edition) h in
-        (x, ap (λ (a : Numbers). get_or a.values 0 0) h, ap (λ (k : ℕ). Says k (Broken x j)) its ∙ ap (λ (k : ℕ). Says e (Broken x k)) same)
+        (x, ap (λ (a : Numbers). get_or a.values 0 0) h, ap (λ (k : ℕ). Ok (k, Broken x j)) its ∙ ap (λ (k : ℕ). Ok (e, Broken x k)) same)
 
-pub pattern_case : (r : PatternJudged) (e n c i : ℕ) → pattern_numbers r ≡ telling e (n ∷ c ∷ i ∷ [])
-    → (x : Rule) × (rule_number x ≡ n) × (r ≡ PatternSays e (BrokenAt x c i))
-pattern_case (PatternNotJudged y) e n c i h = let z : ◌≡◌ {A = ℕ} 0 3 = ap (λ (a : Numbers). length a.values) h in absurd (omega arith)
-pattern_case (PatternSays d v) e n c i h = on v h
+pub pattern_case : (r : Result (ℕ × PatternVerdict) Refusal) (e n c i : ℕ) → pattern_numbers r ≡ telling e (n ∷ c ∷ i ∷ [])
+    → (x : Rule) × (rule_number x ≡ n) × (r ≡ Ok (e, BrokenAt x c i))
+pattern_case (Err y) e n c i h = let z : ◌≡◌ {A = ℕ} 0 3 = ap (λ (a : Numbers). length a.values) h in absurd (omega arith)
+pattern_case (Ok (d, v)) e n c i h = on v h
   where
-    on : (v : PatternVerdict) → pattern_numbers (PatternSays d v) ≡ telling e (n ∷ c ∷ i ∷ [])
-        → (x : Rule) × (rule_number x ≡ n) × (PatternSays d v ≡ PatternSays e (BrokenAt x c i))
+    on : (v : PatternVerdict) → pattern_numbers (Ok (d, v)) ≡ telling e (n ∷ c ∷ i ∷ [])
+        → (x : Rule) × (rule_number x ≡ n) × (◌≡◌ {A = Result (ℕ × PatternVerdict) Refusal} (Ok (d, v)) (Ok (e, BrokenAt x c i)))
     on AllPassed h = let z : ◌≡◌ {A = ℕ} 0 3 = ap (λ (a : Numbers). length a.values) h in absurd (omega arith)
     on (BrokenAt x b j) h =
         let copy : b ≡ c = ap (λ (a : Numbers). get_or a.values 1 0) h in
@@ -127,7 +124,7 @@ pattern_case (PatternSays d v) e n c i h = on v h
         let its : d ≡ e = ap (λ (a : Numbers). a.edition) h in (
           x,
           ap (λ (a : Numbers). get_or a.values 0 0) h,
-          ap (λ (k : ℕ). PatternSays k (BrokenAt x b j)) its ∙ ap (λ (k : ℕ). PatternSays e (BrokenAt x k j)) copy ∙ ap (λ (k : ℕ). PatternSays e (BrokenAt x c k)) same,
+          ap (λ (k : ℕ). Ok (k, BrokenAt x b j)) its ∙ ap (λ (k : ℕ). Ok (e, BrokenAt x k j)) copy ∙ ap (λ (k : ℕ). Ok (e, BrokenAt x c k)) same,
         )
 
 pub passed_case : (v : Verdict) → verdict_values v ≡ [] → v ≡ Passed

@@ -1,5 +1,7 @@
 -- Runs of the public calls are the runs of the controller: n cycles and then m, and to the end.
 -- Assumes nothing.
+use Rattle.std.specs.Prelude.{Result, Ok}
+use Rattle.records.specs.declared.refusal.Refusal.{Refusal}
 use Prim.Native.Nat.{ℕ, ◌%◌}
 use mathlib.Core.Bool.{Bool, true, false}
 use mathlib.Core.Path.{◌≡◌, refl, sym, ap, ◌∙◌, subst}
@@ -7,19 +9,14 @@ use mathlib.Core.Option.{none}
 use mathlib.Core.List.{List, [], ◌∷◌}
 use lib.ListN.{length, get_elem?}
 use Rattle.records.specs.declared.table.Table.{Table}
-use Rattle.records.specs.declared.table.TableRead.{TableRead}
-use Rattle.records.specs.declared.table.TableRead.TheVariants.{Read}
 use Rattle.records.specs.declared.transaction.Transaction.{Transaction}
 use Rattle.records.specs.Transaction.{record_size, list_of, list_fits}
 use Rattle.rules.specs.Pieces.{is_late}
 use Rattle.rules.proofs.runs.Lent.{lent_is}
-use Rattle.lists.specs.declared.check.Checked.{Checked}
-use Rattle.lists.specs.declared.check.Checked.TheVariants.{Fine}
 use Rattle.lists.specs.Check.{check_list, check_bytes}
 use Rattle.lists.proofs.Checks.{fits_fine, bytes_list}
 use Rattle.controller.specs.declared.controller.Controller.{Controller}
 use Rattle.controller.specs.declared.run.RunReport.{RunReport}
-use Rattle.controller.specs.declared.run.RunAnswer.TheVariants.{Ran}
 use Rattle.controller.specs.Controller.{tells, kept, fresh_controller}
 use Rattle.controller.specs.Run.{RunLeft, run_controller}
 use Rattle.controller.proofs.Halves.{ran, together}
@@ -33,19 +30,19 @@ at_end : (l : List Transaction) → get_elem? l (length l) ≡ none
 at_end [] = refl
 at_end (x ∷ l) = at_end l
 
-module _ (expected : ℕ) (table : List ℕ) (τ : Table) (read : admitted expected table ≡ Read τ) where
+module _ (expected : ℕ) (table : List ℕ) (τ : Table) (read : admitted expected table ≡ Ok τ) where
   fresh : (starting (admitted expected table)).controller ≡ fresh_controller τ
   unfolding starting
-  fresh = ap (λ (a : TableRead). (starting a).controller) read
+  fresh = ap (λ (a : Result Table Refusal). (starting a).controller) read
 
   -- of a list that fits, which the check finds fine
-  module _ (check : Table → Checked) (l : List Transaction) (fit : list_fits τ l ≡ true) (fine : check τ ≡ Fine) where
+  module _ (check : Table → Result Unit Refusal) (l : List Transaction) (fit : list_fits τ l ≡ true) (fine : check τ ≡ Ok tt) where
     same : (c : Controller) (n : ℕ) (b : List ℕ) → run_controller c τ l n b ≡ running check (admitted expected table) c l n b
     unfolding running runs_checked
-    same c n b = ap (λ (d : Checked). runs_checked d c τ l n b) (sym fine) ∙ ap (λ (a : TableRead). running check a c l n b) (sym read)
+    same c n b = ap (λ (d : Result Unit Refusal). runs_checked d c τ l n b) (sym fine) ∙ ap (λ (a : Result Table Refusal). running check a c l n b) (sym read)
 
     -- a run that is not refused lent the list
-    lent_left : (c : Controller) (n : ℕ) (b : List ℕ) (x : RunReport) → (run_controller c τ l n b).told.answer ≡ Ran x
+    lent_left : (c : Controller) (n : ℕ) (b : List ℕ) (x : RunReport) → (run_controller c τ l n b).told.answer ≡ Ok x
         → ((run_controller c τ l n b).told.controller.lent ≡ length l) × (is_late l (tells (run_controller c τ l n b).told.controller) ≡ false)
     unfolding tells kept
     lent_left c n b x e =

@@ -1,6 +1,8 @@
 -- Demand 3: for every accepted table and list that fits, with room for the result, the schedule is built, it stands in the buffer, it passes the
 -- judge as it stands there, it serves every transaction within its bound, and transactions added at the end move nothing.
 -- Assumes nothing.
+use Rattle.std.specs.Prelude.{Result, Ok, Err}
+use Rattle.records.specs.declared.refusal.Refusal.{Refusal}
 use Prim.Native.Nat.{ℕ, suc, ◌+◌, ◌*◌, ◌/◌, ◌%◌, ◌≤◌, ◌<◌}
 use mathlib.Core.Bool.{Bool, true, false}
 use mathlib.Core.Path.{◌≡◌, refl, sym, ap, ◌∙◌, subst}
@@ -12,8 +14,6 @@ use lib.ListN.{length, get_elem?, get_or, take, drop, take-append-drop, get_or-a
 use lib.Seq.{drop_at}
 use borrow.Author.Tests.{le-leb, le-ltb, eq-eqb}
 use Rattle.records.specs.declared.table.Table.{Table}
-use Rattle.records.specs.declared.table.TableRead.{TableRead}
-use Rattle.records.specs.declared.table.TableRead.TheVariants.{Read}
 use Rattle.records.specs.declared.transaction.Transaction.{Transaction}
 use Rattle.records.specs.declared.command.Command.{Command}
 use Rattle.records.specs.Told.{over}
@@ -34,17 +34,12 @@ use Rattle.rules.proofs.queues.Queue.{act_length, data_length}
 use Rattle.rules.proofs.laws.Ranges.{ranges}
 use Rattle.rules.proofs.shown.Promises.{kept}
 use Rattle.heads.proofs.Laws.{acts_most, datas_most}
-use Rattle.judge.specs.declared.answer.Judged.TheVariants.{Verdict}
 use Rattle.judge.specs.Answer.{schedule_refusal}
 use Rattle.judge.proofs.Accepts.{judge_accepts}
 use Rattle.engine.specs.Build.{finishes_from}
 use Rattle.engine.proofs.Schedule.{ours, readable, finishes_length, finish_at_lem}
-use Rattle.builder.specs.declared.bound.BoundAnswer.TheVariants.{Bound}
-use Rattle.builder.specs.declared.build.BuildAnswer.{BuildAnswer}
-use Rattle.builder.specs.declared.build.BuildAnswer.TheVariants.{Built, Refused as NotBuilt}
 use Rattle.builder.specs.Bound.{bound_told}
 use Rattle.builder.specs.Build.{build_refusal, LeavesBuild}
-use Rattle.lists.specs.declared.check.Checked.{Checked}
 use Rattle.lists.specs.Check.{check_list, check_bytes}
 use Rattle.lists.proofs.Checks.{bytes_list, fits_fine}
 use Rattle.promises.specs.Admit.{admitted}
@@ -73,7 +68,7 @@ module _ (τ : Table) (acc : Accepted τ) (l : List Transaction) (fit : list_fit
   pub bytes_same : commands_in (bytes_of_all rs) ≡ rs
   bytes_same = read_whole rs (readable l rs (ours τ l rs q.built) q.early)
 
-  bytes_pass : judging (Read τ) (bytes_of_all rs) ≡ Verdict τ.edition Passed
+  bytes_pass : judging (Ok τ) (bytes_of_all rs) ≡ Ok (τ.edition, Passed)
   unfolding judging
   bytes_pass = (judge_accepts τ (bytes_of_all rs)).1 (bytes_taken, subst (Legal τ) (sym bytes_same) q.passes)
 
@@ -96,7 +91,7 @@ module _ (τ : Table) (l : List Transaction) (rs : List Command) (f₀ f : List 
 
 -- ---- the bound of a read or a write that fits
 
-bound_told_lem : (τ : Table) → Accepted τ → (x : Transaction) → fits τ x ≡ true → is_refresh x ≡ false → bounding (Read τ) x.bi x.bc ≡ Bound τ.edition (bound τ x.bi x.bc)
+bound_told_lem : (τ : Table) → Accepted τ → (x : Transaction) → fits τ x ≡ true → is_refresh x ≡ false → bounding (Ok τ) x.bi x.bc ≡ Ok (τ.edition, bound τ x.bi x.bc)
 unfolding bounding bound_told
 bound_told_lem τ acc x e er =
     let k = plain_fit τ x (is_fit τ (ranges τ acc).banks.least x e) er in
@@ -115,18 +110,18 @@ room_enough : (τ : Table) (l : List Transaction) (b₀ f₀ : List ℕ) → Roo
 room_enough τ l b₀ f₀ h =
     rw (le-ltb (length b₀) (8 * (length (act_queue τ l) + length (data_queue τ l))) h.commands, le-ltb (length f₀) (length l) h.finishes)
 
-module _ (expected : ℕ) (table : List ℕ) (τ : Table) (read : admitted expected table ≡ Read τ) (l : List Transaction) (fit : list_fits τ l ≡ true)
+module _ (expected : ℕ) (table : List ℕ) (τ : Table) (read : admitted expected table ≡ Ok τ) (l : List Transaction) (fit : list_fits τ l ≡ true)
     (b₀ b f₀ f : List ℕ) (room : Room τ l b₀ f₀) where
   acc : Accepted τ
   acc = read_accepted expected table τ read
 
   -- what holds of the table read holds of its bytes
-  of_bytes : (P : TableRead → Type 0) → P (Read τ) → P (admitted expected table)
+  of_bytes : (P : Result Table Refusal → Type 0) → P (Ok τ) → P (admitted expected table)
   of_bytes P p = subst P (sym read) p
 
-  serves : (r : BuildAnswer) → LeavesBuild τ l b₀ b f₀ f r → Demand3 expected table τ l b₀ b f₀ f r
-  serves (NotBuilt x) h = absurd (h.0 (room_enough τ l b₀ f₀ room))
-  serves (Built e n) h =
+  serves : (r : Result (ℕ × ℕ) Refusal) → LeavesBuild τ l b₀ b f₀ f r → Demand3 expected table τ l b₀ b f₀ f r
+  serves (Err x) h = absurd (h.0 (room_enough τ l b₀ f₀ room))
+  serves (Ok (e, n)) h =
       let k = h.2 in
       let rs = k.schedule in
       let q = kept τ acc l fit rs k.built in
@@ -135,12 +130,12 @@ module _ (expected : ℕ) (table : List ℕ) (τ : Table) (read : admitted expec
       record {
         schedule = rs;
         built = k.built;
-        answer = ap (λ (z : ℕ). Built z n) h.1 ∙ ap (Built τ.edition) k.count;
+        answer = ap (λ (z : ℕ). Ok (z, n)) h.1 ∙ ap (λ (z : ℕ). Ok (τ.edition, z)) k.count;
         bytes = at;
         beyond = ap (drop (8 * length rs)) k.buffer
             ∙ (drop_at (bytes_of_all rs) (drop (length (bytes_of_all rs)) b₀) (8 * length rs) (length_bytes rs) ∙ ap (λ (m : ℕ). drop m b₀) (length_bytes rs));
         passes = ap (judging (admitted expected table)) at
-            ∙ of_bytes (λ (a : TableRead). judging a (bytes_of_all rs) ≡ Verdict τ.edition Passed) (bytes_pass τ acc l fit rs q);
+            ∙ of_bytes (λ (a : Result Table Refusal). judging a (bytes_of_all rs) ≡ Ok (τ.edition, Passed)) (bytes_pass τ acc l fit rs q);
         finishes = stands;
         later = finish_later τ l rs f₀ f k.finishes;
         served = q.finishes;
@@ -153,28 +148,28 @@ module _ (expected : ℕ) (table : List ℕ) (τ : Table) (read : admitted expec
         fits = λ j x at. subst (λ (z : ℕ). z < 4294967296) (sym (stands j x at)) (q.finish_fits j x at);
         told = λ j x at er. (
           rw er,
-          of_bytes (λ (a : TableRead). bounding a x.bi x.bc ≡ Bound τ.edition (bound τ x.bi x.bc))
+          of_bytes (λ (a : Result Table Refusal). bounding a x.bi x.bc ≡ Ok (τ.edition, bound τ x.bi x.bc))
               (bound_told_lem τ acc x (subst (OnSome (λ y. fits τ y ≡ true)) at (every_at (fits τ) l j (each_listed τ l fit))) er),
         );
         unmoved = λ j. q.unmoved (take j l) (drop j l) (sym (take-append-drop j l));
       }
 
 -- a list that fits is checked, and built
-fits_builds : (τ : Table) (l : List Transaction) → list_fits τ l ≡ true → (b₀ b f₀ f : List ℕ) (r : BuildAnswer)
-    → Schedules (λ τ. check_list τ l) (Read τ) l b₀ b f₀ f r → LeavesBuild τ l b₀ b f₀ f r
+fits_builds : (τ : Table) (l : List Transaction) → list_fits τ l ≡ true → (b₀ b f₀ f : List ℕ) (r : Result (ℕ × ℕ) Refusal)
+    → Schedules (λ τ. check_list τ l) (Ok τ) l b₀ b f₀ f r → LeavesBuild τ l b₀ b f₀ f r
 unfolding Schedules BuildsChecked
-fits_builds τ l fit b₀ b f₀ f r h = subst (λ (c : Checked). BuildsChecked c τ l b₀ b f₀ f r) (fits_fine τ l fit) h
+fits_builds τ l fit b₀ b f₀ f r h = subst (λ (c : Result Unit Refusal). BuildsChecked c τ l b₀ b f₀ f r) (fits_fine τ l fit) h
 
-pub demand_3 : (expected : ℕ) (table : List ℕ) (τ : Table) → admitted expected table ≡ Read τ → (l : List Transaction) → list_fits τ l ≡ true → (b₀ b f₀ f : List ℕ) → Room τ l b₀ f₀
-    → (r : BuildAnswer) → Schedules (λ τ. check_list τ l) (admitted expected table) l b₀ b f₀ f r → Demand3 expected table τ l b₀ b f₀ f r
+pub demand_3 : (expected : ℕ) (table : List ℕ) (τ : Table) → admitted expected table ≡ Ok τ → (l : List Transaction) → list_fits τ l ≡ true → (b₀ b f₀ f : List ℕ) → Room τ l b₀ f₀
+    → (r : Result (ℕ × ℕ) Refusal) → Schedules (λ τ. check_list τ l) (admitted expected table) l b₀ b f₀ f r → Demand3 expected table τ l b₀ b f₀ f r
 demand_3 expected table τ read l fit b₀ b f₀ f room r h =
     serves expected table τ read l fit b₀ b f₀ f room r
-    (fits_builds τ l fit b₀ b f₀ f r (subst (λ (a : TableRead). Schedules (λ τ. check_list τ l) a l b₀ b f₀ f r) read h))
+    (fits_builds τ l fit b₀ b f₀ f r (subst (λ (a : Result Table Refusal). Schedules (λ τ. check_list τ l) a l b₀ b f₀ f r) read h))
 
 -- the same of a list's bytes, records of 8 where `later`, else of 4
-pub demand_3_bytes : (expected : ℕ) (table : List ℕ) (τ : Table) → admitted expected table ≡ Read τ → (later : Bool) (s : List ℕ) → length s % record_size later ≡ 0
+pub demand_3_bytes : (expected : ℕ) (table : List ℕ) (τ : Table) → admitted expected table ≡ Ok τ → (later : Bool) (s : List ℕ) → length s % record_size later ≡ 0
     → list_fits τ (list_of later s) ≡ true → (b₀ b f₀ f : List ℕ) → Room τ (list_of later s) b₀ f₀
-    → (r : BuildAnswer) → Schedules (λ τ. check_bytes later τ s) (admitted expected table) (list_of later s) b₀ b f₀ f r → Demand3 expected table τ (list_of later s) b₀ b f₀ f r
+    → (r : Result (ℕ × ℕ) Refusal) → Schedules (λ τ. check_bytes later τ s) (admitted expected table) (list_of later s) b₀ b f₀ f r → Demand3 expected table τ (list_of later s) b₀ b f₀ f r
 demand_3_bytes expected table τ read later s whole fit b₀ b f₀ f room r h =
     demand_3 expected table τ read (list_of later s) fit b₀ b f₀ f room r
     (schedules_same (λ τ. check_bytes later τ s) (λ τ. check_list τ (list_of later s)) (admitted expected table) (list_of later s) (list_of later s) b₀ b f₀ f r

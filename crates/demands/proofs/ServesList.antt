@@ -1,5 +1,7 @@
 -- What is answered of a schedule and a list is what the request says; and what is built serves its list.
 -- Assumes nothing.
+use Rattle.std.specs.Prelude.{Result, Ok, Err}
+use Rattle.records.specs.declared.refusal.Refusal.{Refusal}
 use Prim.Native.Nat.{ℕ, ◌*◌}
 use native.Mathlib.Omega.{arith}
 use mathlib.Core.Bool.{true}
@@ -8,8 +10,6 @@ use mathlib.Core.Logic.{◌↔◌, ◌⊎◌}
 use mathlib.Core.List.{List, [], ◌∷◌}
 use lib.ListN.{length, get_or, take}
 use Rattle.records.specs.declared.table.Table.{Table}
-use Rattle.records.specs.declared.table.TableRead.{TableRead}
-use Rattle.records.specs.declared.table.TableRead.TheVariants.{Read}
 use Rattle.records.specs.declared.transaction.Transaction.{Transaction}
 use Rattle.records.specs.declared.command.Command.{Command}
 use Rattle.records.specs.Table.{Accepted}
@@ -21,20 +21,14 @@ use Rattle.rules.specs.declared.verdict.Verdict.TheVariants.{Accepted as Passed,
 use Rattle.rules.specs.CycleRule.{Built as IsBuilt}
 use Rattle.rules.specs.Verdict.{judge, Legal}
 use Rattle.rules.proofs.shown.Promises.{kept}
-use Rattle.judge.specs.declared.answer.Judged.TheVariants.{Verdict}
 use Rattle.judge.specs.Answer.{schedule_refusal}
 use Rattle.judge.proofs.Accepts.{judge_accepts}
 use Rattle.serves.specs.declared.answer.Served.{Served}
 use Rattle.serves.specs.declared.answer.Served.TheVariants.{Serves, Refused as Against, AtFault as Names}
-use Rattle.serves.specs.declared.answer.ServesAnswer.{ServesAnswer}
-use Rattle.serves.specs.declared.answer.ServesAnswer.TheVariants.{Told, Refused as NotTold}
 use Rattle.serves.specs.Serves.{OneOutside, DoesTheWork, NoneOutside, NoneBelow, Lowest, Says}
 use Rattle.serves.specs.Answer.{ServesAnswers}
 use Rattle.serves.proofs.Exactly.{serves_exactly, one_answer}
 use Rattle.serves.proofs.BuiltServes.{built_serves}
-use Rattle.builder.specs.declared.build.BuildAnswer.TheVariants.{Built}
-use Rattle.lists.specs.declared.check.Checked.{Checked}
-use Rattle.lists.specs.declared.check.Checked.TheVariants.{Fine}
 use Rattle.lists.specs.Check.{check_list, check_bytes}
 use Rattle.lists.proofs.Checks.{fine_fits}
 use Rattle.promises.specs.Admit.{admitted}
@@ -78,16 +72,16 @@ module _ (τ : Table) (l : List Transaction) (s : List ℕ) (z : schedule_refusa
   abbrev rs : List Command
   rs = commands_in s
 
-  accepted : (judging (Read τ) s ≡ Verdict τ.edition Passed) ↔ Legal τ rs
+  accepted : (judging (Ok τ) s ≡ Ok (τ.edition, Passed)) ↔ Legal τ rs
   unfolding judging
   accepted = (λ e. ((judge_accepts τ s).0 e).1, λ h. (judge_accepts τ s).1 (z, h))
 
   -- what is said, which is told
-  said : (r : ServesAnswer) → ServesAnswers τ l s r → (a : Served) × Says τ l rs a × (serves_numbers r ≡ telling τ.edition (served_values a))
-  said (Told e a) h = (a, h.2, ap (λ (n : ℕ). telling n (served_values a)) h.1)
-  said (NotTold x) h = absurd (h.0 z)
+  said : (r : Result (ℕ × Served) Refusal) → ServesAnswers τ l s r → (a : Served) × Says τ l rs a × (serves_numbers r ≡ telling τ.edition (served_values a))
+  said (Ok (e, a)) h = (a, h.2, ap (λ (n : ℕ). telling n (served_values a)) h.1)
+  said (Err x) h = absurd (h.0 z)
 
-  module _ (r : ServesAnswer) (h : ServesAnswers τ l s r) where
+  module _ (r : Result (ℕ × Served) Refusal) (h : ServesAnswers τ l s r) where
     -- whatever may be said is told, and whatever is told, by its values, is said
     tells : (b : Served) → Says τ l rs b → serves_numbers r ≡ telling τ.edition (served_values b)
     tells b p = let w = said r h in w.2 ∙ ap (λ (v : Served). telling τ.edition (served_values v)) (one_answer τ l rs w.0 b w.1 p)
@@ -100,17 +94,17 @@ module _ (τ : Table) (l : List Transaction) (s : List ℕ) (z : schedule_refusa
     exactly : (serves_numbers r ≡ telling τ.edition []) ↔ DoesTheWork τ l rs
     exactly = (λ e. (serves_exactly τ l rs).1 (is (telling τ.edition []) Serves e serves_case), λ w. tells Serves ((serves_exactly τ l rs).0 w))
 
-    nobody : DoesTheWork τ l rs ↔ ((judging (Read τ) s ≡ Verdict τ.edition Passed) × NoneOutside l rs × NoneBelow τ l rs (length l))
+    nobody : DoesTheWork τ l rs ↔ ((judging (Ok τ) s ≡ Ok (τ.edition, Passed)) × NoneOutside l rs × NoneBelow τ l rs (length l))
     nobody = (
       λ w. let p = (serves_exactly τ l rs).0 w in (accepted.1 p.0, p.1, p.2),
       λ p. (serves_exactly τ l rs).1 (accepted.0 p.0, p.1, p.2),
     )
 
     -- both tell the rule and the record
-    both : (x : Rule) (i : ℕ) → judge τ rs ≡ Broken x i → serves_numbers r ≡ judged_numbers (judging (Read τ) s)
+    both : (x : Rule) (i : ℕ) → judge τ rs ≡ Broken x i → serves_numbers r ≡ judged_numbers (judging (Ok τ) s)
     both x i p = tells (Against x i) p ∙ sym (told τ s z ∙ ap (λ (v : Verdicts). telling τ.edition (verdict_values v)) p)
 
-    verdict : (e n i : ℕ) → (serves_numbers r ≡ telling e (n ∷ i ∷ [])) ↔ (judged_numbers (judging (Read τ) s) ≡ telling e (n ∷ i ∷ []))
+    verdict : (e n i : ℕ) → (serves_numbers r ≡ telling e (n ∷ i ∷ [])) ↔ (judged_numbers (judging (Ok τ) s) ≡ telling e (n ∷ i ∷ []))
     verdict e n i = (
       λ k.
           let w = said r h in
@@ -123,7 +117,7 @@ module _ (τ : Table) (l : List Transaction) (s : List ℕ) (z : schedule_refusa
     )
 
     names : (x : ℕ) → (serves_numbers r ≡ telling τ.edition (x ∷ []))
-        ↔ ((judging (Read τ) s ≡ Verdict τ.edition Passed)
+        ↔ ((judging (Ok τ) s ≡ Ok (τ.edition, Passed))
         × (Lowest τ l rs x ⊎ ((x ≡ length l) × NoneBelow τ l rs (length l) × OneOutside l rs)))
     names x = (
       λ e. let p = is (telling τ.edition (x ∷ [])) (Names x) e (λ a. names_case a x) in (accepted.1 p.0, p.1),
@@ -131,57 +125,57 @@ module _ (τ : Table) (l : List Transaction) (s : List ℕ) (z : schedule_refusa
     )
 
 -- by a check that finds nothing to refuse
-checked : (check : Table → Checked) (τ : Table) → check τ ≡ Fine → (l : List Transaction) (s : List ℕ) (r : ServesAnswer)
-    → Serving check (Read τ) l s r ↔ ServesAnswers τ l s r
+checked : (check : Table → Result Unit Refusal) (τ : Table) → check τ ≡ Ok tt → (l : List Transaction) (s : List ℕ) (r : Result (ℕ × Served) Refusal)
+    → Serving check (Ok τ) l s r ↔ ServesAnswers τ l s r
 unfolding Serving ServesChecked
-checked check τ fine l s r = (subst (λ (c : Checked). ServesChecked c τ l s r) fine, subst (λ (c : Checked). ServesChecked c τ l s r) (sym fine))
+checked check τ fine l s r = (subst (λ (c : Result Unit Refusal). ServesChecked c τ l s r) fine, subst (λ (c : Result Unit Refusal). ServesChecked c τ l s r) (sym fine))
 
 -- ---- of the calls
 
-module _ (expected : ℕ) (table : List ℕ) (τ : Table) (read : admitted expected table ≡ Read τ) where
+module _ (expected : ℕ) (table : List ℕ) (τ : Table) (read : admitted expected table ≡ Ok τ) where
   acc : Accepted τ
   acc = read_accepted expected table τ read
 
   -- what holds of the table read holds of its bytes
-  of_bytes : (P : TableRead → Type 0) → P (Read τ) → P (admitted expected table)
+  of_bytes : (P : Result Table Refusal → Type 0) → P (Ok τ) → P (admitted expected table)
   of_bytes P p = subst P (sym read) p
 
-  module _ (check : Table → Checked) (l : List Transaction) where
-    serves_on : (s : List ℕ) (r : ServesAnswer) → check τ ≡ Fine → schedule_refusal (length s) ≡ 0 → Serving check (admitted expected table) l s r
+  module _ (check : Table → Result Unit Refusal) (l : List Transaction) where
+    serves_on : (s : List ℕ) (r : Result (ℕ × Served) Refusal) → check τ ≡ Ok tt → schedule_refusal (length s) ≡ 0 → Serving check (admitted expected table) l s r
         → ServesOn expected table τ l s r
     serves_on s r fine z p =
-        let h = (checked check τ fine l s r).0 (subst (λ (a : TableRead). Serving check a l s r) read p) in
+        let h = (checked check τ fine l s r).0 (subst (λ (a : Result Table Refusal). Serving check a l s r) read p) in
         record {
           exactly = exactly τ l s z r h;
           nobody = of_bytes (λ a. DoesTheWork τ l (commands_in s)
-              ↔ ((judging a s ≡ Verdict τ.edition Passed) × NoneOutside l (commands_in s) × NoneBelow τ l (commands_in s) (length l))) (nobody τ l s z r h);
+              ↔ ((judging a s ≡ Ok (τ.edition, Passed)) × NoneOutside l (commands_in s) × NoneBelow τ l (commands_in s) (length l))) (nobody τ l s z r h);
           verdict = λ e n i.
               of_bytes (λ a. (serves_numbers r ≡ telling e (n ∷ i ∷ [])) ↔ (judged_numbers (judging a s) ≡ telling e (n ∷ i ∷ []))) (verdict τ l s z r h e n i);
           names = λ x.
               of_bytes (λ a. (serves_numbers r ≡ telling τ.edition (x ∷ []))
-              ↔ ((judging a s ≡ Verdict τ.edition Passed)
+              ↔ ((judging a s ≡ Ok (τ.edition, Passed))
               × (Lowest τ l (commands_in s) x ⊎ ((x ≡ length l) × NoneBelow τ l (commands_in s) (length l) × OneOutside l (commands_in s))))) (names τ l s z r h x);
         }
 
-    module _ (fit : check τ ≡ Fine → list_fits τ l ≡ true) where
+    module _ (fit : check τ ≡ Ok tt → list_fits τ l ≡ true) where
       -- the bytes of a built schedule
-      built_told : check τ ≡ Fine → (rs : List Command) → IsBuilt τ l rs → Serving check (admitted expected table) l (bytes_of_all rs) (Told τ.edition Serves)
+      built_told : check τ ≡ Ok tt → (rs : List Command) → IsBuilt τ l rs → Serving check (admitted expected table) l (bytes_of_all rs) (Ok (τ.edition, Serves))
       built_told fine rs b =
           let q = kept τ acc l (fit fine) rs b in
-          of_bytes (λ a. Serving check a l (bytes_of_all rs) (Told τ.edition Serves))
-          ((checked check τ fine l (bytes_of_all rs) (Told τ.edition Serves)).1 (
+          of_bytes (λ a. Serving check a l (bytes_of_all rs) (Ok (τ.edition, Serves)))
+          ((checked check τ fine l (bytes_of_all rs) (Ok (τ.edition, Serves))).1 (
             bytes_taken τ acc l (fit fine) rs q,
             refl,
             subst (λ (cs : List Command). Says τ l cs Serves) (sym (bytes_same τ acc l (fit fine) rs q)) (built_serves τ acc l (fit fine) rs b),
           ))
 
-      start_serves : (b₀ b f₀ f : List ℕ) (e n : ℕ) → Schedules check (admitted expected table) l b₀ b f₀ f (Built e n) → StartServes expected table τ check l n b
+      start_serves : (b₀ b f₀ f : List ℕ) (e n : ℕ) → Schedules check (admitted expected table) l b₀ b f₀ f (Ok (e, n)) → StartServes expected table τ check l n b
       start_serves b₀ b f₀ f e n h =
-          let fine = built_fine τ l check b₀ b f₀ f e n (subst (λ (a : TableRead). Schedules check a l b₀ b f₀ f (Built e n)) read h) in
+          let fine = built_fine τ l check b₀ b f₀ f e n (subst (λ (a : Result Table Refusal). Schedules check a l b₀ b f₀ f (Ok (e, n))) read h) in
           let k = (demand_2 expected table τ read).built check l b₀ b f₀ f e n h in
-          let w = subst (λ (s : List ℕ). Serving check (admitted expected table) l s (Told τ.edition Serves)) (sym k.3) (built_told fine k.0 k.1) in
+          let w = subst (λ (s : List ℕ). Serving check (admitted expected table) l s (Ok (τ.edition, Serves))) (sym k.3) (built_told fine k.0 k.1) in
           let z = subst (λ (s : List ℕ). schedule_refusal (length s) ≡ 0) (sym k.3) (bytes_taken τ acc l (fit fine) k.0 (kept τ acc l (fit fine) k.0 k.1)) in
-          let does = (serves_on (take (8 * n) b) (Told τ.edition Serves) fine z w).exactly.0 refl in
+          let does = (serves_on (take (8 * n) b) (Ok (τ.edition, Serves)) fine z w).exactly.0 refl in
           record { answered = w; alone = λ r p. (serves_on (take (8 * n) b) r fine z p).exactly.1 does; does = does }
 
   pub serves_of_calls : ServesOfCalls expected table τ

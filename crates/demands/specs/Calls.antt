@@ -1,9 +1,8 @@
 -- The public calls on given bytes, as a single list under a single claim: each case of each answer with its numbers, for each two neighbouring
 -- checks of a call an input that fails both, and each limit and one beyond it.
-use Rattle.std.specs.Prelude.{ℕ, false, ◌≡◌, List, [], ◌∷◌, ◌++◌, length, replicate}
+use Rattle.std.specs.Prelude.{ℕ, false, ◌≡◌, List, [], ◌∷◌, ◌++◌, length, replicate, Ok, Err}
 use Rattle.records.specs.declared.transaction.Transaction.{Transaction}
 use Rattle.records.specs.declared.command.Kind.TheVariants.{Act, Rd, Rda, Wr, Wra, Ref, Other}
-use Rattle.records.specs.declared.command.CommandRead.TheVariants.{Read as CommandIs}
 use Rattle.records.specs.declared.refusal.Refusal.{Refusal}
 use Rattle.records.specs.Little.{bytes16}
 use Rattle.records.specs.Table.{read_table, write_table}
@@ -15,7 +14,6 @@ use Rattle.stamps.specs.Record.{capture_record, read_capture_record, write_captu
 use Rattle.lists.specs.Check.{check_list}
 use Rattle.lists.specs.Packed.{records_of}
 use Rattle.controller.specs.declared.controller.Controller.{Controller}
-use Rattle.promises.specs.declared.starting.StartAnswer.TheVariants.{Refused as NotStarted}
 use Rattle.promises.specs.Admit.{admitted}
 use Rattle.promises.specs.Tracing.{capturing}
 use Rattle.promises.specs.Transactions.{reading}
@@ -58,13 +56,13 @@ record_calls =
     ∷ Writes (write_transaction refresh (replicate 4 9)) (telling 0 []) (2 ∷ 0 ∷ 0 ∷ 0 ∷ [])
     -- a command: the kinds by their numbers, and any other byte
     ∷ (command_numbers (read_command (1 ∷ 2 ∷ 3 ∷ 4 ∷ 0 ∷ 6 ∷ 7 ∷ 8 ∷ [])) ≡ telling 0 (67305985 ∷ 0 ∷ 6 ∷ 2055 ∷ []))
-    ∷ (read_command (0 ∷ 0 ∷ 0 ∷ 0 ∷ 0 ∷ 0 ∷ 0 ∷ 0 ∷ []) ≡ CommandIs (command 0 Act 0 0))
-    ∷ (read_command (0 ∷ 0 ∷ 0 ∷ 0 ∷ 1 ∷ 0 ∷ 0 ∷ 0 ∷ []) ≡ CommandIs (command 0 Rd 0 0))
-    ∷ (read_command (0 ∷ 0 ∷ 0 ∷ 0 ∷ 2 ∷ 0 ∷ 0 ∷ 0 ∷ []) ≡ CommandIs (command 0 Rda 0 0))
-    ∷ (read_command (0 ∷ 0 ∷ 0 ∷ 0 ∷ 3 ∷ 0 ∷ 0 ∷ 0 ∷ []) ≡ CommandIs (command 0 Wr 0 0))
-    ∷ (read_command (0 ∷ 0 ∷ 0 ∷ 0 ∷ 4 ∷ 0 ∷ 0 ∷ 0 ∷ []) ≡ CommandIs (command 0 Wra 0 0))
-    ∷ (read_command (0 ∷ 0 ∷ 0 ∷ 0 ∷ 5 ∷ 0 ∷ 0 ∷ 0 ∷ []) ≡ CommandIs (command 0 Ref 0 0))
-    ∷ (read_command (0 ∷ 0 ∷ 0 ∷ 0 ∷ 6 ∷ 0 ∷ 0 ∷ 0 ∷ []) ≡ CommandIs (command 0 (Other 6) 0 0))
+    ∷ (read_command (0 ∷ 0 ∷ 0 ∷ 0 ∷ 0 ∷ 0 ∷ 0 ∷ 0 ∷ []) ≡ Ok (command 0 Act 0 0))
+    ∷ (read_command (0 ∷ 0 ∷ 0 ∷ 0 ∷ 1 ∷ 0 ∷ 0 ∷ 0 ∷ []) ≡ Ok (command 0 Rd 0 0))
+    ∷ (read_command (0 ∷ 0 ∷ 0 ∷ 0 ∷ 2 ∷ 0 ∷ 0 ∷ 0 ∷ []) ≡ Ok (command 0 Rda 0 0))
+    ∷ (read_command (0 ∷ 0 ∷ 0 ∷ 0 ∷ 3 ∷ 0 ∷ 0 ∷ 0 ∷ []) ≡ Ok (command 0 Wr 0 0))
+    ∷ (read_command (0 ∷ 0 ∷ 0 ∷ 0 ∷ 4 ∷ 0 ∷ 0 ∷ 0 ∷ []) ≡ Ok (command 0 Wra 0 0))
+    ∷ (read_command (0 ∷ 0 ∷ 0 ∷ 0 ∷ 5 ∷ 0 ∷ 0 ∷ 0 ∷ []) ≡ Ok (command 0 Ref 0 0))
+    ∷ (read_command (0 ∷ 0 ∷ 0 ∷ 0 ∷ 6 ∷ 0 ∷ 0 ∷ 0 ∷ []) ≡ Ok (command 0 (Other 6) 0 0))
     ∷ (command_numbers (read_command (replicate 9 0)) ≡ told 7 0 0)
     ∷ Writes (write_command (command 10 Rda 3 1) (replicate 9 9)) (telling 0 []) (10 ∷ 0 ∷ 0 ∷ 0 ∷ 2 ∷ 3 ∷ 1 ∷ 0 ∷ 9 ∷ [])
     ∷ Writes (write_command (command 10 Rda 3 1) (replicate 7 9)) (told 5 0 0) (replicate 7 9)
@@ -234,7 +232,7 @@ run_calls =
     ∷ (start_numbers (starting (admitted 8 cut)).answer ≡ told 1 0 0)
     ∷ ((starting (admitted 8 A)).controller ≡ gone 0 0 0 0)
     -- whatever table refuses it, no run takes what a refused start hands out
-    ∷ ((e : ℕ) (t : List ℕ) (x : Refusal) → (starting (admitted e t)).answer ≡ NotStarted x → NeverRuns (starting (admitted e t)).controller)
+    ∷ ((e : ℕ) (t : List ℕ) (x : Refusal) → (starting (admitted e t)).answer ≡ Err x → NeverRuns (starting (admitted e t)).controller)
     -- a run: 10 before 3, 3 before 4, 4 before 5, 5 before 9, 9
     ∷ (runs 8 A (gone 7 0 0 0) (replicate 257 out) 1 0 ≡ told 10 7 7)
     ∷ (runs 7 A (gone 7 0 0 0) (replicate 257 out) 1 0 ≡ told 3 0 7)

@@ -1,6 +1,9 @@
 -- Document 01, "What the caller is told": for each call, the rows of its table, each with its number, its position and whether it applies.
 -- "Checks go in the order of these numbers", with number 10 "straight after number 2" (document 02, request 1).
-use Rattle.std.specs.Prelude.{ℕ, suc, ◌+◌, ◌-◌, ◌*◌, ◌%◌, ◌/◌, min, Bool, not, ◌&&◌, ◌||◌, ◌≡◌, List, [], ◌∷◌, leb, ltb, eqb, length}
+use Rattle.std.specs.Prelude.{ℕ, suc, ◌+◌, ◌-◌, ◌*◌, ◌%◌, ◌/◌, min, Bool, not, ◌&&◌, ◌||◌, ◌≡◌, List, [], ◌∷◌, leb, ltb, eqb, length, Result}
+use Rattle.rules.specs.declared.verdict.PatternVerdict.{PatternVerdict}
+use Rattle.records.specs.declared.refusal.Refusal.{Refusal}
+use Rattle.serves.specs.declared.answer.Served.{Served}
 use Rattle.records.specs.declared.table.Table.{Table}
 use Rattle.records.specs.declared.transaction.Transaction.{Transaction}
 use Rattle.records.specs.declared.command.Command.{Command}
@@ -10,13 +13,10 @@ use Rattle.records.specs.Transaction.{transaction_at, later_at, record_size, rec
 use Rattle.records.specs.Command.{read_command, write_command}
 use Rattle.rules.specs.Queues.{act_queue, data_queue}
 use Rattle.rules.specs.Pieces.{is_late}
-use Rattle.judge.specs.declared.answer.PatternJudged.{PatternJudged}
 use Rattle.stamps.specs.declared.one_record.CaptureRecord.{CaptureRecord}
 use Rattle.stamps.specs.Record.{read_capture_record, write_capture_record}
 use Rattle.stamps.specs.Capture.{timed_in, lowest}
 use Rattle.capture.specs.Answer.{commands_seen}
-use Rattle.serves.specs.declared.answer.ServesAnswer.{ServesAnswer}
-use Rattle.builder.specs.declared.build.BuildAnswer.{BuildAnswer}
 use Rattle.lists.specs.Check.{check_list, check_bytes}
 use Rattle.sound.specs.Refused.{sound}
 use Rattle.controller.specs.declared.controller.Controller.{Controller}
@@ -107,7 +107,7 @@ capture_rows s room =
 pub record Causes (expected : ℕ) (table : List ℕ) : Type 0 where
   pub judge : (s : List ℕ) → FirstRow (table_rows expected table (schedule_row s ∷ [])) (judged_numbers (judging (admitted expected table) s))
   -- 8: "pattern length 0"
-  pub judge_pattern : (s : List ℕ) (L : ℕ) (r : PatternJudged) → PatternTold (admitted expected table) s L r
+  pub judge_pattern : (s : List ℕ) (L : ℕ) (r : Result (ℕ × PatternVerdict) Refusal) → PatternTold (admitted expected table) s L r
       → FirstRow (table_rows expected table (schedule_row s ∷ row 8 0 (eqb L 0) ∷ [])) (pattern_numbers r)
   pub judge_capture : (s b : List ℕ)
       → FirstRow (table_rows expected table (capture_rows s (length b))) (capture_numbers (capturing (admitted expected table) s b).answer)
@@ -117,16 +117,16 @@ pub record Causes (expected : ℕ) (table : List ℕ) : Type 0 where
   pub read_transactions : (later : Bool) (s : List ℕ) (l : List Transaction)
       → FirstRow (table_rows expected table (list_rows (table_at table) (few_into later s (length l)) (list_of later s) []))
       (read_numbers (reading later (admitted expected table) s l).answer)
-  pub schedule : (l : List Transaction) (b₀ b f₀ f : List ℕ) (r : BuildAnswer) → Schedules (λ τ. check_list τ l) (admitted expected table) l b₀ b f₀ f r
+  pub schedule : (l : List Transaction) (b₀ b f₀ f : List ℕ) (r : Result (ℕ × ℕ) Refusal) → Schedules (λ τ. check_list τ l) (admitted expected table) l b₀ b f₀ f r
       → FirstRow (table_rows expected table (list_rows (table_at table) (leb (length l) 256) l (build_rows (table_at table) l (length b₀) (length f₀)))) (build_numbers r)
-  pub schedule_bytes : (later : Bool) (s b₀ b f₀ f : List ℕ) (r : BuildAnswer)
+  pub schedule_bytes : (later : Bool) (s b₀ b f₀ f : List ℕ) (r : Result (ℕ × ℕ) Refusal)
       → Schedules (λ τ. check_bytes later τ s) (admitted expected table) (list_of later s) b₀ b f₀ f r
       → FirstRow (table_rows expected table (list_rows (table_at table) (few_bytes later s) (list_of later s) (build_rows (table_at table) (list_of later s) (length b₀) (length f₀))))
       (build_numbers r)
   -- does it serve the list (document 02, request 10): 3 and 4 by the list, then 7 by the schedule
-  pub serves : (l : List Transaction) (s : List ℕ) (r : ServesAnswer) → Serving (λ τ. check_list τ l) (admitted expected table) l s r
+  pub serves : (l : List Transaction) (s : List ℕ) (r : Result (ℕ × Served) Refusal) → Serving (λ τ. check_list τ l) (admitted expected table) l s r
       → FirstRow (table_rows expected table (list_rows (table_at table) (leb (length l) 256) l (schedule_row s ∷ []))) (serves_numbers r)
-  pub serves_bytes : (later : Bool) (b s : List ℕ) (r : ServesAnswer) → Serving (λ τ. check_bytes later τ b) (admitted expected table) (list_of later b) s r
+  pub serves_bytes : (later : Bool) (b s : List ℕ) (r : Result (ℕ × Served) Refusal) → Serving (λ τ. check_bytes later τ b) (admitted expected table) (list_of later b) s r
       → FirstRow (table_rows expected table (list_rows (table_at table) (few_bytes later b) (list_of later b) (schedule_row s ∷ []))) (serves_numbers r)
   pub start : FirstRow (table_rows expected table []) (start_numbers (starting (admitted expected table)).answer)
   -- a step is a run of one cycle

@@ -1,5 +1,8 @@
 -- What the worked calls are handed, and how what they tell is written.
-use Rattle.std.specs.Prelude.{ℕ, Bool, ◌≡◌, List, [], ◌∷◌, ◌++◌, take, set, replicate}
+use Rattle.std.specs.Prelude.{ℕ, Bool, ◌≡◌, List, [], ◌∷◌, ◌++◌, take, set, replicate, Result}
+use Rattle.rules.specs.declared.verdict.PatternVerdict.{PatternVerdict}
+use Rattle.records.specs.declared.refusal.Refusal.{Refusal}
+use Rattle.serves.specs.declared.answer.Served.{Served}
 use Rattle.records.specs.declared.transaction.Transaction.{Transaction}
 use Rattle.records.specs.declared.command.Command.{Command}
 use Rattle.records.specs.Told.{refusal, Wrote}
@@ -8,11 +11,8 @@ use Rattle.records.specs.Transaction.{list_of}
 use Rattle.records.specs.Command.{bytes_of_all}
 use Rattle.records.specs.House.{house, numbers_a, numbers_b, numbers_c, numbers_d}
 use Rattle.rules.specs.Worked.{read}
-use Rattle.judge.specs.declared.answer.PatternJudged.{PatternJudged}
 use Rattle.stamps.specs.declared.one_record.CaptureRecord.{CaptureRecord}
 use Rattle.stamps.specs.Record.{capture_record, bytes_of_record}
-use Rattle.serves.specs.declared.answer.ServesAnswer.{ServesAnswer}
-use Rattle.builder.specs.declared.build.BuildAnswer.{BuildAnswer}
 use Rattle.lists.specs.Check.{check_list, check_bytes}
 use Rattle.controller.specs.declared.controller.Controller.{Controller}
 use Rattle.promises.specs.Admit.{admitted}
@@ -153,7 +153,7 @@ judges_bytes e t s = judged_numbers (judging (admitted e t) s)
 
 -- whatever answer keeps the promise tells these numbers
 abbrev pub Patterns : ℕ → List ℕ → List ℕ → ℕ → Numbers → Type 0
-Patterns e t s L n = (r : PatternJudged) → PatternTold (admitted e t) s L r → pattern_numbers r ≡ n
+Patterns e t s L n = (r : Result (ℕ × PatternVerdict) Refusal) → PatternTold (admitted e t) s L r → pattern_numbers r ≡ n
 
 -- judging a capture, with a buffer that held b₀, tells these numbers, and leaves b in it
 abbrev pub Traces : ℕ → List ℕ → List ℕ → List ℕ → Numbers → List ℕ → Type 0
@@ -169,18 +169,18 @@ reads later e t s l = read_numbers (reading later (admitted e t) s l).answer
 -- whatever answer and buffers keep the promise, the answer tells these numbers and the buffers hold b and f
 abbrev pub Builds : ℕ → List ℕ → List Transaction → List ℕ → List ℕ → Numbers → List ℕ → List ℕ → Type 0
 Builds e t l b₀ f₀ n b f =
-    (r : BuildAnswer) (b' f' : List ℕ) → Schedules (λ τ. check_list τ l) (admitted e t) l b₀ b' f₀ f' r → (build_numbers r ≡ n) × (b' ≡ b) × (f' ≡ f)
+    (r : Result (ℕ × ℕ) Refusal) (b' f' : List ℕ) → Schedules (λ τ. check_list τ l) (admitted e t) l b₀ b' f₀ f' r → (build_numbers r ≡ n) × (b' ≡ b) × (f' ≡ f)
 
 abbrev pub BuildsBytes : Bool → ℕ → List ℕ → List ℕ → List ℕ → List ℕ → Numbers → List ℕ → List ℕ → Type 0
 BuildsBytes later e t s b₀ f₀ n b f =
-    (r : BuildAnswer) (b' f' : List ℕ) → Schedules (λ τ. check_bytes later τ s) (admitted e t) (list_of later s) b₀ b' f₀ f' r → (build_numbers r ≡ n) × (b' ≡ b) × (f' ≡ f)
+    (r : Result (ℕ × ℕ) Refusal) (b' f' : List ℕ) → Schedules (λ τ. check_bytes later τ s) (admitted e t) (list_of later s) b₀ b' f₀ f' r → (build_numbers r ≡ n) × (b' ≡ b) × (f' ≡ f)
 
 -- whatever is answered of a list and a schedule's bytes s, it tells these numbers
 abbrev pub ServesTo : ℕ → List ℕ → List Transaction → List ℕ → Numbers → Type 0
-ServesTo e t l s n = (r : ServesAnswer) → Serving (λ τ. check_list τ l) (admitted e t) l s r → serves_numbers r ≡ n
+ServesTo e t l s n = (r : Result (ℕ × Served) Refusal) → Serving (λ τ. check_list τ l) (admitted e t) l s r → serves_numbers r ≡ n
 
 abbrev pub ServesToBytes : Bool → ℕ → List ℕ → List ℕ → List ℕ → Numbers → Type 0
-ServesToBytes later e t b s n = (r : ServesAnswer) → Serving (λ τ. check_bytes later τ b) (admitted e t) (list_of later b) s r → serves_numbers r ≡ n
+ServesToBytes later e t b s n = (r : Result (ℕ × Served) Refusal) → Serving (λ τ. check_bytes later τ b) (admitted e t) (list_of later b) s r → serves_numbers r ≡ n
 
 abbrev pub runs : ℕ → List ℕ → Controller → List Transaction → ℕ → ℕ → Numbers
 runs e t c l n room = run_numbers (running (λ τ. check_list τ l) (admitted e t) c l n (replicate room 9)).told.answer

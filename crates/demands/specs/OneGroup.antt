@@ -1,13 +1,12 @@
 -- Document 02, request 7: "with one group and long equal to short, every answer equals the old". Of the public calls: a table of 40 bytes that
 -- has one group, each long number equal to its short one, is answered as the 32 bytes before. (That these are answered as before there were
 -- groups is `OneGroupBefore`, in `rules`.)
-use Rattle.std.specs.Prelude.{ℕ, Bool, ◌≡◌, ◌↔◌, List, length, take}
+use Rattle.std.specs.Prelude.{ℕ, Bool, ◌≡◌, ◌↔◌, List, length, take, Result}
+use Rattle.rules.specs.declared.verdict.PatternVerdict.{PatternVerdict}
+use Rattle.records.specs.declared.refusal.Refusal.{Refusal}
 use Rattle.records.specs.declared.table.Table.{Table}
 use Rattle.records.specs.declared.transaction.Transaction.{Transaction}
 use Rattle.records.specs.Little.{num}
-use Rattle.judge.specs.declared.answer.PatternJudged.{PatternJudged}
-use Rattle.builder.specs.declared.build.BuildAnswer.{BuildAnswer}
-use Rattle.lists.specs.declared.check.Checked.{Checked}
 use Rattle.controller.specs.declared.controller.Controller.{Controller}
 use Rattle.promises.specs.Admit.{admitted}
 use Rattle.promises.specs.Judging.{judging, PatternTold}
@@ -28,14 +27,14 @@ pub record OneGroupBytes (table : List ℕ) : Type 0 where
 -- answers, and what is left of buffers, runs of records and controllers; by either check of a list, of its records or of its bytes
 pub record AnsweredAs (expected : ℕ) (table plain : List ℕ) : Type 0 where
   pub judge : (s : List ℕ) → judging (admitted expected table) s ≡ judging (admitted expected plain) s
-  pub pattern : (s : List ℕ) (L : ℕ) (r : PatternJudged) → PatternTold (admitted expected table) s L r ↔ PatternTold (admitted expected plain) s L r
+  pub pattern : (s : List ℕ) (L : ℕ) (r : Result (ℕ × PatternVerdict) Refusal) → PatternTold (admitted expected table) s L r ↔ PatternTold (admitted expected plain) s L r
   pub capture : (s b : List ℕ) → capturing (admitted expected table) s b ≡ capturing (admitted expected plain) s b
   pub bound : (bi bc : ℕ) → bounding (admitted expected table) bi bc ≡ bounding (admitted expected plain) bi bc
   pub read : (later : Bool) (s : List ℕ) (l : List Transaction) → reading later (admitted expected table) s l ≡ reading later (admitted expected plain) s l
-  pub schedule : (check : Table → Checked) (l : List Transaction) (b₀ b f₀ f : List ℕ) (r : BuildAnswer)
+  pub schedule : (check : Table → Result Unit Refusal) (l : List Transaction) (b₀ b f₀ f : List ℕ) (r : Result (ℕ × ℕ) Refusal)
       → Schedules check (admitted expected table) l b₀ b f₀ f r ↔ Schedules check (admitted expected plain) l b₀ b f₀ f r
   pub start : starting (admitted expected table) ≡ starting (admitted expected plain)
-  pub run : (check : Table → Checked) (c : Controller) (l : List Transaction) (n : ℕ) (b : List ℕ)
+  pub run : (check : Table → Result Unit Refusal) (c : Controller) (l : List Transaction) (n : ℕ) (b : List ℕ)
       → running check (admitted expected table) c l n b ≡ running check (admitted expected plain) c l n b
 
 abbrev pub OneGroupAnswers : Type 0

@@ -1,8 +1,8 @@
 -- Document 02, request 11: the public call for the shortest pattern as a single list, which is part of the single claim of `Calls`. `two` is table A with
 -- 2 banks.
-use Rattle.std.specs.Prelude.{ℕ, ◌≡◌, ◌⊎◌, List, [], ◌∷◌, replicate}
+use Rattle.std.specs.Prelude.{ℕ, ◌≡◌, ◌⊎◌, List, [], ◌∷◌, replicate, Result}
+use Rattle.records.specs.declared.refusal.Refusal.{Refusal}
 use Rattle.records.specs.Little.{bytes16}
-use Rattle.shortest.specs.declared.answer.ShortestAnswer.{ShortestAnswer}
 use Rattle.promises.specs.Admit.{admitted}
 use Rattle.promises.specs.Patterns.{ShortestTold}
 use Rattle.promises.specs.Numbers.{Numbers, shortest_numbers}
@@ -14,12 +14,12 @@ two = bytes16 (7 ∷ 2 ∷ 4 ∷ 4 ∷ 10 ∷ 10 ∷ 28 ∷ 38 ∷ 6 ∷ 32 ∷ 
 -- a type, BI, BC and a greatest length, with a buffer that holds b₀: whatever answer keeps the promise tells these numbers, and leaves the buffer as it was
 abbrev pub NotSought : ℕ → List ℕ → ℕ → ℕ → ℕ → ℕ → List ℕ → Numbers → Type 0
 NotSought e t type bi bc most b₀ n =
-    (b : List ℕ) (r : ShortestAnswer) → ShortestTold (admitted e t) type bi bc most b₀ b r → (shortest_numbers r ≡ n) × (b ≡ b₀)
+    (b : List ℕ) (r : Result (ℕ × ℕ × ℕ) Refusal) → ShortestTold (admitted e t) type bi bc most b₀ b r → (shortest_numbers r ≡ n) × (b ≡ b₀)
 
 -- it tells a pattern, or that there is none
 abbrev pub Sought : ℕ → List ℕ → ℕ → ℕ → ℕ → ℕ → List ℕ → Type 0
 Sought e t type bi bc most b₀ =
-    (b : List ℕ) (r : ShortestAnswer) → ShortestTold (admitted e t) type bi bc most b₀ b r
+    (b : List ℕ) (r : Result (ℕ × ℕ × ℕ) Refusal) → ShortestTold (admitted e t) type bi bc most b₀ b r
     → ((shortest_numbers r).refused ≡ 0) ⊎ ((shortest_numbers r).refused ≡ 13)
 
 abbrev pub pattern_calls : List (Type 0)

@@ -1,12 +1,13 @@
 -- Document 02, request 10: the public calls that tell whether a schedule serves a list, as a single list, which is part of the single claim of `Calls`.
 -- R is table A with RFC 50; of `three` transactions the second is a refresh.
-use Rattle.std.specs.Prelude.{ℕ, true, false, ◌≡◌, List, [], ◌∷◌, ◌++◌, length, replicate}
+use Rattle.std.specs.Prelude.{ℕ, true, false, ◌≡◌, List, [], ◌∷◌, ◌++◌, length, replicate, Result}
+use Rattle.serves.specs.declared.answer.Served.{Served}
+use Rattle.records.specs.declared.refusal.Refusal.{Refusal}
 use Rattle.records.specs.declared.command.Kind.TheVariants.{Act, Ref}
 use Rattle.records.specs.Command.{command, bytes_of_all}
 use Rattle.rules.specs.Worked.{read, refreshed, one, All}
 use Rattle.rules.specs.WorkedGroups.{hidden_act}
 use Rattle.rules.specs.WorkedArrivals.{read_at}
-use Rattle.serves.specs.declared.answer.ServesAnswer.{ServesAnswer}
 use Rattle.serves.specs.Worked.{three, without, too_soon, outside_before}
 use Rattle.lists.specs.Check.{check_list}
 use Rattle.lists.specs.Packed.{records_of}
@@ -26,7 +27,7 @@ serves_lent =
     ∷ ServesTo 7 A (fine ∷ out ∷ []) (0 ∷ []) (told 4 1 7)
     ∷ ServesTo 7 A (fine ∷ []) (bytes_of_all one ++ (0 ∷ [])) (told 7 0 7)
     -- 69,632 records, and one more
-    ∷ ((s : List ℕ) (r : ServesAnswer) → length s ≡ 557056 → Serving (λ τ. check_list τ (fine ∷ [])) (admitted 7 A) (fine ∷ []) s r → (serves_numbers r).refused ≡ 0)
+    ∷ ((s : List ℕ) (r : Result (ℕ × Served) Refusal) → length s ≡ 557056 → Serving (λ τ. check_list τ (fine ∷ [])) (admitted 7 A) (fine ∷ []) s r → (serves_numbers r).refused ≡ 0)
     ∷ ((s : List ℕ) → length s ≡ 557064 → ServesTo 7 A (fine ∷ []) s (told 7 0 7))
     -- it serves; "the judge's verdict comes first", rule 12 and record 3, whoever is at fault; "then the lowest transaction at fault"; the list's length,
     -- where a record's number is outside

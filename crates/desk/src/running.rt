@@ -9,8 +9,8 @@ ghost use Rattle.promises.specs.Running.{starting, running};
 use admission::admit::admit;
 use controller::controller::{Controller, start_of};
 use controller::run::RunTold;
-use promises::starting::{StartAnswer, StartTold};
-use records::table::TableRead;
+use engine::promise::Plain;
+use promises::starting::StartTold;
 use runner::running::run_records;
 use tables::table::table_of;
 
@@ -19,18 +19,18 @@ pub fn start(expected: u16, table: &[u8]) -> StartTold
     ensures { result ≡ starting (admitted expected table.now) }
 {
     match admit(expected, table) {
-        TableRead::Read(t) => {
+        Ok(t) => {
             let controller = start_of(t);
             StartTold {
-                controller: controller,
-                answer: StartAnswer::Started(t.edition),
+                controller,
+                answer: Ok(t.edition),
             }
         }
-        TableRead::Refused(r) => {
+        Err(r) => {
             let controller = start_of(table_of([0; 16]));
             StartTold {
-                controller: controller,
-                answer: StartAnswer::Refused(r),
+                controller,
+                answer: Err(r),
             }
         }
     }
@@ -47,7 +47,7 @@ pub fn run_bytes(
 ) -> RunTold
     ensures { LeavesRun (running (λ τ. check_bytes false τ list.now) (admitted expected table.now) c (transactions_in list.now) count room.old) result room.new }
 {
-    run_records(c, expected, table, false, list, count, room, false)
+    run_records::<Plain>(c, expected, table, false, list, count, room)
 }
 
 // Of records of 8 bytes.
@@ -61,5 +61,5 @@ pub fn run_later_bytes(
 ) -> RunTold
     ensures { LeavesRun (running (λ τ. check_bytes true τ list.now) (admitted expected table.now) c (later_in list.now) count room.old) result room.new }
 {
-    run_records(c, expected, table, true, list, count, room, false)
+    run_records::<Plain>(c, expected, table, true, list, count, room)
 }

@@ -5,7 +5,8 @@ ghost use Rattle.lists.specs.Check.{check_bytes};
 ghost use Rattle.promises.specs.Admit.{admitted};
 ghost use Rattle.promises.specs.Schedules.{Schedules};
 
-use builder::build::BuildAnswer;
+use engine::promise::Plain;
+use records::refusal::Refusal;
 use scheduler::schedules::schedule_records;
 
 // Of records of 4 bytes.
@@ -15,10 +16,10 @@ pub fn schedule_bytes(
     list: &[u8],
     commands: &mut [u8],
     finishes: &mut [u32],
-) -> BuildAnswer
+) -> Result<(u16, usize), Refusal>
     ensures { Schedules (λ τ. check_bytes false τ list.now) (admitted expected table.now) (transactions_in list.now) commands.old commands.new finishes.old finishes.new result }
 {
-    schedule_records(expected, table, false, list, commands, finishes, false)
+    schedule_records::<Plain>(expected, table, false, list, commands, finishes)
 }
 
 // Of records of 8 bytes.
@@ -28,8 +29,8 @@ pub fn schedule_later_bytes(
     list: &[u8],
     commands: &mut [u8],
     finishes: &mut [u32],
-) -> BuildAnswer
+) -> Result<(u16, usize), Refusal>
     ensures { Schedules (λ τ. check_bytes true τ list.now) (admitted expected table.now) (later_in list.now) commands.old commands.new finishes.old finishes.new result }
 {
-    schedule_records(expected, table, true, list, commands, finishes, false)
+    schedule_records::<Plain>(expected, table, true, list, commands, finishes)
 }

@@ -8,9 +8,10 @@ ghost use Rattle.promises.specs.Admit.{admitted};
 ghost use Rattle.promises.specs.Schedules.{Schedules};
 ghost use Rattle.promises.specs.Running.{running};
 
-use builder::build::BuildAnswer;
 use controller::controller::Controller;
 use controller::run::RunTold;
+use jump::straight::Straight;
+use records::refusal::Refusal;
 use runner::running::run_records;
 use scheduler::schedules::schedule_records;
 
@@ -21,10 +22,10 @@ pub fn schedule_straight_bytes(
     list: &[u8],
     commands: &mut [u8],
     finishes: &mut [u32],
-) -> BuildAnswer
+) -> Result<(u16, usize), Refusal>
     ensures { Schedules (λ τ. check_bytes false τ list.now) (admitted expected table.now) (transactions_in list.now) commands.old commands.new finishes.old finishes.new result }
 {
-    schedule_records(expected, table, false, list, commands, finishes, true)
+    schedule_records::<Straight>(expected, table, false, list, commands, finishes)
 }
 
 // Of records of 8 bytes.
@@ -34,10 +35,10 @@ pub fn schedule_straight_later_bytes(
     list: &[u8],
     commands: &mut [u8],
     finishes: &mut [u32],
-) -> BuildAnswer
+) -> Result<(u16, usize), Refusal>
     ensures { Schedules (λ τ. check_bytes true τ list.now) (admitted expected table.now) (later_in list.now) commands.old commands.new finishes.old finishes.new result }
 {
-    schedule_records(expected, table, true, list, commands, finishes, true)
+    schedule_records::<Straight>(expected, table, true, list, commands, finishes)
 }
 
 // The run, of records of 4 bytes.
@@ -51,7 +52,7 @@ pub fn run_straight_bytes(
 ) -> RunTold
     ensures { LeavesRun (running (λ τ. check_bytes false τ list.now) (admitted expected table.now) c (transactions_in list.now) count room.old) result room.new }
 {
-    run_records(c, expected, table, false, list, count, room, true)
+    run_records::<Straight>(c, expected, table, false, list, count, room)
 }
 
 // Of records of 8 bytes.
@@ -65,5 +66,5 @@ pub fn run_straight_later_bytes(
 ) -> RunTold
     ensures { LeavesRun (running (λ τ. check_bytes true τ list.now) (admitted expected table.now) c (later_in list.now) count room.old) result room.new }
 {
-    run_records(c, expected, table, true, list, count, room, true)
+    run_records::<Straight>(c, expected, table, true, list, count, room)
 }

@@ -1,45 +1,26 @@
 // The least distances between data commands.
-ghost use Rattle.std.specs.Prelude.{◌≡◌, ◌+◌, ◌-◌, max, ◌<◌};
+ghost use Rattle.std.specs.Prelude.{◌≡◌, ◌+◌, ◌<◌};
 ghost use Rattle.records.specs.Tests.{pick};
 ghost use Rattle.rules.specs.Square.{ccd_of, rrd_of, wtr_of, rd_to_wr, wr_to_rd, square, side, cell};
 
 use records::table::Table;
 
-pub fn greater(a: u32, b: u32) -> u32
-    ensures { result ≡ max a b }
-{
-    if a < b { b } else { a }
-}
-
-// "A difference below 0 counts as 0."
-pub fn less(a: u32, b: u32) -> u32
-    ensures { result ≡ a - b }
-{
-    if a < b { 0 } else { a - b }
-}
-
-pub fn wide(x: u16) -> u32
-    ensures { result ≡ x }
-{
-    x as u32
-}
-
 pub fn sum_2(a: u16, b: u16) -> u32
     ensures { result ≡ a + b }
 {
-    a as u32 + b as u32
+    u32::from(a) + u32::from(b)
 }
 
 pub fn sum_3(a: u16, b: u16, c: u16) -> u32
     ensures { result ≡ a + b + c }
 {
-    a as u32 + b as u32 + c as u32
+    u32::from(a) + u32::from(b) + u32::from(c)
 }
 
 pub fn sum_4(a: u16, b: u16, c: u16, d: u16) -> u32
     ensures { result ≡ a + b + c + d }
 {
-    a as u32 + b as u32 + c as u32 + d as u32
+    u32::from(a) + u32::from(b) + u32::from(c) + u32::from(d)
 }
 
 pub fn long_if(near: bool, long: u16, short: u16) -> u16
@@ -72,33 +53,29 @@ pub fn rd_to_wr(t: Table, near: bool) -> u32
     ensures { result ≡ rd_to_wr t near }
 {
     let ccd = ccd_of(t, near);
-    greater(wide(ccd), less(sum_3(t.rl, ccd, 2), wide(t.wl)))
+    u32::from(ccd).max(sum_3(t.rl, ccd, 2).saturating_sub(u32::from(t.wl)))
 }
 
 // "WR to RD: the greater of CCD and WL + B + WTR"
 pub fn wr_to_rd(t: Table, near: bool) -> u32
     ensures { result ≡ wr_to_rd t near }
 {
-    let ccd = ccd_of(t, near);
-    let wtr = wtr_of(t, near);
-    greater(wide(ccd), sum_3(t.wl, t.b, wtr))
+    u32::from(ccd_of(t, near)).max(sum_3(t.wl, t.b, wtr_of(t, near)))
 }
 
 // "The distances are held as a square, one row for each earlier kind." One square within a group, one across.
 pub fn distances(t: Table, near: bool) -> [[u32; 2]; 2]
     ensures { result ≡ square t near }
 {
-    let ccd = wide(ccd_of(t, near));
-    let after_rd = rd_to_wr(t, near);
-    let after_wr = wr_to_rd(t, near);
-    [[ccd, after_rd], [after_wr, ccd]]
+    let ccd = u32::from(ccd_of(t, near));
+    [[ccd, rd_to_wr(t, near)], [wr_to_rd(t, near), ccd]]
 }
 
 // The row or the column of a kind: 1 for a write.
 pub fn side_of(write: bool) -> usize
     ensures { result ≡ side write }
 {
-    if write { 1 } else { 0 }
+    usize::from(write)
 }
 
 pub fn cell_of(q: [[u32; 2]; 2], earlier: usize, later: usize) -> u32

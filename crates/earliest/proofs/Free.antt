@@ -1,5 +1,7 @@
 -- A head breaks no rule exactly from its earliest cycle on, and so what goes at a cycle is told by the two earliest cycles.
 -- Assumes nothing.
+use Rattle.std.specs.Prelude.{Some, None}
+use Rattle.rules.specs.Types.{Stamp}
 use Prim.Native.Nat.{ℕ, zero, suc, ◌+◌, ◌≤◌, ◌<◌, min, max}
 use native.Mathlib.Omega.{arith}
 use mathlib.Core.Path.{◌≡◌, refl, sym, ap, ◌∙◌}
@@ -15,8 +17,6 @@ use Rattle.records.specs.declared.transaction.Transaction.{Transaction}
 use Rattle.records.specs.declared.command.Kind.{Kind}
 use Rattle.records.specs.declared.command.Kind.TheVariants.{Act, Rd, Rda, Wr, Wra, Ref, Other}
 use Rattle.records.specs.declared.command.Command.{Command}
-use Rattle.rules.specs.declared.state.Stamp.{Stamp}
-use Rattle.rules.specs.declared.state.Stamp.TheVariants.{Never, At}
 use Rattle.rules.specs.declared.state.Bank.{Bank}
 use Rattle.rules.specs.declared.state.Group.{Group}
 use Rattle.rules.specs.declared.state.State.{State}
@@ -66,8 +66,8 @@ below_from t (suc n) f g e = both_from t (f n) (every_below n f) (g n) (most_bel
 
 module _ (τ : Table) (t : ℕ) (early : t < limit) where
   pub past_since : (x : Stamp) (d : ℕ) → past x d t ≡ leb (since x d) t
-  past_since Never d = leb_zero t
-  past_since (At c) d = on (leb (c + d) t) refl
+  past_since None d = leb_zero t
+  past_since (Some c) d = on (leb (c + d) t) refl
     where
       on : (b : Bool) → leb (c + d) t ≡ b → b ≡ leb (min limit c + d) t
       on true e = sym (le-leb (min limit c + d) t (omega (arith, leb-true (c + d) t e)))

@@ -1,12 +1,11 @@
 -- Document 02, request 12: every rule is a cycle from which on it is not broken, while nothing goes; so a head is free from the greatest of them on.
-use Rattle.std.specs.Prelude.{ℕ, zero, suc, ◌+◌, min, max, Bool, true, false, not, List, [], ◌∷◌, ltb, eqb, get_or}
+use Rattle.std.specs.Prelude.{ℕ, zero, suc, ◌+◌, min, max, Bool, true, false, not, List, [], ◌∷◌, ltb, eqb, get_or, Some, None}
 use Rattle.std.proofs.Math.Option.{Option, none, some}
+use Rattle.rules.specs.Types.{Stamp}
 use Rattle.records.specs.declared.table.Table.{Table}
 use Rattle.records.specs.declared.transaction.Transaction.{Transaction}
 use Rattle.records.specs.declared.command.Kind.{Kind}
 use Rattle.records.specs.declared.command.Kind.TheVariants.{Act, Rd, Rda, Wr, Wra, Ref, Other}
-use Rattle.rules.specs.declared.state.Stamp.{Stamp}
-use Rattle.rules.specs.declared.state.Stamp.TheVariants.{Never, At}
 use Rattle.rules.specs.declared.state.Bank.{Bank}
 use Rattle.rules.specs.declared.state.Group.{Group}
 use Rattle.rules.specs.declared.state.State.{State}
@@ -21,8 +20,8 @@ limit = 100000000
 
 -- the first cycle that is d past a stamp; "never" holds nothing up, and a stamp that no run reaches holds up to the limit at least
 abbrev pub since : Stamp → ℕ → ℕ
-since Never d = 0
-since (At c) d = min limit c + d
+since None d = 0
+since (Some c) d = min limit c + d
 
 -- a test that no idle cycle changes: it holds from the start on, or in no cycle of a run
 abbrev pub gate : Bool → ℕ

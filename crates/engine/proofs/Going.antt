@@ -8,7 +8,7 @@ use mathlib.Core.Bool.{Bool, true, false, not, ◌&&◌, ◌||◌}
 use mathlib.Core.Option.{Option, none, some}
 use mathlib.Core.List.{List, [], ◌∷◌, ◌++◌, append_assoc, append-nil}
 use lib.Dec.{leb}
-use lib.ListN.{length, length-append, get_or}
+use lib.ListN.{length, get_or}
 use borrow.Author.Tests.{leb-false}
 use Rattle.records.specs.Told.{over, put_at}
 use Rattle.records.specs.declared.table.Table.{Table}
@@ -17,7 +17,7 @@ use Rattle.records.specs.Command.{bytes_of, bytes_of_all}
 use Rattle.records.proofs.Bytes.{length_over, over_more}
 use Rattle.records.proofs.Written.{bytes_append, length_bytes}
 use Rattle.rules.specs.declared.state.State.{State}
-use Rattle.rules.specs.Kinds.{is_data, in_act_queue}
+use Rattle.rules.specs.Kinds.{in_act_queue}
 use Rattle.rules.specs.Square.{group_of}
 use Rattle.rules.specs.State.{add_if, note, idle, after}
 use Rattle.rules.specs.Pattern.{onto}
@@ -37,7 +37,6 @@ use Rattle.heads.proofs.Standing.{recount}
 use Rattle.timing.specs.declared.kept.Kept.{Kept}
 use Rattle.timing.specs.declared.kept.KeptGroup.{KeptGroup}
 use Rattle.timing.specs.Kept.{told, quiet_kept}
-use Rattle.engine.specs.declared.run.Ran as Answer
 use Rattle.engine.specs.Run.{commands_left, Ready, Runs}
 use Rattle.engine.proofs.Laws.{Leaves, leaves}
 

@@ -1,5 +1,6 @@
 -- The built schedule: what a fresh run to the end writes, that it is read back, and its finishing cycles.
 -- Assumes nothing.
+use Rattle.std.specs.Prelude.{None}
 use Prim.Native.Nat.{ℕ, zero, suc, ◌+◌, ◌-◌, ◌*◌, ◌≤◌, ◌<◌}
 use native.Mathlib.Omega.{arith}
 use native.Mathlib.Nat.{min-le_right, zero-add}
@@ -21,7 +22,6 @@ use Rattle.records.specs.Transaction.{later_at, later_from, is_write}
 use Rattle.records.specs.Command.{commands_from, bytes_of_all}
 use Rattle.records.proofs.Bytes.{length_over}
 use Rattle.records.proofs.Written.{length_bytes, Each, Readable, read_back}
-use Rattle.rules.specs.declared.state.Stamp.TheVariants.{Never}
 use Rattle.rules.specs.declared.state.State.{State}
 use Rattle.rules.specs.Kinds.{is_known}
 use Rattle.rules.specs.History.{broken, is_fine}
@@ -29,8 +29,8 @@ use Rattle.rules.specs.State.{fresh}
 use Rattle.rules.specs.Pattern.{onto}
 use Rattle.rules.specs.Queues.{act_count, act_queue, data_queue}
 use Rattle.rules.specs.CycleRule.{acts_in, datas_in, goes_at, push, gone, Built}
-use Rattle.rules.specs.Run.{Ran, run}
-use Rattle.rules.specs.Finish.{last_command_in, last_command, finish_of, finish}
+use Rattle.rules.specs.Run.{run}
+use Rattle.rules.specs.Finish.{last_command_in, finish_of, finish}
 use Rattle.rules.specs.Promise.{next_cycle, cycle_of, last_command_cycle, Kept}
 use Rattle.rules.proofs.laws.TestLaws.{and_fst, and_snd, OnSome, on_pick_lem, on_map}
 use Rattle.rules.proofs.laws.Numbers.{from?}
@@ -100,7 +100,7 @@ numbers l n h (r ∷ rs) u = rw (lt-ltb r.number n (omega (arith, u.0.number))) 
 
 -- ---- the finishing cycles
 
-no_more : (l : List Transaction) (k : ℕ) → length l ≤ k → (h : List Command) → Each (Ours l) h → last_command_in k h ≡ Never
+no_more : (l : List Transaction) (k : ℕ) → length l ≤ k → (h : List Command) → Each (Ours l) h → last_command_in k h ≡ None
 no_more l k e [] u = refl
 no_more l k e (r ∷ h) u = rw (ne_eqb r.number k (λ z. omega (arith, u.0.number))) (no_more l k e h u.1)
 

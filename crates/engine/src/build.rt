@@ -1,5 +1,5 @@
 // The built schedule: a fresh run to the end, and two passes for the finishing cycles.
-ghost use Rattle.std.specs.Prelude.{◌≡◌, ◌+◌, ◌*◌, ◌≤◌, length};
+ghost use Rattle.std.specs.Prelude.{◌+◌, ◌*◌, ◌≤◌, length};
 ghost use Rattle.records.specs.Transaction.{later_from};
 ghost use Rattle.rules.specs.Queues.{act_queue, data_queue};
 ghost use Rattle.heads.specs.Queue.{Listed};
@@ -19,11 +19,7 @@ pub struct Schedule {
 }
 
 // A run of so many cycles ends every list that fits.
-pub fn enough() -> u32
-    ensures { result ≡ 100000000 }
-{
-    100000000
-}
+pub const ENOUGH: u32 = 100000000;
 
 pub fn build(t: Table, list: &[u8], n: usize, buffer: &mut [u8], finishes: &mut [u32]) -> Schedule
     requires { Listed t list.now n × (8 * (length (act_queue t (later_from list.now n 0)) + length (data_queue t (later_from list.now n 0))) ≤ length buffer.old) × (n ≤ length finishes.old) }
@@ -31,7 +27,7 @@ pub fn build(t: Table, list: &[u8], n: usize, buffer: &mut [u8], finishes: &mut 
 {
     let all = due(t, list, n);
     let start = kept_fresh(t.edition);
-    let r = run(t, list, n, all, start, enough(), buffer);
+    let r = run(t, list, n, all, start, ENOUGH, buffer);
     mark(buffer, r.commands, finishes);
     finish_all(t, list, n, finishes);
     Schedule {

@@ -2,4 +2,5 @@
 #![tactic(auto)]
 
 pub mod build;
+pub mod promise;
 pub mod run;

@@ -29,18 +29,13 @@ pub struct Ran {
 pub fn stops_at(acts: u32, datas: u32, due_acts: u32, due_datas: u32, c: u64) -> bool
     ensures { result ≡ ((leb due_datas datas && leb due_acts acts) || leb 100000000 c) }
 {
-    if due_datas <= datas {
-        if due_acts <= acts {
-            return true;
-        }
-        return 100000000 <= c;
-    }
-    100000000 <= c
+    due_datas <= datas && due_acts <= acts || 100000000 <= c
 }
 
 // At most `count` cycles; `all` is what the list puts into the two queues. The commands go into the buffer from its start. The state is a
 // local that is changed in place, cycle by cycle. A table of one group asks its group alone. The heads' groups are read again only where a
-// command goes, so that an idle cycle reads no group of the state.
+// command goes, so that an idle cycle reads no group of the state. The loop counts its cycles and each test is a call, since the proof goes over these
+// steps one by one.
 pub fn run(
     t: Table,
     list: &[u8],

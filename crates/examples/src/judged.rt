@@ -1,44 +1,48 @@
 // Examples 8 to 11, patterns and a schedule, and their like of table T.
 use crate::told::{built, judged, repeated};
 use desk::{judge, judge_pattern, schedule_bytes};
-use prints::text;
 use std::io;
 use std::io::Write;
 
-// Example 1 as pattern, of two lengths.
-pub(crate) fn one_as_pattern<W: Write>(
+// The schedule of a list, in a room of its length and with a place for each transaction, is judged as pattern of two lengths.
+fn as_pattern<W: Write, const N: usize, const M: usize>(
     out: &mut W,
+    edition: u16,
     table: &[u8],
-    longer: u32,
-    shorter: u32,
+    list: &[u8],
+    mut room: [u8; N],
+    mut finishes: [u32; M],
+    lengths: [u32; 2],
 ) -> io::Result<()> {
-    let mut room = [0u8; 16];
-    let mut places = [0u32; 1];
-    let commands = &mut room[..];
-    let finishes = &mut places[..];
     built(
         out,
-        schedule_bytes(7, table, &[0, 0, 1, 1], commands, finishes),
+        schedule_bytes(edition, table, list, &mut room, &mut finishes),
     )?;
-    repeated(out, judge_pattern(7, table, commands, longer))?;
-    repeated(out, judge_pattern(7, table, commands, shorter))
+    for length in lengths {
+        repeated(out, judge_pattern(edition, table, &room, length))?;
+    }
+    Ok(())
+}
+
+pub(crate) fn example_1_as_pattern<W: Write>(
+    out: &mut W,
+    table: &[u8],
+    lengths: [u32; 2],
+) -> io::Result<()> {
+    as_pattern(out, 7, table, &[0, 0, 1, 1], [0; 16], [0; 1], lengths)
 }
 
 pub(crate) fn example_9<W: Write>(out: &mut W, a: &[u8]) -> io::Result<()> {
-    text(out, b"9 example 5 as pattern, L 39 and 38\n")?;
-    let mut room = [0u8; 96];
-    let mut places = [0u32; 1];
-    let commands = &mut room[..];
-    let finishes = &mut places[..];
-    built(out, schedule_bytes(7, a, &[0, 0, 4, 2], commands, finishes))?;
-    repeated(out, judge_pattern(7, a, commands, 39))?;
-    repeated(out, judge_pattern(7, a, commands, 38))
+    writeln!(out, "9 example 5 as pattern, L 39 and 38")?;
+    as_pattern(out, 7, a, &[0, 0, 4, 2], [0; 96], [0; 1], [39, 38])
 }
 
 pub(crate) fn example_11<W: Write>(out: &mut W, c: &[u8]) -> io::Result<()> {
-    text(out, b"11 ACT 0, WR 10, RDA 28, then ACT 44, and ACT 43\n")?;
-    wr_rda_act(out, 7, c, 10, 44, 54)?;
-    wr_rda_act(out, 7, c, 10, 43, 53)
+    writeln!(out, "11 ACT 0, WR 10, RDA 28, then ACT 44, and ACT 43")?;
+    for (act, rda) in [(44, 54), (43, 53)] {
+        wr_rda_act(out, 7, c, 10, act, rda)?;
+    }
+    Ok(())
 }
 
 // Bank 0: ACT 0, WR, RDA 28, then ACT, RDA. The first byte of each record is its cycle, the fifth its kind.
@@ -50,7 +54,7 @@ fn wr_rda_act<W: Write>(
     act: u8,
     rda: u8,
 ) -> io::Result<()> {
-    let mut bytes = [0u8; 40];
+    let mut bytes = [0; 40];
     bytes[8] = wr;
     bytes[12] = 3;
     bytes[16] = 28;
@@ -58,25 +62,25 @@ fn wr_rda_act<W: Write>(
     bytes[24] = act;
     bytes[32] = rda;
     bytes[36] = 2;
-    judged(out, judge(edition, table, &bytes[..]))
+    judged(out, judge(edition, table, &bytes))
 }
 
 pub(crate) fn table_t_judged<W: Write>(out: &mut W, t: &[u8]) -> io::Result<()> {
-    text(out, b"ACT 0, WR 11, RDA 28, then ACT 51, and ACT 50\n")?;
-    wr_rda_act(out, 9, t, 11, 51, 62)?;
-    wr_rda_act(out, 9, t, 11, 50, 61)?;
-    text(
+    writeln!(out, "ACT 0, WR 11, RDA 28, then ACT 51, and ACT 50")?;
+    for (act, rda) in [(51, 62), (50, 61)] {
+        wr_rda_act(out, 9, t, 11, act, rda)?;
+    }
+    writeln!(
         out,
-        b"read of bank 0, write of bank 1 as pattern, L 54 and 53\n",
+        "read of bank 0, write of bank 1 as pattern, L 54 and 53"
     )?;
-    let mut room = [0u8; 32];
-    let mut places = [0u32; 2];
-    let commands = &mut room[..];
-    let finishes = &mut places[..];
-    built(
+    as_pattern(
         out,
-        schedule_bytes(9, t, &[0, 0, 1, 1, 1, 1, 1, 1], commands, finishes),
-    )?;
-    repeated(out, judge_pattern(9, t, commands, 54))?;
-    repeated(out, judge_pattern(9, t, commands, 53))
+        9,
+        t,
+        &[0, 0, 1, 1, 1, 1, 1, 1],
+        [0; 32],
+        [0; 2],
+        [54, 53],
+    )
 }

@@ -1,117 +1,73 @@
 // What the calls answer, a line each.
-use builder::bound::BoundAnswer;
-use builder::build::BuildAnswer;
-use judge::answer::{Judged, PatternJudged};
-use prints::{count, first, text};
+use prints::Refused;
 use promises::numbers::rule_number;
-use records::refusal::{Refusal, Written};
-use records::table::TableRead;
-use rules::verdict::{PatternVerdict, Rule, Verdict};
+use records::refusal::Refusal;
+use records::table::Table;
+use rules::verdict::{PatternVerdict, Verdict};
 use std::io;
 use std::io::Write;
 
-pub(crate) fn written<W: Write>(out: &mut W, answer: Written) -> io::Result<()> {
+pub(crate) fn written<W: Write>(out: &mut W, answer: Result<u16, Refusal>) -> io::Result<()> {
     match answer {
-        Written::Done(e) => {
-            text(out, b"written, ")?;
-            edition(out, e)?;
-            text(out, b"\n")
-        }
-        Written::Refused(r) => refused(out, r),
+        Ok(edition) => writeln!(out, "written, edition {edition}"),
+        Err(r) => writeln!(out, "{}", Refused(r)),
     }
 }
 
-pub(crate) fn read<W: Write>(out: &mut W, answer: TableRead) -> io::Result<()> {
+pub(crate) fn read<W: Write>(out: &mut W, answer: Result<Table, Refusal>) -> io::Result<()> {
     match answer {
-        TableRead::Read(t) => {
-            edition(out, t.edition)?;
-            text(out, b"\n")
-        }
-        TableRead::Refused(r) => refused(out, r),
+        Ok(t) => writeln!(out, "edition {}", t.edition),
+        Err(r) => writeln!(out, "{}", Refused(r)),
     }
 }
 
-pub(crate) fn bounded<W: Write>(out: &mut W, answer: BoundAnswer) -> io::Result<()> {
+pub(crate) fn bounded<W: Write>(
+    out: &mut W,
+    answer: Result<(u16, u32), Refusal>,
+) -> io::Result<()> {
     match answer {
-        BoundAnswer::Bound(e, cycles) => {
-            edition(out, e)?;
-            text(out, b" bound ")?;
-            first(out, cycles)?;
-            text(out, b"\n")
-        }
-        BoundAnswer::Refused(r) => refused(out, r),
+        Ok((edition, cycles)) => writeln!(out, "edition {edition} bound {cycles}"),
+        Err(r) => writeln!(out, "{}", Refused(r)),
     }
 }
 
-pub(crate) fn built<W: Write>(out: &mut W, answer: BuildAnswer) -> io::Result<()> {
+pub(crate) fn built<W: Write>(
+    out: &mut W,
+    answer: Result<(u16, usize), Refusal>,
+) -> io::Result<()> {
     match answer {
-        BuildAnswer::Built(e, commands) => {
-            edition(out, e)?;
-            text(out, b" commands")?;
-            count(out, commands)?;
-            text(out, b"\n")
-        }
-        BuildAnswer::Refused(r) => refused(out, r),
+        Ok((edition, commands)) => { writeln!(out, "edition {edition} commands {commands}") }
+        Err(r) => writeln!(out, "{}", Refused(r)),
     }
 }
 
-pub(crate) fn judged<W: Write>(out: &mut W, answer: Judged) -> io::Result<()> {
+pub(crate) fn judged<W: Write>(
+    out: &mut W,
+    answer: Result<(u16, Verdict), Refusal>,
+) -> io::Result<()> {
     match answer {
-        Judged::Verdict(e, v) => {
-            edition(out, e)?;
-            verdict(out, v)
+        Ok((edition, Verdict::Accepted)) => writeln!(out, "edition {edition} accepted"),
+        Ok((edition, Verdict::Refused(x, record))) => {
+            let rule = rule_number(x);
+            writeln!(out, "edition {edition} record {record} rule {rule}")
         }
-        Judged::Refused(r) => refused(out, r),
+        Err(r) => writeln!(out, "{}", Refused(r)),
     }
 }
 
-fn verdict<W: Write>(out: &mut W, v: Verdict) -> io::Result<()> {
-    match v {
-        Verdict::Accepted => text(out, b" accepted\n"),
-        Verdict::Refused(x, record) => broken(out, record, x),
-    }
-}
-
-pub(crate) fn repeated<W: Write>(out: &mut W, answer: PatternJudged) -> io::Result<()> {
+pub(crate) fn repeated<W: Write>(
+    out: &mut W,
+    answer: Result<(u16, PatternVerdict), Refusal>,
+) -> io::Result<()> {
     match answer {
-        PatternJudged::Verdict(e, v) => {
-            edition(out, e)?;
-            pattern_verdict(out, v)
+        Ok((edition, PatternVerdict::Accepted)) => { writeln!(out, "edition {edition} accepted") }
+        Ok((edition, PatternVerdict::Refused(x, copy, record))) => {
+            let rule = rule_number(x);
+            writeln!(
+                out,
+                "edition {edition} copy {copy} record {record} rule {rule}"
+            )
         }
-        PatternJudged::Refused(r) => refused(out, r),
+        Err(r) => writeln!(out, "{}", Refused(r)),
     }
-}
-
-fn pattern_verdict<W: Write>(out: &mut W, v: PatternVerdict) -> io::Result<()> {
-    match v {
-        PatternVerdict::Accepted => text(out, b" accepted\n"),
-        PatternVerdict::Refused(x, copy, record) => {
-            text(out, b" copy ")?;
-            first(out, copy)?;
-            broken(out, record, x)
-        }
-    }
-}
-
-fn broken<W: Write>(out: &mut W, record: u32, x: Rule) -> io::Result<()> {
-    text(out, b" record ")?;
-    first(out, record)?;
-    text(out, b" rule ")?;
-    first(out, rule_number(x))?;
-    text(out, b"\n")
-}
-
-fn refused<W: Write>(out: &mut W, r: Refusal) -> io::Result<()> {
-    text(out, b"refused ")?;
-    first(out, r.number as u32)?;
-    text(out, b" at ")?;
-    first(out, r.position)?;
-    text(out, b" ")?;
-    edition(out, r.edition)?;
-    text(out, b"\n")
-}
-
-fn edition<W: Write>(out: &mut W, e: u16) -> io::Result<()> {
-    text(out, b"edition ")?;
-    first(out, e as u32)
 }

@@ -4,7 +4,6 @@ ghost use Rattle.serves.specs.Check.{due_count, slot, bank_agrees, number_at};
 
 use crate::due::due_count;
 use crate::turn::slot_of;
-use records::tests::both_of;
 use records::transaction::Transaction;
 
 // A kind is counted as often as it is due, of transaction y, at bank b.
@@ -22,12 +21,10 @@ pub fn bank_agrees(banks: u16, x: Transaction, y: usize, b: u8, counts: &[u32; 2
     requires { (y < 256) × (b < 16) }
     ensures { result ≡ bank_agrees banks x y (number_at counts.now) b }
 {
-    let act = agrees_at(banks, x, y, 0, b, counts);
-    let rd = agrees_at(banks, x, y, 1, b, counts);
-    let rda = agrees_at(banks, x, y, 2, b, counts);
-    let wr = agrees_at(banks, x, y, 3, b, counts);
-    let wra = agrees_at(banks, x, y, 4, b, counts);
-    let refresh = agrees_at(banks, x, y, 5, b, counts);
-    let reads = both_of(rda, both_of(rd, both_of(act, true)));
-    both_of(refresh, both_of(wra, both_of(wr, reads)))
+    agrees_at(banks, x, y, 5, b, counts)
+        && agrees_at(banks, x, y, 4, b, counts)
+        && agrees_at(banks, x, y, 3, b, counts)
+        && agrees_at(banks, x, y, 2, b, counts)
+        && agrees_at(banks, x, y, 1, b, counts)
+        && agrees_at(banks, x, y, 0, b, counts)
 }

@@ -1,5 +1,6 @@
 -- The pass over written commands: what it leaves at each number.
 -- Assumes nothing.
+use Rattle.std.specs.Prelude.{Some}
 use Prim.Native.Nat.{ℕ, zero, suc, ◌+◌, ◌*◌, ◌<◌}
 use native.Mathlib.Omega.{arith}
 use mathlib.Core.Path.{◌≡◌, refl, sym, ap, ◌∙◌, subst}
@@ -13,7 +14,6 @@ use borrow.Author.Tests.{ltb-true, eq-eqb, ne_eqb}
 use Rattle.records.specs.Tests.{pick, every}
 use Rattle.records.specs.declared.command.Command.{Command}
 use Rattle.records.specs.Command.{command_at, commands_from}
-use Rattle.rules.specs.declared.state.Stamp.TheVariants.{At}
 use Rattle.rules.specs.Kinds.{can_end}
 use Rattle.rules.specs.Pattern.{onto}
 use Rattle.rules.specs.Finish.{last_command_in, last_command}
@@ -28,7 +28,7 @@ onto_last [] c h = refl
 onto_last (r ∷ cs) c h = onto_last cs c (r ∷ h)
 
 last_more : (k : ℕ) (cs : List Command) (c : Command)
-    → last_command k (cs ++ (c ∷ [])) ≡ pick (eqb c.number k && can_end c.kind) (At c.cycle) (last_command k cs)
+    → last_command k (cs ++ (c ∷ [])) ≡ pick (eqb c.number k && can_end c.kind) (Some c.cycle) (last_command k cs)
 last_more k cs c = ap (last_command_in k) (onto_last cs c [])
 
 and_false : (x : Bool) → (x && false) ≡ false
@@ -40,7 +40,7 @@ module _ (cs : List Command) (f₀ f : List ℕ) (m : Marked cs f₀ f) (c : Com
   pub marks : can_end c.kind ≡ true → c.number < length f → Marked (cs ++ (c ∷ [])) f₀ (set f c.number c.cycle)
   marks e p = record { size = length-set f c.number c.cycle ∙ m.size; each = λ k. ⊎_elim (here k) (there k) (same? k c.number) }
     where
-      at_last : (k : ℕ) (b : Bool) → eqb c.number k ≡ b → last_command k (cs ++ (c ∷ [])) ≡ pick b (At c.cycle) (last_command k cs)
+      at_last : (k : ℕ) (b : Bool) → eqb c.number k ≡ b → last_command k (cs ++ (c ∷ [])) ≡ pick b (Some c.cycle) (last_command k cs)
       at_last k true q = last_more k cs c ∙ rw (q, e)
       at_last k false q = last_more k cs c ∙ rw (q)
 

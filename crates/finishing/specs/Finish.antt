@@ -1,16 +1,15 @@
 -- What the two passes for the finishing cycles leave.
-use Rattle.std.specs.Prelude.{ℕ, ◌*◌, ◌≤◌, ◌<◌, ◌≡◌, List, length, get_or}
+use Rattle.std.specs.Prelude.{ℕ, ◌*◌, ◌≤◌, ◌<◌, ◌≡◌, List, length, get_or, Some, None}
+use Rattle.rules.specs.Types.{Stamp}
 use Rattle.records.specs.declared.table.Table.{Table}
 use Rattle.records.specs.declared.command.Command.{Command}
 use Rattle.records.specs.Transaction.{later_at}
-use Rattle.rules.specs.declared.state.Stamp.{Stamp}
-use Rattle.rules.specs.declared.state.Stamp.TheVariants.{Never, At}
 use Rattle.rules.specs.Finish.{last_command, finish_of}
 
 -- a stamp's cycle, d for never
 abbrev pub cycle_or : ℕ → Stamp → ℕ
-cycle_or d Never = d
-cycle_or d (At c) = c
+cycle_or d None = d
+cycle_or d (Some c) = c
 
 -- at each number the cycle of the last command of it, and else what stood there
 pub record Marked (cs : List Command) (f₀ f : List ℕ) : Type 0 where

@@ -14,14 +14,10 @@ pub fn mark(bytes: &[u8], m: usize, finishes: &mut [u32])
     requires { (8 * m ≤ length bytes.now) × (every (λ c. ltb c.number (length finishes.old)) (commands_from bytes.now m 0) ≡ true) }
     ensures { Marked (commands_from bytes.now m 0) finishes.old finishes.new }
 {
-    let mut j = 0;
-    while j < m {
+    for j in 0..m {
         let c = command_at(bytes, 8 * j);
-        j = j + 1;
-        let kind = c.kind;
-        if can_end(kind) {
-            let i = c.number as usize;
-            finishes[i] = c.cycle;
+        if can_end(c.kind) {
+            finishes[c.number as usize] = c.cycle;
         }
     }
 }
@@ -33,12 +29,12 @@ pub fn finish_of(refresh: bool, write: bool, c: u32, rl: u16, b: u16, rfc: u16) 
     ensures { result ≡ pick refresh (c + rfc) (pick write c (c + rl + b)) }
 {
     if refresh {
-        return c + rfc as u32;
+        c + rfc as u32
+    } else if write {
+        c
+    } else {
+        c + rl as u32 + b as u32
     }
-    if write {
-        return c;
-    }
-    c + rl as u32 + b as u32
 }
 
 // For each of the first n transactions the cycle of its last command becomes its finishing cycle.
@@ -46,13 +42,10 @@ pub fn finish_all(t: Table, list: &[u8], n: usize, finishes: &mut [u32])
     requires { (8 * n ≤ length list.now) × (n ≤ length finishes.old) × ((k : ℕ) → k < n → get_or finishes.old k 0 < 100000000) }
     ensures { Finished t list.now n finishes.old finishes.new }
 {
-    let mut k: usize = 0;
-    while k < n {
+    for k in 0..n {
         let x = later_at(list, 8 * k);
         let refresh = x.kind == 2;
         let write = x.kind == 1;
-        let c = finishes[k];
-        finishes[k] = finish_of(refresh, write, c, t.rl, t.b, t.rfc);
-        k = k + 1;
+        finishes[k] = finish_of(refresh, write, finishes[k], t.rl, t.b, t.rfc);
     }
 }

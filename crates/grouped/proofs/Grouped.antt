@@ -9,6 +9,7 @@ use mathlib.Core.List.{List, [], ◌∷◌, map}
 use lib.Dec.{eqb}
 use lib.ListN.{get_or, get_or-map}
 use borrow.Author.Tests.{eq-eqb}
+use Rattle.std.proofs.Math.Bool.{and_comm}
 use Rattle.records.specs.Tests.{pick, all_of, every_below}
 use Rattle.records.specs.declared.table.Table.{Table}
 use Rattle.rules.specs.declared.state.Bank.{Bank}
@@ -58,18 +59,12 @@ own_first n own f l y (inr p) = ap (λ (b : Bool). f own && b) p ∙ on (f own) 
     on false q = below_not n f own l q
 
 -- a test made after all others is a part of the rule it belongs to
-turned : (x y : Bool) → (x && y) ≡ (y && x)
-turned true true = refl
-turned true false = refl
-turned false true = refl
-turned false false = refl
-
 act_and : (o h c d f g y : Bool) → (all_of (not o ∷ h ∷ c ∷ d ∷ f ∷ true ∷ true ∷ true ∷ g ∷ []) && y) ≡ all_of (not o ∷ h ∷ c ∷ (d && y) ∷ f ∷ true ∷ true ∷ true ∷ g ∷ [])
 act_and true h c d f g y = refl
 act_and false false c d f g y = refl
 act_and false true false d f g y = refl
 act_and false true true false f g y = refl
-act_and false true true true f g y = turned (f && (g && true)) y
+act_and false true true true f g y = and_comm (f && (g && true)) y
 
 data_and : (o c f y : Bool) → (all_of (o ∷ true ∷ true ∷ true ∷ true ∷ c ∷ f ∷ []) && y) ≡ all_of (o ∷ true ∷ true ∷ true ∷ true ∷ c ∷ (f && y) ∷ [])
 data_and false c f y = refl

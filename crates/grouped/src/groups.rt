@@ -5,10 +5,9 @@ ghost use Rattle.rules.specs.Square.{square};
 ghost use Rattle.rules.specs.State.{far_by, acts_far, data_far};
 ghost use Rattle.timing.specs.Kept.{stamp_of, told_group, group_opened, group_moved};
 
-use distances::square::{rrd_of, wide};
+use distances::square::rrd_of;
 use records::table::Table;
-use records::tests::not_of;
-use timing::kept::{KeptGroup, either_64, kept_far, since};
+use timing::kept::{KeptGroup, kept_far, since};
 
 // "a bank's group is its number modulo the number of groups". With one group nothing is divided.
 pub fn group_of(b: u8, groups: u16) -> usize
@@ -16,9 +15,10 @@ pub fn group_of(b: u8, groups: u16) -> usize
     ensures { (result ≡ b % groups) × (result < groups) }
 {
     if groups == 1 {
-        return 0;
+        0
+    } else {
+        usize::from(u16::from(b) % groups)
     }
-    (b as u16 % groups) as usize
 }
 
 // Rule 6: an ACT to a bank of the group `own` at cycle c is far enough from each group's latest ACT.
@@ -26,14 +26,12 @@ pub fn acts_far(t: Table, groups: [KeptGroup; 8], own: usize, c: u64) -> bool
     requires { t.groups ≤ 8 }
     ensures { result ≡ acts_far t (map told_group groups) own c }
 {
-    let n = t.groups as usize;
-    let mut g: usize = 0;
-    while g < n {
-        let k = groups[g];
-        if not_of(since(k.act, wide(rrd_of(t, g == own)), c)) {
+    let n = usize::from(t.groups);
+    for g in 0..n {
+        let apart = u32::from(rrd_of(t, g == own));
+        if !since(groups[g].act, apart, c) {
             return false;
         }
-        g = g + 1;
     }
     true
 }
@@ -51,9 +49,10 @@ pub fn far_from(
     ensures { result ≡ far_by (pick same near away) (stamp_of rd) (stamp_of wr) write c }
 {
     if same {
-        return kept_far(near, rd, wr, write, c);
+        kept_far(near, rd, wr, write, c)
+    } else {
+        kept_far(away, rd, wr, write, c)
     }
-    kept_far(away, rd, wr, write, c)
 }
 
 // Rule 9: a data command to a bank of the group `own` at cycle c, a write or not, is far enough from each group's latest RD and WR.
@@ -69,14 +68,11 @@ pub fn data_far(
     requires { (t.groups ≤ 8) × (near ≡ square t true) × (away ≡ square t false) }
     ensures { result ≡ data_far t (map told_group groups) own write c }
 {
-    let count = t.groups as usize;
-    let mut g: usize = 0;
-    while g < count {
+    for g in 0..usize::from(t.groups) {
         let k = groups[g];
-        if not_of(far_from(near, away, g == own, k.rd, k.wr, write, c)) {
+        if !far_from(near, away, g == own, k.rd, k.wr, write, c) {
             return false;
         }
-        g = g + 1;
     }
     true
 }
@@ -85,22 +81,16 @@ pub fn data_far(
 pub fn group_opened(k: KeptGroup, next: u64) -> KeptGroup
     ensures { result ≡ group_opened k next }
 {
-    KeptGroup {
-        act: next,
-        rd: k.rd,
-        wr: k.wr,
-    }
+    KeptGroup { act: next, ..k }
 }
 
 // And after a data command, a write or not.
 pub fn group_moved(k: KeptGroup, write: bool, next: u64) -> KeptGroup
     ensures { result ≡ group_moved k write next }
 {
-    let rd = either_64(write, k.rd, next);
-    let wr = either_64(write, next, k.wr);
     KeptGroup {
-        act: k.act,
-        rd: rd,
-        wr: wr,
+        rd: if write { k.rd } else { next },
+        wr: if write { next } else { k.wr },
+        ..k
     }
 }

@@ -15,17 +15,12 @@ pub fn due(t: Table, list: &[u8], n: usize) -> Counts
     requires { Listed t list.now n }
     ensures { Counted t list.now n result }
 {
-    let mut k = 0;
-    let mut acts: u32 = 0;
-    let mut datas: u32 = 0;
-    while k < n {
+    let mut acts = 0;
+    let mut datas = 0;
+    for k in 0..n {
         let x = later_at(list, 8 * k);
-        acts = acts + size_in(false, x.kind, x.bi, x.bc);
-        datas = datas + size_in(true, x.kind, x.bi, x.bc);
-        k = k + 1;
+        acts += size_in(false, x.kind, x.bi, x.bc);
+        datas += size_in(true, x.kind, x.bi, x.bc);
     }
-    Counts {
-        acts: acts,
-        datas: datas,
-    }
+    Counts { acts, datas }
 }

@@ -12,6 +12,7 @@ use records::table::Table;
 use records::transaction::Transaction;
 
 // The command that stands there, if any does; `act` is the place in the ACT queue of the ACT of its bank, `arrival` its transaction's.
+// `there` stands beside the values, with no Option: the engines read the bank of a head and its group whether it stands there or not, with no branch.
 #[derive(Clone, Copy)]
 pub struct Head {
     pub there: bool,
@@ -44,9 +45,10 @@ pub fn bank_at(t: Table, x: Transaction, k: u32) -> u8
     let banks = t.banks as u32;
     let past = x.start as u32 + k;
     if past < banks {
-        return past as u8;
+        past as u8
+    } else {
+        (past - banks) as u8
     }
-    (past - banks) as u8
 }
 
 // The ACT of transaction x, number i, that `offset` of its ACTs come before, or its REF; `before` stand before the transaction.
@@ -64,11 +66,10 @@ pub fn act_head(t: Table, x: Transaction, i: usize, before: u32, offset: u32) ->
             arrival: x.arrival,
         };
     }
-    let bank = bank_at(t, x, offset);
     Head {
         there: true,
         kind: Kind::Act,
-        bank: bank,
+        bank: bank_at(t, x, offset),
         number: i as u16,
         act: before + offset,
         arrival: x.arrival,
@@ -83,12 +84,10 @@ pub fn data_head(t: Table, x: Transaction, i: usize, before: u32, offset: u32) -
     let bc = x.bc as u32;
     let k = offset / bc;
     let last = offset % bc + 1 == bc;
-    let bank = bank_at(t, x, k);
-    let kind = data_kind(x.kind == 1, last);
     Head {
         there: true,
-        kind: kind,
-        bank: bank,
+        kind: data_kind(x.kind == 1, last),
+        bank: bank_at(t, x, k),
         number: i as u16,
         act: before + k,
         arrival: x.arrival,

@@ -1,5 +1,5 @@
 // Where the two queues stand: found once by the counts of a state, and then moved on, command by command. `datas` tells which queue: the data
-// queue, or else the ACT queue.
+// queue, or else the ACT queue; it is a value, since the definitions (`queue_of`, `left_at`, `Stands`) take it.
 ghost use Rattle.std.specs.Prelude.{◌≡◌, true, false, ◌+◌, ◌*◌, ◌≤◌, ◌<◌, eqb};
 ghost use Rattle.records.specs.Tests.{pick};
 ghost use Rattle.records.specs.Transaction.{later_from};
@@ -44,9 +44,10 @@ pub fn size_in(datas: bool, kind: u8, bi: u8, bc: u8) -> u32
     ensures { result ≡ pick datas (bi * bc) (pick (eqb kind 2) 1 bi) }
 {
     if datas {
-        return bi as u32 * bc as u32;
+        bi as u32 * bc as u32
+    } else {
+        acts_in(kind, bi)
     }
-    acts_in(kind, bi)
 }
 
 // The place, inside a transaction or past the last, at which as many commands have left. From a place at which one command more has left it
@@ -55,27 +56,25 @@ pub fn seek(t: Table, list: &[u8], n: usize, datas: bool, from: Place) -> Place
     requires { Listed t list.now n × Placed t list.now n from }
     ensures { Found t list.now n datas (left_at t list.now datas from) result }
 {
-    let mut k = from.number;
     let mut offset = from.offset;
     let mut before = from.before;
-    while k < n {
-        let x = later_at(list, 8 * k);
+    for number in from.number..n {
+        let x = later_at(list, 8 * number);
         let size = size_in(datas, x.kind, x.bi, x.bc);
         if offset < size {
             return Place {
-                number: k,
-                offset: offset,
-                before: before,
+                number,
+                offset,
+                before,
             };
         }
-        offset = offset - size;
-        before = before + acts_in(x.kind, x.bi);
-        k = k + 1;
+        offset -= size;
+        before += acts_in(x.kind, x.bi);
     }
     Place {
-        number: k,
-        offset: offset,
-        before: before,
+        number: n,
+        offset,
+        before,
     }
 }
 
@@ -101,10 +100,7 @@ pub fn queue_from(t: Table, list: &[u8], n: usize, datas: bool, from: Place) -> 
 {
     let place = seek(t, list, n, datas, from);
     let head = head_at(t, list, n, datas, place);
-    Queue {
-        place: place,
-        head: head,
-    }
+    Queue { place, head }
 }
 
 // The data queue, or the ACT queue, that `count` commands have left.
@@ -125,11 +121,9 @@ pub fn advance(t: Table, list: &[u8], n: usize, datas: bool, q: Queue) -> Queue
     requires { Listed t list.now n × Placed t list.now n q.place × (q.place.offset < 4294967295) }
     ensures { Stands t list.now n datas (left_at t list.now datas q.place + 1) result }
 {
-    let p = q.place;
     let next = Place {
-        number: p.number,
-        offset: p.offset + 1,
-        before: p.before,
+        offset: q.place.offset + 1,
+        ..q.place
     };
     queue_from(t, list, n, datas, next)
 }
@@ -139,7 +133,8 @@ pub fn queues_after(t: Table, list: &[u8], n: usize, acts: u32, datas: u32) -> Q
     requires { Listed t list.now n }
     ensures { BothStand t list.now n acts datas result }
 {
-    let a = queue_after(t, list, n, false, acts);
-    let d = queue_after(t, list, n, true, datas);
-    Queues { acts: a, datas: d }
+    Queues {
+        acts: queue_after(t, list, n, false, acts),
+        datas: queue_after(t, list, n, true, datas),
+    }
 }

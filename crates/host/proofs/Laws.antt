@@ -1,5 +1,6 @@
 -- The commands of a built schedule, of a capture and of a pattern are counted in 32 bits.
 -- Assumes nothing.
+use Rattle.std.specs.Prelude.{Result, Ok, Err}
 use Prim.Native.Nat.{ℕ, ◌+◌, ◌≤◌, ◌<◌}
 use mathlib.Core.Bool.{Bool, true, false}
 use mathlib.Core.Path.{◌≡◌, refl, ◌∙◌}
@@ -9,8 +10,6 @@ use lib.Dec.{eqb}
 use lib.ListN.{length}
 use borrow.Author.Tests.{eqb-true}
 use Rattle.records.specs.declared.table.Table.{Table}
-use Rattle.records.specs.declared.table.TableRead.{TableRead}
-use Rattle.records.specs.declared.table.TableRead.TheVariants.{Read, Refused}
 use Rattle.records.specs.declared.transaction.Transaction.{Transaction}
 use Rattle.records.specs.declared.refusal.Refusal.{Refusal}
 use Rattle.records.specs.Tests.{pick}
@@ -24,17 +23,10 @@ use Rattle.rules.specs.Queues.{act_queue, data_queue}
 use Rattle.rules.proofs.queues.Queue.{act_length, data_length}
 use Rattle.rules.proofs.shown.Built.{each_fits, built_count}
 use Rattle.heads.proofs.Laws.{acts_most, datas_most}
-use Rattle.capture.specs.declared.answer.CaptureJudged.TheVariants.{Verdict, Refused as NotCaptured}
 use Rattle.capture.specs.Answer.{commands_seen, capture_refusal, position_of, Captured, captured}
 use Rattle.capture.proofs.Refusals.{taken}
-use Rattle.shortest.specs.declared.answer.ShortestAnswer.{ShortestAnswer}
-use Rattle.shortest.specs.declared.answer.ShortestAnswer.TheVariants.{Pattern, Refused as NoPattern}
-use Rattle.lists.specs.declared.check.Checked.{Checked}
-use Rattle.lists.specs.declared.check.Checked.TheVariants.{Fine, Refused as NotFine}
 use Rattle.lists.specs.Check.{check_list, check_bytes}
 use Rattle.lists.proofs.Checks.{into_256, into_list, fine_fits}
-use Rattle.builder.specs.declared.build.BuildAnswer.{BuildAnswer}
-use Rattle.builder.specs.declared.build.BuildAnswer.TheVariants.{Built, Refused as NotBuilt}
 use Rattle.builder.specs.Build.{LeavesBuild}
 use Rattle.promises.specs.Admit.{admitted}
 use Rattle.promises.specs.Schedules.{NothingBuilt, BuildsChecked, Schedules}
@@ -52,27 +44,27 @@ module _ (l : List Transaction) (b₀ b f₀ f : List ℕ) where
       let each = each_fits τ acc l fit in
       omega (arith, few_listed τ l fit, act_length τ l, data_length τ l, acts_most τ l each, datas_most τ l each)
 
-  leaves_few : (τ : Table) → Accepted τ → list_fits τ l ≡ true → (v : BuildAnswer) → LeavesBuild τ l b₀ b f₀ f v → count_of v ≤ 69632
-  leaves_few τ acc fit (Built e n) h =
+  leaves_few : (τ : Table) → Accepted τ → list_fits τ l ≡ true → (v : Result (ℕ × ℕ) Refusal) → LeavesBuild τ l b₀ b f₀ f v → count_of v ≤ 69632
+  leaves_few τ acc fit (Ok (e, n)) h =
       omega (arith, h.2.count, built_count τ acc l fit h.2.schedule h.2.built, due_few τ acc fit)
-  leaves_few τ acc fit (NotBuilt x) h = omega arith
+  leaves_few τ acc fit (Err x) h = omega arith
 
-  nothing_few : (x : Refusal) (v : BuildAnswer) → NothingBuilt x b₀ b f₀ f v → count_of v ≤ 69632
+  nothing_few : (x : Refusal) (v : Result (ℕ × ℕ) Refusal) → NothingBuilt x b₀ b f₀ f v → count_of v ≤ 69632
   nothing_few x v h = rw h.0 (omega arith)
 
-  checked_few : (τ : Table) → Accepted τ → (c : Checked) → (c ≡ Fine → list_fits τ l ≡ true) → (v : BuildAnswer) → BuildsChecked c τ l b₀ b f₀ f v → count_of v ≤ 69632
+  checked_few : (τ : Table) → Accepted τ → (c : Result Unit Refusal) → (c ≡ Ok tt → list_fits τ l ≡ true) → (v : Result (ℕ × ℕ) Refusal) → BuildsChecked c τ l b₀ b f₀ f v → count_of v ≤ 69632
   unfolding BuildsChecked
-  checked_few τ acc Fine fit v h = leaves_few τ acc (fit refl) v h
-  checked_few τ acc (NotFine x) fit v h = nothing_few x v h
+  checked_few τ acc (Ok _) fit v h = leaves_few τ acc (fit refl) v h
+  checked_few τ acc (Err x) fit v h = nothing_few x v h
 
-  schedules_few : (check : Table → Checked) → ((τ : Table) → check τ ≡ Fine → list_fits τ l ≡ true) → (a : TableRead) → ((τ : Table) → a ≡ Read τ → Accepted τ)
-      → (v : BuildAnswer) → Schedules check a l b₀ b f₀ f v → count_of v ≤ 69632
+  schedules_few : (check : Table → Result Unit Refusal) → ((τ : Table) → check τ ≡ Ok tt → list_fits τ l ≡ true) → (a : Result Table Refusal) → ((τ : Table) → a ≡ Ok τ → Accepted τ)
+      → (v : Result (ℕ × ℕ) Refusal) → Schedules check a l b₀ b f₀ f v → count_of v ≤ 69632
   unfolding Schedules
-  schedules_few check fit (Read τ) acc v h = checked_few τ (acc τ refl) (check τ) (fit τ) v h
-  schedules_few check fit (Refused x) acc v h = nothing_few x v h
+  schedules_few check fit (Ok τ) acc v h = checked_few τ (acc τ refl) (check τ) (fit τ) v h
+  schedules_few check fit (Err x) acc v h = nothing_few x v h
 
 -- of the list's bytes s, records of 8 where `later`, else of 4, and of a list l
-module _ (expected : ℕ) (table b₀ b f₀ f : List ℕ) (v : BuildAnswer) where
+module _ (expected : ℕ) (table b₀ b f₀ f : List ℕ) (v : Result (ℕ × ℕ) Refusal) where
   pub few_of_bytes : (later : Bool) (s : List ℕ) → Schedules (λ τ. check_bytes later τ s) (admitted expected table) (list_of later s) b₀ b f₀ f v → count_of v < 4294967296
   few_of_bytes later s h =
       let few = schedules_few (list_of later s) b₀ b f₀ f (λ τ. check_bytes later τ s)
@@ -94,17 +86,17 @@ module _ (s b : List ℕ) where
   captured_few τ = on (eqb z 0) refl
     where
       on : (t : Bool) → eqb z 0 ≡ t → commands_written (pick {A = Captured} t
-          (record { answer = Verdict τ.edition (length (commands_seen s)) (judge τ (commands_seen s)); buffer = over (bytes_of_all (commands_seen s)) b })
-          (record { answer = NotCaptured (refusal z (position_of z s) τ.edition); buffer = b })).answer < 4294967296
+          (record { answer = Ok (τ.edition, length (commands_seen s), judge τ (commands_seen s)); buffer = over (bytes_of_all (commands_seen s)) b })
+          (record { answer = Err (refusal z (position_of z s) τ.edition); buffer = b })).answer < 4294967296
       on true e = let k = taken s (length b) (eqb-true z 0 e) in omega (arith, k.few, k.commands)
       on false e = omega arith
 
-  pub few_seen : (a : TableRead) → commands_written (capturing a s b).answer < 4294967296
+  pub few_seen : (a : Result Table Refusal) → commands_written (capturing a s b).answer < 4294967296
   unfolding capturing
-  few_seen (Read τ) = captured_few τ
-  few_seen (Refused x) = omega arith
+  few_seen (Ok τ) = captured_few τ
+  few_seen (Err x) = omega arith
 
 -- a pattern has at most 6 records
-pub few_found : (a : TableRead) (type bi bc most : ℕ) (b₀ b : List ℕ) (v : ShortestAnswer) → ShortestTold a type bi bc most b₀ b v → records_found v < 4294967296
-few_found a type bi bc most b₀ b (Pattern e L n) h = omega (arith, shortest_few a type bi bc most b₀ b e L n h)
-few_found a type bi bc most b₀ b (NoPattern x) h = omega arith
+pub few_found : (a : Result Table Refusal) (type bi bc most : ℕ) (b₀ b : List ℕ) (v : Result (ℕ × ℕ × ℕ) Refusal) → ShortestTold a type bi bc most b₀ b v → records_found v < 4294967296
+few_found a type bi bc most b₀ b (Ok (e, L, n)) h = omega (arith, shortest_few a type bi bc most b₀ b e L n h)
+few_found a type bi bc most b₀ b (Err x) h = omega arith

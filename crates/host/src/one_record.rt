@@ -64,10 +64,10 @@ pub fn skv_write_transaction(kind: u8, start: u8, bi: u8, bc: u8, out: &mut [u8]
     ensures { Writes (write_transaction (transaction kind start bi bc) out.old) result out.new }
 {
     let x = Transaction {
-        kind: kind,
-        start: start,
-        bi: bi,
-        bc: bc,
+        kind,
+        start,
+        bi,
+        bc,
         arrival: 0,
     };
     of_written(write_transaction(x, out))
@@ -84,11 +84,11 @@ pub fn skv_write_later(kind: u8, start: u8, bi: u8, bc: u8, arrival: u32, out: &
     ensures { Writes (write_later (arriving (transaction kind start bi bc) arrival) out.old) result out.new }
 {
     let x = Transaction {
-        kind: kind,
-        start: start,
-        bi: bi,
-        bc: bc,
-        arrival: arrival,
+        kind,
+        start,
+        bi,
+        bc,
+        arrival,
     };
     of_written(write_later(x, out))
 }
@@ -114,10 +114,6 @@ pub fn skv_read_capture_record(bytes: &[u8]) -> CaptureRecordAnswer
 pub fn skv_write_capture_record(stamp: u16, kind: u8, bank: u8, out: &mut [u8]) -> Answer
     ensures { Writes (write_capture_record (capture_record stamp kind bank) out.old) result out.new }
 {
-    let x = CaptureRecord {
-        stamp: stamp,
-        kind: kind,
-        bank: bank,
-    };
+    let x = CaptureRecord { stamp, kind, bank };
     of_written(write_capture_record(x, out))
 }

@@ -7,23 +7,27 @@
 // and for a case that the input cuts short, which is the last.
 #![tactic(auto)]
 
+mod cases;
 mod told;
 
-ghost use Rattle.std.specs.Prelude.{◌≡◌, ◌≤◌, length, take};
+ghost use Rattle.std.specs.Prelude.{◌*◌, ◌≤◌, length};
 
+use cases::{Case, Cases};
 use desk::{
     read_command, read_later, read_table, read_transaction, write_command, write_group_table,
     write_later, write_table, write_transaction,
 };
-use prints::{refused, text};
+use prints::{Refused, Row};
+use reads::bytes::Bytes;
 use reads::read_full;
-use records::command::CommandRead;
-use records::little::{from_le32, num_at};
-use records::table::TableRead;
-use records::transaction::TransactionRead;
+use records::command::Command;
+use records::little::{num_32_at, num_at};
+use records::refusal::Refusal;
+use records::table::Table;
+use records::transaction::Transaction;
 use std::io;
 use std::io::Write;
-use told::{command, later, numbers, transaction, written};
+use told::{Kept, Values, numbers_of};
 use transactions::later::later_at;
 use transactions::transaction::transaction_at;
 
@@ -33,217 +37,145 @@ fn main(rt: HostRuntime) -> io::Result<()> {
     all_cases(&mut rt.stdout(), &input[..n])
 }
 
-fn all_cases<W: Write>(out: &mut W, s: &[u8]) -> io::Result<()> {
-    let mut at = 0;
-    while 2 <= s.len() - at {
-        let from = at + 2;
-        let n = size(s[at + 1]);
-        if s.len() - from < n {
-            break;
-        }
-        let end = from + n;
-        one_case(out, s[at], &s[from..end])?;
-        at = end;
+fn all_cases<W: Write>(out: &mut W, input: &[u8]) -> io::Result<()> {
+    let mut cases = Cases {
+        bytes: Bytes { left: input },
+    };
+    for case in cases.by_ref() {
+        one_case(out, case)?;
     }
-    if at < s.len() {
-        no_case(out)?;
+    if cases.bytes.left.is_empty() {
+        Ok(())
+    } else {
+        no_case(out)
     }
-    Ok(())
 }
 
-fn size(n: u8) -> usize
-    ensures { result ≡ n }
-{
-    n as usize
-}
-
-fn one_case<W: Write>(out: &mut W, call: u8, s: &[u8]) -> io::Result<()> {
-    match call {
+fn one_case<W: Write>(out: &mut W, case: Case<'_>) -> io::Result<()> {
+    let s = case.bytes;
+    match case.call {
         1 => table_line(out, read_table(s)),
-        2 => write_table_line(out, s),
+        2 => {
+            let Some((v, rest)) = s.split_first_chunk::<32>() else {
+                return no_case(out);
+            };
+            let values = numbers_at(v);
+            write_line(out, "write_table", rest, |room: &mut [u8]| {
+                write_table(values, room)
+            })
+        }
         3 => transaction_line(out, read_transaction(s)),
-        4 => write_transaction_line(out, s),
+        4 => {
+            let Some((v, rest)) = s.split_first_chunk::<4>() else {
+                return no_case(out);
+            };
+            let x = transaction_at(v, 0);
+            write_line(out, "write_transaction", rest, |room: &mut [u8]| {
+                write_transaction(x, room)
+            })
+        }
         5 => command_line(out, read_command(s)),
-        6 => write_command_line(out, s),
-        7 => write_group_table_line(out, s),
+        6 => {
+            let Some((v, rest)) = s.split_first_chunk::<8>() else {
+                return no_case(out);
+            };
+            let cycle = num_32_at(v, 0);
+            let (kind, bank) = (v[4], v[5]);
+            let number = num_at(v, 6);
+            write_line(out, "write_command", rest, |room: &mut [u8]| {
+                write_command(cycle, kind, bank, number, room)
+            })
+        }
+        7 => {
+            let Some((v, rest)) = s.split_first_chunk::<40>() else {
+                return no_case(out);
+            };
+            let values = numbers_at(v);
+            write_line(out, "write_group_table", rest, |room: &mut [u8]| {
+                write_group_table(values, room)
+            })
+        }
         8 => later_line(out, read_later(s)),
-        9 => write_later_line(out, s),
+        9 => {
+            let Some((v, rest)) = s.split_first_chunk::<8>() else {
+                return no_case(out);
+            };
+            let x = later_at(v, 0);
+            write_line(out, "write_later", rest, |room: &mut [u8]| {
+                write_later(x, room)
+            })
+        }
         _ => no_case(out),
     }
 }
 
 fn no_case<W: Write>(out: &mut W) -> io::Result<()> {
-    text(out, b"case\n")
+    out.write_all(b"case\n")
 }
 
-fn table_line<W: Write>(out: &mut W, answer: TableRead) -> io::Result<()> {
-    text(out, b"read_table")?;
+fn table_line<W: Write>(out: &mut W, answer: Result<Table, Refusal>) -> io::Result<()> {
     match answer {
-        TableRead::Read(t) => numbers(out, t)?,
-        TableRead::Refused(r) => refused(out, r)?,
+        Ok(t) => writeln!(out, "read_table{}", Row(&numbers_of(t))),
+        Err(r) => writeln!(out, "read_table {}", Refused(r)),
     }
-    text(out, b"\n")
 }
 
-fn transaction_line<W: Write>(out: &mut W, answer: TransactionRead) -> io::Result<()> {
-    text(out, b"read_transaction")?;
+fn transaction_line<W: Write>(out: &mut W, answer: Result<Transaction, Refusal>) -> io::Result<()> {
     match answer {
-        TransactionRead::Read(x) => transaction(out, x)?,
-        TransactionRead::Refused(r) => refused(out, r)?,
+        Ok(x) => writeln!(out, "read_transaction {}", Values(x)),
+        Err(r) => writeln!(out, "read_transaction {}", Refused(r)),
     }
-    text(out, b"\n")
 }
 
-fn later_line<W: Write>(out: &mut W, answer: TransactionRead) -> io::Result<()> {
-    text(out, b"read_later")?;
+fn later_line<W: Write>(out: &mut W, answer: Result<Transaction, Refusal>) -> io::Result<()> {
     match answer {
-        TransactionRead::Read(x) => later(out, x)?,
-        TransactionRead::Refused(r) => refused(out, r)?,
+        Ok(x) => writeln!(out, "read_later {} {}", Values(x), x.arrival),
+        Err(r) => writeln!(out, "read_later {}", Refused(r)),
     }
-    text(out, b"\n")
 }
 
-fn command_line<W: Write>(out: &mut W, answer: CommandRead) -> io::Result<()> {
-    text(out, b"read_command")?;
+fn command_line<W: Write>(out: &mut W, answer: Result<Command, Refusal>) -> io::Result<()> {
     match answer {
-        CommandRead::Read(c) => command(out, c)?,
-        CommandRead::Refused(r) => refused(out, r)?,
+        Ok(c) => writeln!(
+            out,
+            "read_command {} {} {} {}",
+            c.cycle,
+            u8::from(c.kind),
+            c.bank,
+            c.number
+        ),
+        Err(r) => writeln!(out, "read_command {}", Refused(r)),
     }
-    text(out, b"\n")
 }
 
-fn write_table_line<W: Write>(out: &mut W, s: &[u8]) -> io::Result<()> {
-    let from = 32;
-    if s.len() < from {
-        return no_case(out);
-    }
-    if 64 < s.len() - from {
+// What was written over the bytes is shown with all of them.
+fn write_line<W: Write, F: FnOnce(&mut [u8]) -> Result<u16, Refusal>>(
+    out: &mut W,
+    name: &str,
+    bytes: &[u8],
+    write: F,
+) -> io::Result<()>
+    requires { F.IsAlwaysCallable write }
+{
+    if 64 < bytes.len() {
         return no_case(out);
     }
     let mut space = [0u8; 64];
-    let n = fill(&s[from..], &mut space);
-    let room = &mut space[..n];
-    let values = sixteen(s);
-    let answer = write_table(values, room);
-    text(out, b"write_table")?;
-    written(out, answer, room)
-}
-
-fn write_group_table_line<W: Write>(out: &mut W, s: &[u8]) -> io::Result<()> {
-    let from = 40;
-    if s.len() < from {
-        return no_case(out);
+    let room = &mut space[..bytes.len()];
+    room.copy_from_slice(bytes);
+    match write(room) {
+        Ok(edition) => writeln!(out, "{name} edition {edition} {}", Kept(room)),
+        Err(r) => writeln!(out, "{name} {} {}", Refused(r), Kept(room)),
     }
-    if 64 < s.len() - from {
-        return no_case(out);
-    }
-    let mut space = [0u8; 64];
-    let n = fill(&s[from..], &mut space);
-    let room = &mut space[..n];
-    let values = twenty(s);
-    let answer = write_group_table(values, room);
-    text(out, b"write_group_table")?;
-    written(out, answer, room)
-}
-
-fn write_transaction_line<W: Write>(out: &mut W, s: &[u8]) -> io::Result<()> {
-    let from = 4;
-    if s.len() < from {
-        return no_case(out);
-    }
-    if 64 < s.len() - from {
-        return no_case(out);
-    }
-    let mut space = [0u8; 64];
-    let n = fill(&s[from..], &mut space);
-    let room = &mut space[..n];
-    let x = transaction_at(s, 0);
-    let answer = write_transaction(x, room);
-    text(out, b"write_transaction")?;
-    written(out, answer, room)
-}
-
-fn write_later_line<W: Write>(out: &mut W, s: &[u8]) -> io::Result<()> {
-    let from = 8;
-    if s.len() < from {
-        return no_case(out);
-    }
-    if 64 < s.len() - from {
-        return no_case(out);
-    }
-    let mut space = [0u8; 64];
-    let n = fill(&s[from..], &mut space);
-    let room = &mut space[..n];
-    let x = later_at(s, 0);
-    let answer = write_later(x, room);
-    text(out, b"write_later")?;
-    written(out, answer, room)
-}
-
-fn write_command_line<W: Write>(out: &mut W, s: &[u8]) -> io::Result<()> {
-    let from = 8;
-    if s.len() < from {
-        return no_case(out);
-    }
-    if 64 < s.len() - from {
-        return no_case(out);
-    }
-    let mut space = [0u8; 64];
-    let n = fill(&s[from..], &mut space);
-    let room = &mut space[..n];
-    let cycle = from_le32(s[0], s[1], s[2], s[3]);
-    let number = num_at(s, 6);
-    let answer = write_command(cycle, s[4], s[5], number, room);
-    text(out, b"write_command")?;
-    written(out, answer, room)
 }
 
 // The numbers of a table, in range or not.
-fn sixteen(s: &[u8]) -> [u16; 16]
-    requires { 32 ≤ length s.now }
+fn numbers_at<const N: usize>(s: &[u8]) -> [u16; N]
+    requires { 2 * N ≤ length s.now }
 {
-    [
-        num_at(s, 0),
-        num_at(s, 2),
-        num_at(s, 4),
-        num_at(s, 6),
-        num_at(s, 8),
-        num_at(s, 10),
-        num_at(s, 12),
-        num_at(s, 14),
-        num_at(s, 16),
-        num_at(s, 18),
-        num_at(s, 20),
-        num_at(s, 22),
-        num_at(s, 24),
-        num_at(s, 26),
-        num_at(s, 28),
-        num_at(s, 30),
-    ]
-}
-
-fn twenty(s: &[u8]) -> [u16; 20]
-    requires { 40 ≤ length s.now }
-{
-    let mut n = [0u16; 20];
-    let mut k: usize = 0;
-    while k < 20 {
-        n[k] = num_at(s, 2 * k);
-        k += 1;
+    let mut numbers = [0; N];
+    for k in 0..N {
+        numbers[k] = num_at(s, 2 * k);
     }
-    n
-}
-
-// Copies the bytes to the room's start, and answers how many they are.
-fn fill(s: &[u8], room: &mut [u8]) -> usize
-    requires { length s.now ≤ length room.old }
-    ensures in_bounds { result ≤ length room.new }
-    ensures prefix { result ≡ length (take result room.new) }
-{
-    let mut i = 0;
-    while i < s.len() {
-        room[i] = s[i];
-        i += 1;
-    }
-    i
+    numbers
 }

@@ -1,70 +1,37 @@
 // What the calls answer, as numbers, and the buffers, as bytes.
-use commands::command::kind_number;
-use prints::{hex, long, number, refused, small, text};
-use records::command::Command;
-use records::refusal::Written;
+use prints::InHex;
 use records::table::Table;
 use records::transaction::Transaction;
-use std::io;
-use std::io::Write;
+use std::fmt;
 
-pub(crate) fn numbers<W: Write>(out: &mut W, t: Table) -> io::Result<()> {
-    number(out, t.edition)?;
-    number(out, t.banks)?;
-    number(out, t.b)?;
-    number(out, t.ccd)?;
-    number(out, t.rcd)?;
-    number(out, t.rp)?;
-    number(out, t.ras)?;
-    number(out, t.rc)?;
-    number(out, t.rrd)?;
-    number(out, t.faw)?;
-    number(out, t.rl)?;
-    number(out, t.wl)?;
-    number(out, t.rtp)?;
-    number(out, t.wr)?;
-    number(out, t.wtr)?;
-    number(out, t.rfc)?;
-    number(out, t.groups)?;
-    number(out, t.ccdl)?;
-    number(out, t.rrdl)?;
-    number(out, t.wtrl)
+pub(crate) fn numbers_of(t: Table) -> [u16; 20] {
+    [
+        t.edition, t.banks, t.b, t.ccd, t.rcd, t.rp, t.ras, t.rc, t.rrd, t.faw, t.rl, t.wl, t.rtp,
+        t.wr, t.wtr, t.rfc, t.groups, t.ccdl, t.rrdl, t.wtrl,
+    ]
 }
 
-pub(crate) fn transaction<W: Write>(out: &mut W, x: Transaction) -> io::Result<()> {
-    small(out, x.kind)?;
-    small(out, x.start)?;
-    small(out, x.bi)?;
-    small(out, x.bc)
+// The first four values of a transaction.
+#[derive(Clone, Copy)]
+pub(crate) struct Values(pub Transaction);
+
+impl fmt::Display for Values {
+    fn fmt<W: fmt::Write>(&self, f: &mut fmt::Formatter<W>) -> fmt::Result {
+        let x = self.0;
+        write!(f, "{} {} {} {}", x.kind, x.start, x.bi, x.bc)
+    }
 }
 
-pub(crate) fn later<W: Write>(out: &mut W, x: Transaction) -> io::Result<()> {
-    let arrival = x.arrival;
-    transaction(out, x)?;
-    long(out, arrival)
-}
+// All of the buffer that a writer was lent; of no bytes, a dash.
+#[derive(Clone, Copy)]
+pub(crate) struct Kept<'a>(pub &'a [u8]);
 
-pub(crate) fn command<W: Write>(out: &mut W, c: Command) -> io::Result<()> {
-    let k = c.kind;
-    long(out, c.cycle)?;
-    small(out, kind_number(k))?;
-    small(out, c.bank)?;
-    number(out, c.number)
-}
-
-// The end of a writer's line, with all of the buffer it was lent.
-pub(crate) fn written<W: Write>(out: &mut W, answer: Written, room: &[u8]) -> io::Result<()> {
-    match answer {
-        Written::Done(edition) => {
-            text(out, b" edition")?;
-            number(out, edition)?;
+impl fmt::Display for Kept<'_> {
+    fn fmt<W: fmt::Write>(&self, f: &mut fmt::Formatter<W>) -> fmt::Result {
+        if self.0.is_empty() {
+            write!(f, "-")
+        } else {
+            write!(f, "{}", InHex(self.0))
         }
-        Written::Refused(r) => refused(out, r)?,
     }
-    text(out, b" ")?;
-    if room.len() == 0 {
-        text(out, b"-")?;
-    }
-    hex(out, room)?;
-    text(out, b"\n")
 }

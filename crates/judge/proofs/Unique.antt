@@ -1,5 +1,8 @@
 -- Each judge's promise leaves one possible answer, refused or not.
 -- Assumes nothing.
+use Rattle.std.specs.Prelude.{Result, Ok, Err}
+use Rattle.rules.specs.declared.verdict.Verdict.{Verdict}
+use Rattle.records.specs.declared.refusal.Refusal.{Refusal}
 use Prim.Native.Nat.{ℕ, ◌+◌}
 use native.Mathlib.Omega.{arith}
 use mathlib.Core.Path.{◌≡◌, refl, sym, ap, ◌∙◌}
@@ -16,12 +19,9 @@ use Rattle.rules.specs.declared.verdict.PatternVerdict.{PatternVerdict}
 use Rattle.rules.specs.declared.verdict.PatternVerdict.TheVariants.{Accepted, Refused}
 use Rattle.rules.specs.Pattern.{EveryNumberLegal, copies}
 use Rattle.rules.proofs.patterns.FiveDecide.{five_accepted, five_legal}
-use Rattle.judge.specs.declared.answer.Judged.{Judged}
-use Rattle.judge.specs.declared.answer.PatternJudged.{PatternJudged}
-use Rattle.judge.specs.declared.answer.PatternJudged.TheVariants.{Verdict as Said, Refused as NotJudged}
 use Rattle.judge.specs.Answer.{judged, PatternSays, PatternAnswers}
 
-pub judge_schedule_only : (τ : Table) (s : List ℕ) (x y : Judged) → x ≡ judged τ s → y ≡ judged τ s → x ≡ y
+pub judge_schedule_only : (τ : Table) (s : List ℕ) (x y : Result (ℕ × Verdict) Refusal) → x ≡ judged τ s → y ≡ judged τ s → x ≡ y
 judge_schedule_only τ s = one_answer (judged τ s)
 
 module _ (τ : Table) (L : ℕ) (p : List Command) where
@@ -45,8 +45,8 @@ module _ (τ : Table) (L : ℕ) (p : List Command) where
       let z : d + c ≡ c + d = omega arith in
       sym (from_named x c i d f) ∙ (ap (copies τ L p) (sym z) ∙ from_named y d j c g)
 
-pub judge_pattern_only : (τ : Table) (s : List ℕ) (L : ℕ) (x y : PatternJudged) → PatternAnswers τ s L x → PatternAnswers τ s L y → x ≡ y
-judge_pattern_only τ s L (Said e v) (Said f w) p q = rw (p.1, q.1, says_only τ L (commands_in s) v w p.2 q.2)
-judge_pattern_only τ s L (Said e v) (NotJudged r) p q = absurd (q.0 p.0)
-judge_pattern_only τ s L (NotJudged r) (Said e v) p q = absurd (p.0 q.0)
-judge_pattern_only τ s L (NotJudged r) (NotJudged u) p q = ap NotJudged (p.1 ∙ sym q.1)
+pub judge_pattern_only : (τ : Table) (s : List ℕ) (L : ℕ) (x y : Result (ℕ × PatternVerdict) Refusal) → PatternAnswers τ s L x → PatternAnswers τ s L y → x ≡ y
+judge_pattern_only τ s L (Ok (e, v)) (Ok (f, w)) p q = rw (p.1, q.1, says_only τ L (commands_in s) v w p.2 q.2)
+judge_pattern_only τ s L (Ok (e, v)) (Err r) p q = absurd (q.0 p.0)
+judge_pattern_only τ s L (Err r) (Ok (e, v)) p q = absurd (p.0 q.0)
+judge_pattern_only τ s L (Err r) (Err u) p q = ap Err (p.1 ∙ sym q.1)

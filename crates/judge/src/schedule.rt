@@ -6,10 +6,10 @@ ghost use Rattle.rules.specs.State.{Held};
 ghost use Rattle.judge.specs.Answer.{judged};
 ghost use Rattle.copies.specs.Seen.{record_count};
 
-use crate::answer::{Judged, schedule_refusal};
+use crate::answer::check_schedule;
 use crate::copy::judge_copy;
-use distances::square::distances;
-use records::refusal::refuse;
+use copies::grouping::SeveralGroups;
+use records::refusal::Refusal;
 use records::table::Table;
 use rules::verdict::Verdict;
 use timing::kept::kept_fresh;
@@ -19,26 +19,14 @@ pub fn verdict_on(t: Table, s: &[u8]) -> Verdict
     requires { Held t × (record_count s.now ≤ 69632) }
     ensures { result ≡ judge t (commands_in s.now) }
 {
-    let o = judge_copy(
-        t,
-        distances(t, true),
-        distances(t, false),
-        s,
-        0,
-        0,
-        kept_fresh(t.edition),
-    );
-    let v = o.verdict;
-    v
+    judge_copy(SeveralGroups::new(t), s, 0, 0, kept_fresh(t.edition)).verdict
 }
 
-pub fn judge_schedule(t: Table, s: &[u8]) -> Judged
+#[tactic(auto, unfolding(crate::specs::Answer::judged))]
+pub fn judge_schedule(t: Table, s: &[u8]) -> Result<(u16, Verdict), Refusal>
     requires { Held t }
     ensures { result ≡ judged t s.now }
 {
-    let z = schedule_refusal(s.len());
-    if z != 0 {
-        return Judged::Refused(refuse(z, 0, t.edition));
-    }
-    Judged::Verdict(t.edition, verdict_on(t, s))
+    check_schedule(s.len(), t.edition)?;
+    Ok((t.edition, verdict_on(t, s)))
 }

@@ -4,26 +4,31 @@ ghost use Rattle.promises.specs.Admit.{admitted};
 ghost use Rattle.promises.specs.Judging.{judging, PatternTold};
 
 use admission::admit::admit;
-use judge::answer::{Judged, PatternJudged};
 use judge::schedule::judge_schedule;
-use records::table::TableRead;
+use records::refusal::Refusal;
+use rules::verdict::{PatternVerdict, Verdict};
 
 // Numbers 1, 2, 10, 7; then the verdict with the table's edition.
-pub fn judge(expected: u16, table: &[u8], schedule: &[u8]) -> Judged
+pub fn judge(expected: u16, table: &[u8], schedule: &[u8]) -> Result<(u16, Verdict), Refusal>
     ensures { result ≡ judging (admitted expected table.now) schedule.now }
 {
     match admit(expected, table) {
-        TableRead::Read(t) => judge_schedule(t, schedule),
-        TableRead::Refused(r) => Judged::Refused(r),
+        Ok(t) => judge_schedule(t, schedule),
+        Err(r) => Err(r),
     }
 }
 
 // Numbers 1, 2, 10, 7, 8; then a verdict on every number of copies, with the table's edition.
-pub fn judge_pattern(expected: u16, table: &[u8], pattern: &[u8], length: u32) -> PatternJudged
+pub fn judge_pattern(
+    expected: u16,
+    table: &[u8],
+    pattern: &[u8],
+    length: u32,
+) -> Result<(u16, PatternVerdict), Refusal>
     ensures { PatternTold (admitted expected table.now) pattern.now length result }
 {
     match admit(expected, table) {
-        TableRead::Read(t) => judge::pattern::judge_pattern(t, pattern, length),
-        TableRead::Refused(r) => PatternJudged::Refused(r),
+        Ok(t) => judge::pattern::judge_pattern(t, pattern, length),
+        Err(r) => Err(r),
     }
 }

@@ -3,9 +3,8 @@ ghost use Rattle.promises.specs.Admit.{admitted};
 ghost use Rattle.promises.specs.Patterns.{ShortestTold};
 
 use admission::admit::admit;
-use records::table::TableRead;
+use records::refusal::Refusal;
 use search::call::shortest;
-use shortest::answer::ShortestAnswer;
 
 // Numbers 1, 2, 10, 4, 5, 13; then the least length with the table's edition, and its first pattern as command records from the start of `pattern`.
 pub fn shortest_pattern(
@@ -16,11 +15,11 @@ pub fn shortest_pattern(
     bc: u8,
     most: u32,
     pattern: &mut [u8],
-) -> ShortestAnswer
+) -> Result<(u16, u32, usize), Refusal>
     ensures { ShortestTold (admitted expected table.now) kind bi bc most pattern.old pattern.new result }
 {
     match admit(expected, table) {
-        TableRead::Read(t) => shortest(t, kind, bi, bc, most, pattern),
-        TableRead::Refused(r) => ShortestAnswer::Refused(r),
+        Ok(t) => shortest(t, kind, bi, bc, most, pattern),
+        Err(r) => Err(r),
     }
 }

@@ -5,8 +5,8 @@ ghost use Rattle.promises.specs.Admit.{admitted};
 ghost use Rattle.promises.specs.Tracing.{capturing};
 
 use admission::admit::admit;
-use capture::answer::CaptureJudged;
-use records::table::TableRead;
+use records::refusal::Refusal;
+use rules::verdict::Verdict;
 
 // Numbers 1, 2, 10, 7, 11, 5; then the capture as command records from the start of `commands`, and the verdict on them, with the table's edition.
 pub fn judge_capture(
@@ -14,11 +14,11 @@ pub fn judge_capture(
     table: &[u8],
     capture: &[u8],
     commands: &mut [u8],
-) -> CaptureJudged
+) -> Result<(u16, usize, Verdict), Refusal>
     ensures { LeavesCapture (capturing (admitted expected table.now) capture.now commands.old) result commands.new }
 {
     match admit(expected, table) {
-        TableRead::Read(t) => capture::trace::judge_capture(t, capture, commands),
-        TableRead::Refused(r) => CaptureJudged::Refused(r),
+        Ok(t) => capture::trace::judge_capture(t, capture, commands),
+        Err(r) => Err(r),
     }
 }

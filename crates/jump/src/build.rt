@@ -6,7 +6,7 @@ ghost use Rattle.heads.specs.Queue.{Listed};
 ghost use Rattle.engine.specs.Build.{Builds};
 
 use crate::run::run_marked;
-use engine::build::{Schedule, enough};
+use engine::build::{ENOUGH, Schedule};
 use finishing::finish::finish_all;
 use heads::due::due;
 use records::table::Table;
@@ -19,7 +19,7 @@ pub fn build(t: Table, list: &[u8], n: usize, buffer: &mut [u8], finishes: &mut 
 {
     let all = due(t, list, n);
     let start = kept_fresh(t.edition);
-    let r = run_marked(t, list, n, all, start, enough(), buffer, finishes);
+    let r = run_marked(t, list, n, all, start, ENOUGH, buffer, finishes);
     finish_all(t, list, n, finishes);
     Schedule {
         commands: r.commands,

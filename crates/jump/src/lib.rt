@@ -4,3 +4,4 @@
 
 pub mod build;
 pub mod run;
+pub mod straight;

@@ -18,7 +18,7 @@ use heads::due::Counts;
 use heads::queue::{advance, queue_after};
 use records::table::Table;
 use records::tests::{both_of, not_of};
-use soonest::free::{LIMIT, end_of, later_of, ref_head_from, sooner_of};
+use soonest::free::{LIMIT, end_of, ref_head_from};
 use soonest::next::{data_after, data_queue};
 use soonest::over::{latest_of, nine_from, opens_from, ready_from, rests_from};
 use timing::kept::{Kept, KeptBank, either_64, kept_after};
@@ -26,6 +26,7 @@ use timing::kept::{Kept, KeptBank, either_64, kept_after};
 // As the plain engine's `run`; and the cycle of each data command, and of each REF, is stored at its transaction's number. A turn has the earliest cycle
 // of each head and goes there; where both are the same the data command goes. What no command since has changed is known from the turn before: `from_a`,
 // of an ACT at the head of its queue, and `ready`, of the data queue's head by all but rule 9. While the data queue's head has an open bank, no REF goes.
+// Each test is a call, since the proof goes over these steps one by one.
 pub fn run_marked(
     t: Table,
     list: &[u8],
@@ -60,10 +61,8 @@ pub fn run_marked(
         let di = dh.bank as usize;
         let ag = group_of(ah.bank, t.groups);
         let dg = group_of(dh.bank, t.groups);
-        let opens = ah.kind;
-        let moves = dh.kind;
-        let refreshes = is_ref(opens);
-        let write = is_wr(moves);
+        let refreshes = is_ref(ah.kind);
+        let write = is_wr(dh.kind);
         ready = ready_from(knows_d, ready, t, dh, s.banks[di], s.acts);
         let nine = nine_from(
             t.groups,
@@ -74,7 +73,7 @@ pub fn run_marked(
             latest,
             write,
         );
-        let from_d = later_of(ready, nine);
+        let from_d = ready.max(nine);
         from_a = opens_from(
             refreshes,
             knows_a,
@@ -90,7 +89,7 @@ pub fn run_marked(
         if both_of(refreshes, LIMIT <= from_d) {
             from_a = ref_head_from(t, ah, rests_from(t, s), s.refresh);
         }
-        let at = later_of(cycle, sooner_of(from_d, from_a));
+        let at = cycle.max(from_d.min(from_a));
         if end <= at {
             let served = both_of(all.datas <= s.datas, all.acts <= s.acts);
             let stop = either_64(served, cycle, end);
@@ -109,7 +108,7 @@ pub fn run_marked(
             finishes[number] = at as u32;
             k = k + 1;
             d = data_after(t, list, n, d);
-            let closes = is_closing(moves);
+            let closes = is_closing(dh.kind);
             knows_a = dh.bank != ah.bank;
             knows_d = not_of(closes);
             s.cycle = next;

@@ -5,12 +5,35 @@ ghost use Rattle.runner.specs.Running.{running, Runs};
 
 use admission::admit::admit_lent;
 use controller::controller::Controller;
-use controller::run::RunAnswer;
+use controller::run::RunReport;
+use engine::promise::{Engine, Plain};
+use jump::straight::Straight;
 use packing::packed::gather;
+use records::refusal::Refusal;
 use records::transaction::Transaction;
 use runner::running::{has_run, run_held};
 
-// The host's form: the controller is run where it lies, over a lent run of records.
+// The host's form: the controller is run where it lies, over a lent run of records, by either engine.
+fn run_lent<E: Engine>(
+    c: &mut Controller,
+    expected: u16,
+    table: &[u8],
+    list: &[Transaction],
+    count: u32,
+    room: &mut [u8],
+) -> Result<RunReport, Refusal>
+    ensures { Runs (running (λ τ. check_list τ list.now) (admitted expected table.now) c.old list.now count room.old) result c.new room.new }
+{
+    let w = admit_lent(expected, table, list.len());
+    let bytes = gather(list, w.n);
+    let o = run_held::<E>(*c, w, bytes, count, room);
+    if has_run(o.answer) {
+        *c = o.controller;
+    }
+    o.answer
+}
+
+// By the plain engine.
 pub fn run(
     c: &mut Controller,
     expected: u16,
@@ -18,16 +41,10 @@ pub fn run(
     list: &[Transaction],
     count: u32,
     room: &mut [u8],
-) -> RunAnswer
+) -> Result<RunReport, Refusal>
     ensures { Runs (running (λ τ. check_list τ list.now) (admitted expected table.now) c.old list.now count room.old) result c.new room.new }
 {
-    let w = admit_lent(expected, table, list.len());
-    let bytes = gather(list, w.n);
-    let o = run_held(*c, w, bytes, count, room, false);
-    if has_run(o.answer) {
-        *c = o.controller;
-    }
-    o.answer
+    run_lent::<Plain>(c, expected, table, list, count, room)
 }
 
 // One cycle.
@@ -37,7 +54,7 @@ pub fn step(
     table: &[u8],
     list: &[Transaction],
     room: &mut [u8],
-) -> RunAnswer
+) -> Result<RunReport, Refusal>
     ensures { Runs (running (λ τ. check_list τ list.now) (admitted expected table.now) c.old list.now 1 room.old) result c.new room.new }
 {
     run(c, expected, table, list, 1, room)
@@ -51,16 +68,10 @@ pub fn run_straight(
     list: &[Transaction],
     count: u32,
     room: &mut [u8],
-) -> RunAnswer
+) -> Result<RunReport, Refusal>
     ensures { Runs (running (λ τ. check_list τ list.now) (admitted expected table.now) c.old list.now count room.old) result c.new room.new }
 {
-    let w = admit_lent(expected, table, list.len());
-    let bytes = gather(list, w.n);
-    let o = run_held(*c, w, bytes, count, room, true);
-    if has_run(o.answer) {
-        *c = o.controller;
-    }
-    o.answer
+    run_lent::<Straight>(c, expected, table, list, count, room)
 }
 
 pub fn step_straight(
@@ -69,7 +80,7 @@ pub fn step_straight(
     table: &[u8],
     list: &[Transaction],
     room: &mut [u8],
-) -> RunAnswer
+) -> Result<RunReport, Refusal>
     ensures { Runs (running (λ τ. check_list τ list.now) (admitted expected table.now) c.old list.now 1 room.old) result c.new room.new }
 {
     run_straight(c, expected, table, list, 1, room)

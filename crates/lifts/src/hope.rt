@@ -30,17 +30,15 @@ pub fn hope(
     if m == n {
         return lift(t, near, away, length, k, n, items);
     }
-    let mut b: u8 = 0;
-    while b < bi {
-        let bank = b;
-        b = bank + 1;
-        let step = count(items, m, bank);
-        if step <= bc {
-            let order = put(items, m, 0, kind_at(write, bc, step), bank);
-            let some = hope(t, near, away, write, bi, bc, length, n, k, m + 1, order);
-            if some {
-                return true;
-            }
+    for b in 0..bi {
+        let step = count(items, m, b);
+        if bc < step {
+            continue;
+        }
+        let order = put(items, m, 0, kind_at(write, bc, step), b);
+        let some = hope(t, near, away, write, bi, bc, length, n, k, m + 1, order);
+        if some {
+            return true;
         }
     }
     false

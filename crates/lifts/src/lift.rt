@@ -1,5 +1,5 @@
 // Lower bounds of a pattern's cycles, for one order of its commands.
-ghost use Rattle.std.specs.Prelude.{◌≡◌, true, false, map, ◌+◌, max, ◌≤◌, ◌<◌};
+ghost use Rattle.std.specs.Prelude.{◌≡◌, true, false, map, ◌+◌, ◌≤◌, ◌<◌};
 ghost use Rattle.rules.specs.Kinds.{is_ref, is_known};
 ghost use Rattle.rules.specs.Square.{square};
 ghost use Rattle.rules.specs.State.{Held};
@@ -13,16 +13,13 @@ use distances::kinds::{is_act, is_closing, is_wr};
 use grouped::groups::{group_moved, group_of, group_opened};
 use records::command::{Command, Kind};
 use records::table::Table;
-use rules::verdict::Found;
+use rules::verdict::Rule;
 use timing::kept::{KeptBank, KeptGroup, kept_after, kept_fresh};
 
-pub fn is_fine(f: Found) -> bool
+pub fn is_fine(f: Option<Rule>) -> bool
     ensures { result ≡ is_fine f }
 {
-    match f {
-        Found::Fine => true,
-        Found::Broken(_) => false,
-    }
+    matches!(f, None)
 }
 
 // The first cycle from `from` on at which a record breaks no rule, or one above lim. The state is told by its parts, as the rules read them.
@@ -43,18 +40,13 @@ pub fn scan(
     requires { (t.groups ≤ 8) × (near ≡ square t true) × (away ≡ square t false) × (is_known kind ≡ true) × (is_ref kind ≡ false) × (lim < 4611686018427387904) }
     ensures { Scanned (found_at t cycle (told_bank k) (map told_group groups) own (stamp_of a4) (stamp_of refresh) kind) from lim result }
 {
-    let mut c = from;
-    while c <= lim {
-        let here = c;
-        c = here + 1;
-        let f = found_among(
-            t, near, away, cycle, k, groups, own, a4, refresh, kind, here,
-        );
+    for c in from..=lim {
+        let f = found_among(t, near, away, cycle, k, groups, own, a4, refresh, kind, c);
         if is_fine(f) {
-            return here;
+            return c;
         }
     }
-    c
+    from.max(lim + 1)
 }
 
 // A record's bound, in a copy that is `off` cycles later.
@@ -62,7 +54,7 @@ pub fn bound_of(cycle: u32, off: u64) -> u64
     requires { off ≤ 4000000000 }
     ensures { (result ≡ cycle + off) × (result ≤ 4294967295 + off) }
 {
-    cycle as u64 + off
+    u64::from(cycle) + off
 }
 
 // Up to where a record with this bound may go in a copy that is `off` cycles later: a placed one not at all, the others to the last cycle of the copy.
@@ -71,15 +63,10 @@ pub fn limit_of(placed: bool, bound: u64, length: u32, off: u64) -> u64
     ensures { Limit placed bound length off result × (result ≤ 4294967295 + off) }
 {
     if placed {
-        return bound;
+        bound
+    } else {
+        u64::from(length) - 1 + off
     }
-    length as u64 - 1 + off
-}
-
-pub fn later_of(a: u64, b: u64) -> u64
-    ensures { result ≡ max a b }
-{
-    if a < b { b } else { a }
 }
 
 // The place after i, the first after the last; and how many cycles later its copy is.
@@ -96,9 +83,10 @@ pub fn next_shift(n: usize, i: usize, length: u32, off: u64) -> u64
     ensures { result ≡ next_shift n i length off }
 {
     if i + 1 == n {
-        return off + length as u64;
+        off + u64::from(length)
+    } else {
+        off
     }
-    off
 }
 
 // How many records in a row were set out at their bounds.
@@ -129,9 +117,7 @@ pub fn lift(
     let mut off: u64 = 0;
     let mut quiet: u32 = 0;
     let mut i: usize = 0;
-    let mut turn: u32 = 0;
-    while turn < 24000 {
-        turn = turn + 1;
+    for turn in 0..24000u32 {
         let r = x[i];
         let kind = r.kind;
         let b = r.bank;
@@ -152,7 +138,7 @@ pub fn lift(
             s.a4,
             s.refresh,
             kind,
-            later_of(bound, s.cycle),
+            bound.max(s.cycle),
             lim,
         );
         if lim < c {
@@ -164,9 +150,7 @@ pub fn lift(
         }
         x[i] = Command {
             cycle: (c - off) as u32,
-            kind: kind,
-            bank: b,
-            number: r.number,
+            ..r
         };
         off = next_shift(n, i, length, off);
         i = next_place(n, i);
@@ -174,7 +158,7 @@ pub fn lift(
         s.cycle = later;
         if is_act(kind) {
             s.groups[g] = group_opened(own, later);
-            s.acts = s.acts + 1;
+            s.acts += 1;
             s.banks[at] = KeptBank {
                 opened: 1,
                 act: later,
@@ -185,12 +169,12 @@ pub fn lift(
             s.a3 = s.a2;
             s.a2 = s.a1;
             s.a1 = later;
-        } else {
-            let write = is_wr(kind);
-            s.groups[g] = group_moved(own, write, later);
-            s.datas = s.datas + 1;
-            s.banks[at] = kept_after(bank, write, is_closing(kind), later);
+            continue;
         }
+        let write = is_wr(kind);
+        s.groups[g] = group_moved(own, write, later);
+        s.datas += 1;
+        s.banks[at] = kept_after(bank, write, is_closing(kind), later);
     }
     true
 }

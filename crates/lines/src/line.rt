@@ -8,6 +8,7 @@ use records::command::{Command, Kind};
 use records::refusal::Refusal;
 use text::{put_byte, put_number, put_number_then, put_word};
 
+#[tactic(auto, using(crate::proofs::Long::first_long))]
 pub fn put_first_line(out: &mut [u8], at: usize, edition: u16, commands: usize) -> usize
     requires { at + length (first_line edition commands) ≤ length out.old }
     ensures { Puts (first_line edition commands) at result out.old out.new }
@@ -18,6 +19,7 @@ pub fn put_first_line(out: &mut [u8], at: usize, edition: u16, commands: usize) 
     put_number_then(out, c, commands as u64, b'\n')
 }
 
+#[tactic(auto, unfolding(crate::specs::Words::kind_text))]
 fn put_kind(out: &mut [u8], at: usize, k: Kind) -> usize
     requires { at + length (kind_text k) ≤ length out.old }
     ensures { Puts (kind_text k) at result out.old out.new }
@@ -33,6 +35,7 @@ fn put_kind(out: &mut [u8], at: usize, k: Kind) -> usize
     }
 }
 
+#[tactic(auto, using(crate::proofs::Long::kind_long))]
 fn put_kind_then(out: &mut [u8], at: usize, k: Kind) -> usize
     requires { at + length (kind_text k ++ space) ≤ length out.old }
     ensures { Puts (kind_text k ++ space) at result out.old out.new }
@@ -41,17 +44,18 @@ fn put_kind_then(out: &mut [u8], at: usize, k: Kind) -> usize
     put_byte(out, next, b' ')
 }
 
+#[tactic(auto, using(crate::proofs::Long::command_long))]
 pub fn put_command_line(out: &mut [u8], at: usize, c: Command) -> usize
     requires { at + length (command_line c) ≤ length out.old }
     ensures { Puts (command_line c) at result out.old out.new }
 {
-    let kind = c.kind;
     let a = put_number_then(out, at, c.cycle as u64, b' ');
-    let b = put_kind_then(out, a, kind);
+    let b = put_kind_then(out, a, c.kind);
     let d = put_number_then(out, b, c.bank as u64, b' ');
     put_number_then(out, d, c.number as u64, b'\n')
 }
 
+#[tactic(auto, using(crate::proofs::Long::finish_long))]
 pub fn put_finish_line(out: &mut [u8], at: usize, k: usize, cycle: u32) -> usize
     requires { at + length (finish_line k cycle) ≤ length out.old }
     ensures { Puts (finish_line k cycle) at result out.old out.new }
@@ -61,6 +65,7 @@ pub fn put_finish_line(out: &mut [u8], at: usize, k: usize, cycle: u32) -> usize
     put_number_then(out, b, cycle as u64, b'\n')
 }
 
+#[tactic(auto, using(crate::proofs::Long::refused_long))]
 pub fn put_refused_line(out: &mut [u8], at: usize, x: Refusal) -> usize
     requires { at + length (refused_line x) ≤ length out.old }
     ensures { Puts (refused_line x) at result out.old out.new }
@@ -80,6 +85,7 @@ pub fn put_accepted_line(out: &mut [u8], at: usize) -> usize
     put_word(out, at, b"accepted\n")
 }
 
+#[tactic(auto, using(crate::proofs::Long::broken_long))]
 pub fn put_broken_line(out: &mut [u8], at: usize, n: u32, rule: u32) -> usize
     requires { at + length (broken_line n rule) ≤ length out.old }
     ensures { Puts (broken_line n rule) at result out.old out.new }

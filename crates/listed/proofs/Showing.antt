@@ -1,5 +1,7 @@
 -- A listing shows a refusal, or the schedule of the cycle rule with its finishing cycles.
 -- Assumes nothing.
+use Rattle.std.specs.Prelude.{Result, Ok, Err}
+use Rattle.records.specs.declared.refusal.Refusal.{Refusal}
 use Prim.Native.Nat.{ℕ, ◌/◌}
 use mathlib.Core.Path.{◌≡◌, refl, sym, ap, ◌∙◌}
 use mathlib.Core.Bool.{true, false}
@@ -9,8 +11,6 @@ use native.Mathlib.Omega.{arith}
 use lib.ListN.{length, take, drop, replicate}
 use lib.Seq.{take_at}
 use Rattle.records.specs.declared.table.Table.{Table}
-use Rattle.records.specs.declared.table.TableRead.{TableRead}
-use Rattle.records.specs.declared.table.TableRead.TheVariants.{Read, Refused as NoTable}
 use Rattle.records.specs.declared.transaction.Transaction.{Transaction}
 use Rattle.records.specs.declared.command.Command.{Command}
 use Rattle.records.specs.Table.{Accepted}
@@ -21,11 +21,7 @@ use Rattle.records.proofs.Listed.{length_list}
 use Rattle.engine.specs.Build.{finishes_from}
 use Rattle.records.proofs.Written.{read_back}
 use Rattle.engine.proofs.Schedule.{ours, readable, finishes_length}
-use Rattle.builder.specs.declared.build.BuildAnswer.{BuildAnswer}
-use Rattle.builder.specs.declared.build.BuildAnswer.TheVariants.{Built, Refused}
 use Rattle.builder.specs.Build.{Stands}
-use Rattle.lists.specs.declared.check.Checked.{Checked}
-use Rattle.lists.specs.declared.check.Checked.TheVariants.{Fine, Refused as NotFine}
 use Rattle.lists.specs.Check.{check_bytes}
 use Rattle.lists.proofs.Checks.{into_256, into_list, fine_fits}
 use Rattle.promises.specs.Admit.{admitted}
@@ -54,14 +50,14 @@ module _ (τ : Table) (acc : Accepted τ) (l : List Transaction) (fit : list_fit
       ∙ ap (λ (rs : List Command). schedule_text τ.edition rs (take m f)) commands_back
       ∙ ap (schedule_text τ.edition x.schedule) (finishes_back m p)
 
-bytes_fit : (s : List ℕ) (τ : Table) → check_bytes false τ s ≡ Fine → list_fits τ (transactions_in s) ≡ true
+bytes_fit : (s : List ℕ) (τ : Table) → check_bytes false τ s ≡ Ok tt → list_fits τ (transactions_in s) ≡ true
 bytes_fit s τ e = fine_fits τ (transactions_in s) (into_list false τ s 256 (into_256 false τ s ∙ e))
 
 module _ (expected : ℕ) (table list : List ℕ) (b f text : List ℕ) (e n : ℕ) (is : text ≡ schedule_text e (commands_from b n 0) (take (length list / 4) f)) where
-  by_check : (τ : Table) → admitted expected table ≡ Read τ → (c : Checked) → check_bytes false τ list ≡ c
-      → BuildsChecked c τ (transactions_in list) (replicate 65536 0) b (replicate 256 0) f (Built e n) → ShowsSchedule expected table list text
+  by_check : (τ : Table) → admitted expected table ≡ Ok τ → (c : Result Unit Refusal) → check_bytes false τ list ≡ c
+      → BuildsChecked c τ (transactions_in list) (replicate 65536 0) b (replicate 256 0) f (Ok (e, n)) → ShowsSchedule expected table list text
   unfolding BuildsChecked
-  by_check τ r Fine k h =
+  by_check τ r (Ok tt) k h =
       let x = h.2 in
       record {
         τ = τ;
@@ -70,19 +66,19 @@ module _ (expected : ℕ) (table list : List ℕ) (b f text : List ℕ) (e n : �
         built = x.built;
         is = is ∙ text_back τ (read_accepted expected table τ r) (transactions_in list) (bytes_fit list τ k) (replicate 65536 0) b (replicate 256 0) f n x e (length list / 4) (sym (length_list list false)) h.1;
       }
-  by_check τ r (NotFine y) k h = let z = h.0 in let w : ◌≡◌ {A = ℕ} 0 1 = cc in absurd (omega arith)
+  by_check τ r (Err y) k h = let z = h.0 in let w : ◌≡◌ {A = ℕ} 0 1 = cc in absurd (omega arith)
 
-  by_table : (a : TableRead) → admitted expected table ≡ a
-      → Schedules (λ τ. check_bytes false τ list) a (transactions_in list) (replicate 65536 0) b (replicate 256 0) f (Built e n) → ShowsSchedule expected table list text
+  by_table : (a : Result Table Refusal) → admitted expected table ≡ a
+      → Schedules (λ τ. check_bytes false τ list) a (transactions_in list) (replicate 65536 0) b (replicate 256 0) f (Ok (e, n)) → ShowsSchedule expected table list text
   unfolding Schedules
-  by_table (Read τ) r h = by_check τ r (check_bytes false τ list) refl h
-  by_table (NoTable y) r h = let z = h.0 in let w : ◌≡◌ {A = ℕ} 0 1 = cc in absurd (omega arith)
+  by_table (Ok τ) r h = by_check τ r (check_bytes false τ list) refl h
+  by_table (Err y) r h = let z = h.0 in let w : ◌≡◌ {A = ℕ} 0 1 = cc in absurd (omega arith)
 
 pub shows : (expected : ℕ) (table list text : List ℕ) → ListsCall expected table list text → Shows expected table list text
 unfolding answer_text
 shows expected table list text c = by c.answer c.schedules c.is
   where
-    by : (r : BuildAnswer) → Schedules (λ τ. check_bytes false τ list) (admitted expected table) (transactions_in list) (replicate 65536 0) c.room (replicate 256 0) c.finishes r
+    by : (r : Result (ℕ × ℕ) Refusal) → Schedules (λ τ. check_bytes false τ list) (admitted expected table) (transactions_in list) (replicate 65536 0) c.room (replicate 256 0) c.finishes r
         → text ≡ answer_text r c.room (take (length list / 4) c.finishes) → Shows expected table list text
-    by (Built e n) h is = inr (by_table expected table list c.room c.finishes text e n is (admitted expected table) refl h)
-    by (Refused x) h is = inl (x, is)
+    by (Ok (e, n)) h is = inr (by_table expected table list c.room c.finishes text e n is (admitted expected table) refl h)
+    by (Err x) h is = inl (x, is)

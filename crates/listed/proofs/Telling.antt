@@ -1,5 +1,6 @@
 -- The call's answer is what is told, and its text has room.
 -- Assumes nothing.
+use Rattle.std.specs.Prelude.{Result, Ok, Err}
 use Prim.Native.Nat.{ℕ, ◌+◌, ◌-◌, ◌*◌, ◌/◌, ◌≤◌, ◌<◌}
 use mathlib.Core.Bool.{Bool, false}
 use mathlib.Core.Path.{◌≡◌, sym, ap, ◌∙◌, subst}
@@ -14,8 +15,6 @@ use Rattle.records.specs.Told.{refusal}
 use Rattle.records.specs.Little.{num}
 use Rattle.records.specs.Transaction.{transactions_in}
 use Rattle.records.specs.Command.{commands_from}
-use Rattle.builder.specs.declared.build.BuildAnswer.{BuildAnswer}
-use Rattle.builder.specs.declared.build.BuildAnswer.TheVariants.{Built, Refused}
 use Rattle.lists.specs.Check.{check_bytes}
 use Rattle.promises.specs.Admit.{admitted}
 use Rattle.promises.specs.Schedules.{Schedules}
@@ -26,9 +25,9 @@ use Rattle.listed.specs.Listing.{answer_text, ListsCall, ListsBehind, Lists}
 
 -- ---- the call
 
-module _ (expected : ℕ) (table list room finishes : List ℕ) (r : BuildAnswer)
+module _ (expected : ℕ) (table list room finishes : List ℕ) (r : Result (ℕ × ℕ) Refusal)
     (h : Schedules (λ τ. check_bytes false τ list) (admitted expected table) (transactions_in list) (replicate 65536 0) room (replicate 256 0) finishes r) where
-  pub call_built : (e n : ℕ) → r ≡ Built e n → ListsCall expected table list (schedule_text e (commands_from room n 0) (take (length list / 4) finishes))
+  pub call_built : (e n : ℕ) → r ≡ Ok (e, n) → ListsCall expected table list (schedule_text e (commands_from room n 0) (take (length list / 4) finishes))
   unfolding answer_text
   call_built e n p =
       record {
@@ -36,10 +35,10 @@ module _ (expected : ℕ) (table list room finishes : List ℕ) (r : BuildAnswer
         room = room;
         finishes = finishes;
         schedules = h;
-        is = sym (ap (λ (a : BuildAnswer). answer_text a room (take (length list / 4) finishes)) p);
+        is = sym (ap (λ (a : Result (ℕ × ℕ) Refusal). answer_text a room (take (length list / 4) finishes)) p);
       }
 
-  pub call_refused : (x : Refusal) → r ≡ Refused x → ListsCall expected table list (refused_line x)
+  pub call_refused : (x : Refusal) → r ≡ Err x → ListsCall expected table list (refused_line x)
   unfolding answer_text
   call_refused x p =
       record {
@@ -47,11 +46,11 @@ module _ (expected : ℕ) (table list room finishes : List ℕ) (r : BuildAnswer
         room = room;
         finishes = finishes;
         schedules = h;
-        is = sym (ap (λ (a : BuildAnswer). answer_text a room (take (length list / 4) finishes)) p);
+        is = sym (ap (λ (a : Result (ℕ × ℕ) Refusal). answer_text a room (take (length list / 4) finishes)) p);
       }
 
   -- 8,192 commands, 256 finishes, the first line
-  pub call_room : (e n size : ℕ) → r ≡ Built e n → length room ≡ 65536 → length finishes ≡ 256 → 262144 ≤ size
+  pub call_room : (e n size : ℕ) → r ≡ Ok (e, n) → length room ≡ 65536 → length finishes ≡ 256 → 262144 ≤ size
       → (8 * n ≤ length room) × (length list / 4 ≤ length finishes) × (44 + 25 * n + 39 * (length list / 4) ≤ size)
   call_room e n size p a b c =
       let k = built_room expected table false list (replicate 65536 0) room (replicate 256 0) finishes r e n h p in (k.0, k.1, omega arith)

@@ -1,5 +1,7 @@
 -- One text for each input.
 -- Assumes nothing.
+use Rattle.std.specs.Prelude.{Result}
+use Rattle.records.specs.declared.refusal.Refusal.{Refusal}
 use Prim.Native.Nat.{ℕ, ◌/◌}
 use mathlib.Core.Bool.{Bool, true, false}
 use mathlib.Core.Path.{◌≡◌, sym, ap, ◌∙◌}
@@ -9,7 +11,6 @@ use lib.ListN.{length, take, drop, replicate}
 use Rattle.records.specs.Tests.{pick}
 use Rattle.records.specs.Told.{refusal, over}
 use Rattle.records.specs.Little.{num}
-use Rattle.builder.specs.declared.build.BuildAnswer.{BuildAnswer}
 use Rattle.promises.proofs.Unique.{only as desk-only}
 use Rattle.lines.specs.Lines.{refused_line}
 use Rattle.listed.specs.Listing.{answer_text, ListsCall, ListsBehind, Lists}
@@ -18,7 +19,7 @@ use Rattle.listed.specs.Only.{Only}
 call_only : (expected : ℕ) (table list x y : List ℕ) → ListsCall expected table list x → ListsCall expected table list y → x ≡ y
 call_only expected table list x y p q =
     p.is
-    ∙ ap (λ (a : BuildAnswer). answer_text a p.room (take (length list / 4) p.finishes)) same.0
+    ∙ ap (λ (a : Result (ℕ × ℕ) Refusal). answer_text a p.room (take (length list / 4) p.finishes)) same.0
     ∙ ap (λ (b : List ℕ). answer_text q.answer b (take (length list / 4) p.finishes)) same.1
     ∙ ap (λ (f : List ℕ). answer_text q.answer q.room (take (length list / 4) f)) same.2
     ∙ sym q.is

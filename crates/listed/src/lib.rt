@@ -6,7 +6,6 @@ ghost use Rattle.std.specs.Prelude.{◌≤◌, length};
 ghost use Rattle.text.specs.Puts.{Writes};
 ghost use Rattle.listed.specs.Listing.{ListsCall, ListsBehind, Lists};
 
-use builder::build::BuildAnswer;
 use desk::schedule_straight_bytes;
 use printed::answer::{put_refusal, put_schedule};
 use records::little::num_at;
@@ -24,10 +23,8 @@ fn list_call(expected: u16, table: &[u8], list: &[u8], out: &mut [u8]) -> usize
     let n = list.len() / 4;
     let answer = schedule_straight_bytes(expected, table, list, commands, finishes);
     match answer {
-        BuildAnswer::Built(edition, written) => {
-            put_schedule(out, edition, commands, written, finishes, n)
-        }
-        BuildAnswer::Refused(x) => put_refusal(out, x),
+        Ok((edition, written)) => { put_schedule(out, edition, commands, written, finishes, n) }
+        Err(x) => put_refusal(out, x),
     }
 }
 

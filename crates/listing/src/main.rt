@@ -9,12 +9,8 @@ use std::io::Write;
 
 fn main(rt: HostRuntime) -> io::Result<()> {
     let mut input = [0u8; 65536];
-    let n = read_full(&mut rt.stdin(), &mut input)?;
-    list(&mut rt.stdout(), &input[..n])
-}
-
-fn list<W: Write>(out: &mut W, input: &[u8]) -> io::Result<()> {
+    let read = read_full(&mut rt.stdin(), &mut input)?;
     let mut text = [0u8; 262144];
-    let n = listing_of(input, &mut text);
-    out.write_all(&text[..n])
+    let written = listing_of(&input[..read], &mut text);
+    rt.stdout().write_all(&text[..written])
 }

@@ -1,5 +1,6 @@
 -- The promises of `specs/Promise` are kept.
 -- Assumes nothing.
+use Rattle.std.specs.Prelude.{Result, Ok, Err}
 use Prim.Native.Nat.{ℕ, zero, suc, ◌+◌, ◌<◌, ◌≤◌}
 use mathlib.Core.Bool.{Bool, true, false}
 use mathlib.Core.Path.{◌≡◌, refl, sym, ap, ◌∙◌}
@@ -19,9 +20,6 @@ use Rattle.records.specs.Told.{refusal}
 use Rattle.records.specs.Transaction.{record_count, list_of, fits_after, list_fits}
 use Rattle.records.proofs.Listed.{length_list}
 use Rattle.records.proofs.Unique.{one_answer}
-use Rattle.lists.specs.declared.check.Checked.{Checked}
-use Rattle.lists.specs.declared.check.Checked.TheVariants.{Fine, Refused}
-use Rattle.lists.specs.declared.decode.Decoded.TheVariants.{Done, Refused as NotDone}
 use Rattle.lists.specs.Check.{range_from, check_sized, check_list, check_into}
 use Rattle.lists.specs.Packed.{held, packed}
 use Rattle.lists.specs.Decode.{stored, decoded_by, decoding}
@@ -30,7 +28,7 @@ use Rattle.lists.proofs.Checks.{Sized, fine_sized, into_list, fine_fits, fits_fi
 use Rattle.lists.proofs.Packing.{length_packed, held_packed, lent_held}
 use Rattle.lists.proofs.Storing.{length_stored}
 
-no_case : {A : Type 0} (r : Refusal) → Refused r ≡ Fine → A
+no_case : {A : Type 0} (r : Refusal) → ◌≡◌ {A = Result Unit Refusal} (Err r) (Ok tt) → A
 no_case r e = let z : ◌≡◌ {A = ℕ} 0 1 = cc in absurd (omega arith)
 
 -- ---- the lowest
@@ -43,7 +41,7 @@ before_cons : (a : ℕ) (x : Transaction) (l : List Transaction) (j : ℕ) → a
 before_cons a x l zero = refl
 before_cons a x l (suc j) = refl
 
-found : (τ : Table) (a : ℕ) (l : List Transaction) (k : ℕ) (r : Refusal) → range_from τ a l k ≡ Refused r → Found τ a l k r
+found : (τ : Table) (a : ℕ) (l : List Transaction) (k : ℕ) (r : Refusal) → range_from τ a l k ≡ Err r → Found τ a l k r
 unfolding range_from
 found τ a [] k r h = no_case r (sym h)
 found τ a (x ∷ l) k r h = on (fits_after a τ x) refl (found τ x.arrival l (k + 1) r) h
@@ -64,8 +62,8 @@ found τ a (x ∷ l) k r h = on (fits_after a τ x) refl (found τ x.arrival l (
         below zero h = t
         below (suc i) h = ap (λ (b : ℕ). fits_after b τ (kth_in l i)) (before_cons a x l i) ∙ w.lower i (omega arith)
 
-    on : (b : Bool) → fits_after a τ x ≡ b → (range_from τ x.arrival l (k + 1) ≡ Refused r → Found τ x.arrival l (k + 1) r)
-        → pick b (range_from τ x.arrival l (k + 1)) (Refused (refusal 4 k τ.edition)) ≡ Refused r → Found τ a (x ∷ l) k r
+    on : (b : Bool) → fits_after a τ x ≡ b → (range_from τ x.arrival l (k + 1) ≡ Err r → Found τ x.arrival l (k + 1) r)
+        → pick b (range_from τ x.arrival l (k + 1)) (Err (refusal 4 k τ.edition)) ≡ Err r → Found τ a (x ∷ l) k r
     on true t rest h = further t (rest h)
     on false t rest h =
         (0, (cc) ∙ ap (λ (p : ℕ). refusal 4 p τ.edition) (sym (add-zero k)), record { inside = omega arith; out = t; lower = λ i p. absurd (omega arith) })
@@ -74,7 +72,7 @@ pub check_kept : (τ : Table) (l : List Transaction) → CheckKept τ l
 unfolding check_list
 check_kept τ l = record { fine = (fine_fits τ l, fits_fine τ l); refused = λ r h. on (leb (length l) 256) refl r h }
   where
-    on : (b : Bool) → leb (length l) 256 ≡ b → (r : Refusal) → check_sized τ b l ≡ Refused r
+    on : (b : Bool) → leb (length l) 256 ≡ b → (r : Refusal) → check_sized τ b l ≡ Err r
         → ((r ≡ refusal 3 0 τ.edition) × (256 < length l)) ⊎ ((k : ℕ) × (r ≡ refusal 4 k τ.edition) × Lowest τ 0 l k)
     on true t r h = let w = found τ 0 l 0 r h in inr (w.0, w.1 ∙ ap (λ (p : ℕ). refusal 4 p τ.edition) (zero-add w.0), w.2)
     on false t r h = inl ((cc), leb-false (length l) 256 t)
@@ -96,10 +94,11 @@ module _ (later : Bool) (τ : Table) (s : List ℕ) (l : List Transaction) where
   abbrev AsDone : ℕ → ℕ → List Transaction → Type 0
   AsDone e n k = (e ≡ τ.edition) × (n ≡ length xs) × (held n (packed n k) ≡ xs) × (list_fits τ xs ≡ true) × (drop n k ≡ drop n l)
 
-  done_is : (e n : ℕ) → Sized later (length s) (length l) → check_list τ xs ≡ Fine → Done τ.edition count ≡ Done e n → AsDone e n (stored xs count l)
+  done_is : (e n : ℕ) → Sized later (length s) (length l) → check_list τ xs ≡ Ok tt → ◌≡◌ {A = Result (ℕ × ℕ) Refusal} (Ok (τ.edition, count)) (Ok (e, n)) → AsDone e n (stored xs count l)
   done_is e n z fine h =
-      let edition : e ≡ τ.edition = (cc) in
-      let told : count ≡ n = (cc) in
+      let both : ◌≡◌ {A = ℕ × ℕ} (τ.edition, count) (e, n) = (cc) in
+      let edition : e ≡ τ.edition = sym (ap (λ (p : ℕ × ℕ). p.0) both) in
+      let told : count ≡ n = ap (λ (p : ℕ × ℕ). p.1) both in
       let size : length xs ≡ n = length_list s later ∙ told in
       let all : take count xs ≡ xs = take_all count xs (omega (arith, told, size)) in
       let first : length (take count xs) ≡ n = ap length all ∙ size in
@@ -120,11 +119,11 @@ module _ (later : Bool) (τ : Table) (s : List ℕ) (l : List Transaction) where
     refused = λ r h. refused_by (check_into later τ s (length l)) r h;
   }
     where
-      done_by : (c : Checked) → (c ≡ Fine → Sized later (length s) (length l)) → (c ≡ Fine → check_list τ xs ≡ Fine)
-          → (e n : ℕ) → (decoded_by c later τ s l).answer ≡ Done e n → AsDone e n (decoded_by c later τ s l).list
-      done_by Fine z fine e n h = done_is e n (z refl) (fine refl) h
-      done_by (Refused r) z fine e n h = let y : ◌≡◌ {A = ℕ} 0 1 = cc in absurd (omega arith)
+      done_by : (c : Result Unit Refusal) → (c ≡ Ok tt → Sized later (length s) (length l)) → (c ≡ Ok tt → check_list τ xs ≡ Ok tt)
+          → (e n : ℕ) → (decoded_by c later τ s l).answer ≡ Ok (e, n) → AsDone e n (decoded_by c later τ s l).list
+      done_by (Ok _) z fine e n h = done_is e n (z refl) (fine refl) h
+      done_by (Err r) z fine e n h = let y : ◌≡◌ {A = ℕ} 0 1 = cc in absurd (omega arith)
 
-      refused_by : (c : Checked) (r : Refusal) → (decoded_by c later τ s l).answer ≡ NotDone r → (decoded_by c later τ s l).list ≡ l
-      refused_by Fine r h = let y : ◌≡◌ {A = ℕ} 0 1 = cc in absurd (omega arith)
-      refused_by (Refused q) r h = refl
+      refused_by : (c : Result Unit Refusal) (r : Refusal) → (decoded_by c later τ s l).answer ≡ Err r → (decoded_by c later τ s l).list ≡ l
+      refused_by (Ok _) r h = let y : ◌≡◌ {A = ℕ} 0 1 = cc in absurd (omega arith)
+      refused_by (Err q) r h = refl

@@ -1,5 +1,7 @@
 -- Laws of decoding: transactions stored one after the other, and that what is planned is what document 01 asks for.
 -- Assumes nothing.
+use Rattle.std.specs.Prelude.{Result, Ok, Err}
+use Rattle.records.specs.declared.refusal.Refusal.{Refusal}
 use Prim.Native.Nat.{ℕ, suc, ◌+◌, ◌≤◌, ◌<◌}
 use mathlib.Core.Bool.{Bool}
 use mathlib.Core.Path.{◌≡◌, refl, sym, ap, ◌∙◌}
@@ -12,9 +14,6 @@ use Rattle.records.specs.declared.table.Table.{Table}
 use Rattle.records.specs.declared.transaction.Transaction.{Transaction}
 use Rattle.records.specs.Transaction.{record_count, kth_of, list_of}
 use Rattle.records.proofs.Listed.{length_list, kth_list}
-use Rattle.lists.specs.declared.check.Checked.{Checked}
-use Rattle.lists.specs.declared.check.Checked.TheVariants.{Fine, Refused}
-use Rattle.lists.specs.declared.decode.Decoded.TheVariants.{Done}
 use Rattle.lists.specs.declared.decode.Plan.{Plan}
 use Rattle.lists.specs.Check.{check_into}
 use Rattle.lists.specs.Packed.{no_transaction}
@@ -54,23 +53,23 @@ module _ (later : Bool) (τ : Table) (s : List ℕ) where
   unfolding plan
   plan_room places = on (check_into later τ s places) (fine_sized later τ s places)
     where
-      on : (c : Checked) → (c ≡ Fine → Sized later (length s) places) → ((plan_by c later τ s).n ≤ record_count later (length s)) × ((plan_by c later τ s).n ≤ places)
-      on Fine z = (omega arith, (z refl).room)
-      on (Refused r) z = (omega arith, omega arith)
+      on : (c : Result Unit Refusal) → (c ≡ Ok tt → Sized later (length s) places) → ((plan_by c later τ s).n ≤ record_count later (length s)) × ((plan_by c later τ s).n ≤ places)
+      on (Ok _) z = (omega arith, (z refl).room)
+      on (Err r) z = (omega arith, omega arith)
 
   -- the plan of bytes with nothing to refuse, which hold n
-  pub plan_fine : (places n : ℕ) → n ≡ record_count later (length s) → check_into later τ s places ≡ Fine → record { n = n; answer = Done τ.edition n } ≡ plan later τ s places
+  pub plan_fine : (places n : ℕ) → n ≡ record_count later (length s) → check_into later τ s places ≡ Ok tt → record { n = n; answer = Ok (τ.edition, n) } ≡ plan later τ s places
   unfolding plan
-  plan_fine places n e h = ap made e ∙ ap (λ (c : Checked). plan_by c later τ s) (sym h)
+  plan_fine places n e h = ap made e ∙ ap (λ (c : Result Unit Refusal). plan_by c later τ s) (sym h)
     where
       made : ℕ → Plan
-      made m = record { n = m; answer = Done τ.edition m }
+      made m = record { n = m; answer = Ok (τ.edition, m) }
 
   pub plan_decodes : (l : List Transaction)
       → ((plan later τ s (length l)).answer ≡ (decoding later τ s l).answer) × (stored (list_of later s) (plan later τ s (length l)).n l ≡ (decoding later τ s l).list)
   unfolding plan decoding
   plan_decodes l = on (check_into later τ s (length l))
     where
-      on : (c : Checked) → ((plan_by c later τ s).answer ≡ (decoded_by c later τ s l).answer) × (stored (list_of later s) (plan_by c later τ s).n l ≡ (decoded_by c later τ s l).list)
-      on Fine = (refl, refl)
-      on (Refused r) = (refl, refl)
+      on : (c : Result Unit Refusal) → ((plan_by c later τ s).answer ≡ (decoded_by c later τ s l).answer) × (stored (list_of later s) (plan_by c later τ s).n l ≡ (decoded_by c later τ s l).list)
+      on (Ok _) = (refl, refl)
+      on (Err r) = (refl, refl)

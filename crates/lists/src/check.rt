@@ -7,58 +7,46 @@ use crate::record::{count_of, is_whole, kth};
 use ranges::fitting::fits_by;
 use records::refusal::{Refusal, refuse};
 use records::table::Table;
-use records::tests::both_of;
 use records::transaction::Transaction;
-
-// What a check finds: nothing to refuse, or the refusal.
-#[derive(Clone, Copy)]
-pub enum Checked {
-    Fine,
-    Refused(Refusal),
-}
 
 // A transaction in range, after one that arrived at a.
 fn fits_after(a: u32, t: Table, x: Transaction) -> bool
     ensures { result ≡ fits_after a t x }
 {
-    let good = fits_by(20000000, t.banks, t.rfc, x);
-    both_of(a <= x.arrival, good)
+    a <= x.arrival && fits_by(20000000, t.banks, t.rfc, x)
 }
 
 // Number 4 in a run of records, few enough for their numbers to fit a position.
-fn check_range(t: Table, later: bool, s: &[u8]) -> Checked
+fn check_range(t: Table, later: bool, s: &[u8]) -> Result<(), Refusal>
     requires { record_count later (length s.now) ≤ 256 }
     ensures { result ≡ range_from t 0 (list_of later s.now) 0 }
 {
-    let n = count_of(later, s.len());
-    let mut k: usize = 0;
-    let mut arrived: u32 = 0;
-    while k < n {
+    let mut arrived = 0;
+    for k in 0..count_of(later, s.len()) {
         let x = kth(later, s, k);
-        if fits_after(arrived, t, x) {
-            arrived = x.arrival;
-            k += 1;
-        } else {
-            return Checked::Refused(refuse(4, k as u32, t.edition));
+        if !fits_after(arrived, t, x) {
+            return Err(refuse(4, k as u32, t.edition));
         }
+        arrived = x.arrival;
     }
-    Checked::Fine
+    Ok(())
 }
 
 // The bytes of a list that is to be decoded into so many places.
-pub fn check_into(t: Table, later: bool, s: &[u8], places: usize) -> Checked
+#[tactic(auto, unfolding(crate::specs::Check::check_into))]
+pub fn check_into(t: Table, later: bool, s: &[u8], places: usize) -> Result<(), Refusal>
     ensures { result ≡ check_into later t s.now places }
 {
     let n = count_of(later, s.len());
-    let whole = is_whole(later, s.len());
-    let few = both_of(n <= 256, n <= places);
-    if both_of(whole, few) {
-        return check_range(t, later, s);
+    if is_whole(later, s.len()) && n <= 256 && n <= places {
+        check_range(t, later, s)
+    } else {
+        Err(refuse(3, 0, t.edition))
     }
-    Checked::Refused(refuse(3, 0, t.edition))
 }
 
-pub fn check_bytes(t: Table, later: bool, s: &[u8]) -> Checked
+#[tactic(auto, using(crate::proofs::Checks::into_256))]
+pub fn check_bytes(t: Table, later: bool, s: &[u8]) -> Result<(), Refusal>
     ensures { result ≡ check_bytes later t s.now }
 {
     check_into(t, later, s, 256)

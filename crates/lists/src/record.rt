@@ -1,4 +1,4 @@
-// A run of records, of 8 bytes each where `later`, else of 4.
+// A run of records, of 8 bytes each where `later`, else of 4. `later` is a value, since the definitions (`list_of`, `check_bytes`) take it.
 ghost use Rattle.std.specs.Prelude.{◌≡◌, ◌%◌, ◌<◌, eqb, length};
 ghost use Rattle.records.specs.Transaction.{record_size, record_count, kth_of};
 
@@ -26,7 +26,8 @@ pub fn kth(later: bool, s: &[u8], k: usize) -> Transaction
     ensures { result ≡ kth_of later s.now k }
 {
     if later {
-        return later_at(s, 8 * k);
+        later_at(s, 8 * k)
+    } else {
+        transaction_at(s, 4 * k)
     }
-    transaction_at(s, 4 * k)
 }

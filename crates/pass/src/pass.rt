@@ -24,7 +24,6 @@ pub fn pass(t: Table, list: &[u8], n: usize, s: &[u8]) -> Finding
     requires { Listed t list.now n × (record_count s.now ≤ 69632) × Legal t (commands_in s.now) }
     ensures { Finds t.banks n (listed_at list.now) (seen s.now (record_count s.now)) result.lowest result.outside }
 {
-    let m = s.len() / 8;
     let banks = t.banks;
     let mut counts = [0u32; 24576];
     let mut acts = [0u16; 16];
@@ -36,8 +35,7 @@ pub fn pass(t: Table, list: &[u8], n: usize, s: &[u8]) -> Finding
         least: n as u32,
     };
     let mut outside = false;
-    let mut j: usize = 0;
-    while j < m {
+    for j in 0..s.len() / 8 {
         let place = j as u32;
         let c = s[8 * j + 4];
         let b = s[8 * j + 5];
@@ -45,22 +43,18 @@ pub fn pass(t: Table, list: &[u8], n: usize, s: &[u8]) -> Finding
         let at = b as usize;
         let held = acts[at];
         acts[at] = number_if(c == 0, y, held);
-        j = j + 1;
         let k = y as usize;
-        if k < n {
-            let x = later_at(list, 8 * k);
-            marks = marks_after(banks, x.kind, x.start, x.bi, x.bc, c, b, y, held, marks);
-            let i = slot_of(k, c, b);
-            counts[i] = counts[i] + 1;
-            last[k] = place;
-            refs[k] = lower_if(c == 5, place, refs[k]);
-        } else {
+        if n <= k {
             outside = true;
+            continue;
         }
+        let x = later_at(list, 8 * k);
+        marks = marks_after(banks, x.kind, x.start, x.bi, x.bc, c, b, y, held, marks);
+        let i = slot_of(k, c, b);
+        counts[i] += 1;
+        last[k] = place;
+        refs[k] = lower_if(c == 5, place, refs[k]);
     }
     let lowest = scan(banks, list, marks.least, &counts, &last, &refs);
-    Finding {
-        lowest: lowest,
-        outside: outside,
-    }
+    Finding { lowest, outside }
 }

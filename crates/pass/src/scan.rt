@@ -2,9 +2,7 @@
 ghost use Rattle.std.specs.Prelude.{◌≡◌, ◌*◌, ◌≤◌, ◌<◌, length};
 ghost use Rattle.serves.specs.Check.{agrees, wrong_by, FirstAt, listed_at, number_at};
 
-use distances::square::greater;
 use faults::counts::bank_agrees;
-use records::tests::{both_of, either_of, not_of};
 use records::transaction::Transaction;
 use transactions::later::later_at;
 
@@ -14,10 +12,8 @@ pub fn counts_agree(banks: u16, x: Transaction, y: usize, counts: &[u32; 24576])
     ensures { result ≡ agrees banks x y (number_at counts.now) }
 {
     let mut all = true;
-    let mut b: u8 = 0;
-    while (b as u16) < banks {
-        all = both_of(bank_agrees(banks, x, y, b, counts), all);
-        b = b + 1;
+    for b in 0..banks as u8 {
+        all = bank_agrees(banks, x, y, b, counts) && all;
     }
     all
 }
@@ -34,17 +30,14 @@ pub fn scan(
     requires { (banks ≤ 16) × (8 * least ≤ length list.now) × (least ≤ 256) }
     ensures { FirstAt (wrong_by banks (listed_at list.now) (number_at refs.now) (number_at last.now) (number_at counts.now)) least result }
 {
-    let end = least as usize;
     let mut most: u32 = 0;
-    let mut k: usize = 0;
-    while k < end {
+    for k in 0..least as usize {
         let x = later_at(list, 8 * k);
         let early = refs[k] < most;
-        if either_of(early, not_of(counts_agree(banks, x, k, counts))) {
+        if early || !counts_agree(banks, x, k, counts) {
             return k as u32;
         }
-        most = greater(last[k], most);
-        k = k + 1;
+        most = most.max(last[k]);
     }
     least
 }

@@ -10,24 +10,24 @@ ghost use Rattle.serves.specs.Answer.{ServesAnswers};
 ghost use Rattle.serves.specs.Check.{answer_of};
 
 use crate::pass::pass;
-use judge::answer::schedule_refusal;
+use judge::answer::check_schedule;
 use judge::schedule::verdict_on;
-use records::refusal::refuse;
+use records::refusal::Refusal;
 use records::table::Table;
 use rules::verdict::Verdict;
-use serves::answer::{Served, ServesAnswer};
+use serves::answer::Served;
 
 // The lowest number at fault, below n; else n where a number was outside the list.
 pub fn answer_of(n: u32, lowest: u32, outside: bool) -> Served
     ensures { result ≡ answer_of n lowest outside }
 {
     if lowest < n {
-        return Served::AtFault(lowest);
+        Served::AtFault(lowest)
+    } else if outside {
+        Served::AtFault(n)
+    } else {
+        Served::Serves
     }
-    if outside {
-        return Served::AtFault(n);
-    }
-    Served::Serves
 }
 
 // The answer on a schedule that the judge accepts.
@@ -44,25 +44,17 @@ pub fn serves(t: Table, list: &[u8], n: usize, s: &[u8]) -> Served
     requires { Listed t list.now n × (record_count s.now ≤ 69632) }
     ensures { Says t (later_from list.now n 0) (commands_in s.now) result }
 {
-    let v = verdict_on(t, s);
-    match v {
-        Verdict::Refused(x, i) => {
-            return Served::Refused(x, i);
-        }
-        Verdict::Accepted => {
-            return served(t, list, n, s);
-        }
+    match verdict_on(t, s) {
+        Verdict::Refused(x, i) => Served::Refused(x, i),
+        Verdict::Accepted => served(t, list, n, s),
     }
 }
 
 // Number 7; then the answer, with the table's edition. The list is one that numbers 3 and 4 let pass.
-pub fn serves_schedule(t: Table, list: &[u8], n: usize, s: &[u8]) -> ServesAnswer
+pub fn serves_schedule(t: Table, list: &[u8], n: usize, s: &[u8]) -> Result<(u16, Served), Refusal>
     requires { Listed t list.now n }
     ensures { ServesAnswers t (later_from list.now n 0) s.now result }
 {
-    let z = schedule_refusal(s.len());
-    if z != 0 {
-        return ServesAnswer::Refused(refuse(z, 0, t.edition));
-    }
-    ServesAnswer::Told(t.edition, serves(t, list, n, s))
+    check_schedule(s.len(), t.edition)?;
+    Ok((t.edition, serves(t, list, n, s)))
 }

@@ -9,12 +9,8 @@ use std::io::Write;
 
 fn main(rt: HostRuntime) -> io::Result<()> {
     let mut input = [0u8; 64];
-    let n = read_full(&mut rt.stdin(), &mut input)?;
-    tell(&mut rt.stdout(), &input[..n])
-}
-
-fn tell<W: Write>(out: &mut W, input: &[u8]) -> io::Result<()> {
+    let read = read_full(&mut rt.stdin(), &mut input)?;
     let mut text = [0u8; 256];
-    let n = pattern_of(input, &mut text);
-    out.write_all(&text[..n])
+    let written = pattern_of(&input[..read], &mut text);
+    rt.stdout().write_all(&text[..written])
 }

@@ -1,5 +1,7 @@
 -- The program shows the table's refusal, number 4, number 13 exactly if there is no pattern, or the shortest.
 -- Assumes nothing.
+use Rattle.std.specs.Prelude.{Result, Ok, Err}
+use Rattle.records.specs.declared.refusal.Refusal.{Refusal}
 use Prim.Native.Nat.{ℕ, suc, ◌*◌, ◌≤◌}
 use native.Mathlib.Omega.{arith}
 use mathlib.Core.Path.{◌≡◌, refl, sym, ap, ◌∙◌, subst}
@@ -11,12 +13,8 @@ use lib.ListN.{length, replicate, length-replicate}
 use borrow.Author.Tests.{ltb-true, not-false}
 use Rattle.records.specs.Told.{refusal, first_failed}
 use Rattle.records.specs.declared.table.Table.{Table}
-use Rattle.records.specs.declared.table.TableRead.{TableRead}
-use Rattle.records.specs.declared.table.TableRead.TheVariants.{Read, Refused as NoTable}
 use Rattle.records.specs.Command.{commands_from}
 use Rattle.records.proofs.Laws.{passes}
-use Rattle.shortest.specs.declared.answer.ShortestAnswer.{ShortestAnswer}
-use Rattle.shortest.specs.declared.answer.ShortestAnswer.TheVariants.{Pattern, Refused}
 use Rattle.shortest.specs.Answer.{is_asked, shortest_refusal, Cause, LeavesShortest}
 use Rattle.shortest.proofs.Calls.{asked_few, pattern_stands}
 use Rattle.promises.specs.Admit.{admitted}
@@ -43,9 +41,9 @@ module _ (τ : Table) (type bi bc most : ℕ) where
   fits : (b₀ : List ℕ) → shortest_refusal τ.banks type bi bc most (length b₀) ≡ 0 → asked ≡ true
   fits b₀ e = not-false asked (passes 4 (not asked) ((5, ltb (length b₀) (8 * (bi * suc bc))) ∷ []) (λ k. omega arith) e).0
 
-  shown : (b₀ b : List ℕ) (r : ShortestAnswer) → 48 ≤ length b₀ → LeavesShortest τ type bi bc most b₀ b r → Shown (answer_text r b)
+  shown : (b₀ b : List ℕ) (r : Result (ℕ × ℕ × ℕ) Refusal) → 48 ≤ length b₀ → LeavesShortest τ type bi bc most b₀ b r → Shown (answer_text r b)
   unfolding answer_text
-  shown b₀ b (Pattern e L n) l p =
+  shown b₀ b (Ok (e, L, n)) l p =
       inr (inr (record {
         limits = fits b₀ p.0;
         L = L;
@@ -55,7 +53,7 @@ module _ (τ : Table) (type bi bc most : ℕ) where
             ap (λ (d : ℕ). pattern_text d L (commands_from b n 0)) p.1
             ∙ ap (pattern_text τ.edition L) (pattern_stands τ type bi bc most b₀ b e L n p);
       }))
-  shown b₀ b (Refused x) l p = on p.0
+  shown b₀ b (Err x) l p = on p.0
     where
       on : Cause τ type bi bc most b₀ x → Shown (refused_line x)
       on (inl c) =
@@ -70,10 +68,10 @@ pub shows : (expected : ℕ) (table : List ℕ) (type bi bc most : ℕ) (text : 
 unfolding ShortestTold answer_text
 shows expected table type bi bc most text t = on (admitted expected table) refl t.answer t.told t.is
   where
-    on : (a : TableRead) → admitted expected table ≡ a → (r : ShortestAnswer) → ShortestTold a type bi bc most (replicate 48 0) t.room r
+    on : (a : Result Table Refusal) → admitted expected table ≡ a → (r : Result (ℕ × ℕ × ℕ) Refusal) → ShortestTold a type bi bc most (replicate 48 0) t.room r
         → text ≡ answer_text r t.room → Shows expected table type bi bc most text
-    on (Read τ) e r p f = inr (τ, e, move (shown τ type bi bc most (replicate 48 0) t.room r (enough (length {A = ℕ} (replicate 48 0)) (length-replicate {A = ℕ} 48 0)) p))
+    on (Ok τ) e r p f = inr (τ, e, move (shown τ type bi bc most (replicate 48 0) t.room r (enough (length {A = ℕ} (replicate 48 0)) (length-replicate {A = ℕ} 48 0)) p))
       where
         move : Shown τ type bi bc most (answer_text r t.room) → Shown τ type bi bc most text
         move = λ z. subst (Shown τ type bi bc most) (sym f) z
-    on (NoTable x) e r p f = inl (x, e, f ∙ ap (λ (a : ShortestAnswer). answer_text a t.room) p.0)
+    on (Err x) e r p f = inl (x, e, f ∙ ap (λ (a : Result (ℕ × ℕ × ℕ) Refusal). answer_text a t.room) p.0)

@@ -1,5 +1,6 @@
 -- The call's answer is what is told, and its text has room.
 -- Assumes nothing.
+use Rattle.std.specs.Prelude.{Result, Ok, Err}
 use Prim.Native.Nat.{ℕ, ◌+◌, ◌-◌, ◌*◌, ◌≤◌, ◌<◌}
 use mathlib.Core.Bool.{Bool}
 use mathlib.Core.Path.{◌≡◌, sym, ap, subst}
@@ -12,8 +13,6 @@ use Rattle.records.specs.Told.{refusal}
 use Rattle.records.specs.Little.{num}
 use Rattle.records.specs.declared.refusal.Refusal.{Refusal}
 use Rattle.records.specs.Command.{commands_from}
-use Rattle.shortest.specs.declared.answer.ShortestAnswer.{ShortestAnswer}
-use Rattle.shortest.specs.declared.answer.ShortestAnswer.TheVariants.{Pattern, Refused}
 use Rattle.promises.specs.Admit.{admitted}
 use Rattle.promises.specs.Patterns.{ShortestTold}
 use Rattle.promises.proofs.Room.{shortest_few}
@@ -42,18 +41,18 @@ pattern_put e L n s p q b t u x y = puts_then (subst (λ (k : ℕ). Puts (length
 
 -- ---- the call
 
-module _ (expected : ℕ) (table : List ℕ) (type bi bc most : ℕ) (room : List ℕ) (r : ShortestAnswer)
+module _ (expected : ℕ) (table : List ℕ) (type bi bc most : ℕ) (room : List ℕ) (r : Result (ℕ × ℕ × ℕ) Refusal)
     (h : ShortestTold (admitted expected table) type bi bc most (replicate 48 0) room r) where
-  pub call_found : (e L n : ℕ) → r ≡ Pattern e L n → Told expected table type bi bc most (pattern_text e L (commands_from room n 0))
+  pub call_found : (e L n : ℕ) → r ≡ Ok (e, L, n) → Told expected table type bi bc most (pattern_text e L (commands_from room n 0))
   unfolding answer_text
-  call_found e L n p = record { answer = r; room = room; told = h; is = sym (ap (λ (a : ShortestAnswer). answer_text a room) p) }
+  call_found e L n p = record { answer = r; room = room; told = h; is = sym (ap (λ (a : Result (ℕ × ℕ × ℕ) Refusal). answer_text a room) p) }
 
-  pub call_refused : (x : Refusal) → r ≡ Refused x → Told expected table type bi bc most (refused_line x)
+  pub call_refused : (x : Refusal) → r ≡ Err x → Told expected table type bi bc most (refused_line x)
   unfolding answer_text
-  call_refused x p = record { answer = r; room = room; told = h; is = sym (ap (λ (a : ShortestAnswer). answer_text a room) p) }
+  call_refused x p = record { answer = r; room = room; told = h; is = sym (ap (λ (a : Result (ℕ × ℕ × ℕ) Refusal). answer_text a room) p) }
 
   -- six records, the first line
-  pub call_room : (e L n size : ℕ) → r ≡ Pattern e L n → length room ≡ 48 → 256 ≤ size → (8 * n ≤ length room) × (62 + 25 * n ≤ size)
+  pub call_room : (e L n size : ℕ) → r ≡ Ok (e, L, n) → length room ≡ 48 → 256 ≤ size → (8 * n ≤ length room) × (62 + 25 * n ≤ size)
   call_room e L n size p a c =
       let k : n ≤ 6 = shortest_few (admitted expected table) type bi bc most (replicate 48 0) room e L n
       (subst (ShortestTold (admitted expected table) type bi bc most (replicate 48 0) room) p h) in

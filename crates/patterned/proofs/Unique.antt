@@ -1,5 +1,7 @@
 -- One text for each input.
 -- Assumes nothing.
+use Rattle.std.specs.Prelude.{Result}
+use Rattle.records.specs.declared.refusal.Refusal.{Refusal}
 use Prim.Native.Nat.{ℕ, ◌-◌}
 use mathlib.Core.Bool.{Bool, true, false}
 use mathlib.Core.Path.{◌≡◌, sym, ap, ◌∙◌}
@@ -9,7 +11,6 @@ use lib.ListN.{length, get_or, take, drop, replicate}
 use Rattle.records.specs.Tests.{pick}
 use Rattle.records.specs.Told.{refusal, over}
 use Rattle.records.specs.Little.{num}
-use Rattle.shortest.specs.declared.answer.ShortestAnswer.{ShortestAnswer}
 use Rattle.promises.proofs.Unique.{only as desk-only}
 use Rattle.lines.specs.Lines.{refused_line}
 use Rattle.patterned.specs.Pattern.{answer_text, Told, PatternOf}
@@ -18,7 +19,7 @@ use Rattle.patterned.specs.Only.{Only}
 told_only : (expected : ℕ) (table : List ℕ) (type bi bc most : ℕ) (x y : List ℕ) → Told expected table type bi bc most x → Told expected table type bi bc most y → x ≡ y
 told_only expected table type bi bc most x y p q =
     p.is
-    ∙ ap (λ (a : ShortestAnswer). answer_text a p.room) same.0
+    ∙ ap (λ (a : Result (ℕ × ℕ × ℕ) Refusal). answer_text a p.room) same.0
     ∙ ap (λ (b : List ℕ). answer_text q.answer b) same.1
     ∙ sym q.is
   where

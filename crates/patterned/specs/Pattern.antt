@@ -1,13 +1,12 @@
 -- What the program `pattern` prints of the shortest pattern (document 02, request 11). It reads standard input in the listing's manner: the expected
 -- edition "as two bytes before the table; fewer than two get number 1", the table, and then what is asked for.
-use Rattle.std.specs.Prelude.{ℕ, ◌-◌, ◌≡◌, List, [], ◌∷◌, ◌++◌, ltb, length, get_or, take, drop, replicate}
+use Rattle.std.specs.Prelude.{ℕ, ◌-◌, ◌≡◌, List, [], ◌∷◌, ◌++◌, ltb, length, get_or, take, drop, replicate, Result, Ok, Err}
+use Rattle.records.specs.declared.refusal.Refusal.{Refusal}
 use Rattle.records.specs.Tests.{pick}
 use Rattle.records.specs.Told.{refusal}
 use Rattle.records.specs.Little.{num}
 use Rattle.records.specs.declared.command.Command.{Command}
 use Rattle.records.specs.Command.{commands_from}
-use Rattle.shortest.specs.declared.answer.ShortestAnswer.{ShortestAnswer}
-use Rattle.shortest.specs.declared.answer.ShortestAnswer.TheVariants.{Pattern, Refused}
 use Rattle.promises.specs.Admit.{admitted}
 use Rattle.promises.specs.Patterns.{ShortestTold}
 use Rattle.text.specs.Decimal.{decimal}
@@ -27,13 +26,13 @@ unfoldable pub pattern_text : ℕ → ℕ → List Command → List ℕ
 pattern_text e L p = length_line e L (length p) ++ command_lines p
 
 -- what is printed for an answer of the desk's call: the records stand in the room
-unfoldable pub answer_text : ShortestAnswer → List ℕ → List ℕ
-answer_text (Pattern e L n) room = pattern_text e L (commands_from room n 0)
-answer_text (Refused x) room = refused_line x
+unfoldable pub answer_text : Result (ℕ × ℕ × ℕ) Refusal → List ℕ → List ℕ
+answer_text (Ok (e, L, n)) room = pattern_text e L (commands_from room n 0)
+answer_text (Err x) room = refused_line x
 
 -- the text for an expected edition, a table, a type, BI, BC and a greatest length: the call's answer, in a room for six records
 pub record Told (expected : ℕ) (table : List ℕ) (type bi bc most : ℕ) (text : List ℕ) : Type 0 where
-  pub answer : ShortestAnswer
+  pub answer : Result (ℕ × ℕ × ℕ) Refusal
   pub room : List ℕ
   pub told : ShortestTold (admitted expected table) type bi bc most (replicate 48 0) room answer
   pub is : text ≡ answer_text answer room

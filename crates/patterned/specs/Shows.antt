@@ -1,9 +1,8 @@
 -- What the program shows, in document 02's words and without bytes or buffers: the table's refusal, number 4, number 13 exactly if there is no pattern, or
 -- the shortest. Number 5 is never told, since there is room for six records.
-use Rattle.std.specs.Prelude.{ℕ, ◌≡◌, true, false, ◌⊎◌, List, eqb}
+use Rattle.std.specs.Prelude.{ℕ, ◌≡◌, true, false, ◌⊎◌, List, eqb, Ok, Err}
 use Rattle.records.specs.Told.{refusal}
 use Rattle.records.specs.declared.table.Table.{Table}
-use Rattle.records.specs.declared.table.TableRead.TheVariants.{Read, Refused}
 use Rattle.records.specs.declared.refusal.Refusal.{Refusal}
 use Rattle.records.specs.declared.command.Command.{Command}
 use Rattle.shortest.specs.Shortest.{Shortest, NoneUpTo}
@@ -35,6 +34,6 @@ module _ (τ : Table) (type bi bc most : ℕ) (text : List ℕ) where
 -- numbers 1, 2 and 10; or what is told under the table that was admitted
 abbrev pub Shows : ℕ → List ℕ → ℕ → ℕ → ℕ → ℕ → List ℕ → Type 0
 Shows expected table type bi bc most text =
-    ((x : Refusal) × (admitted expected table ≡ Refused x) × (text ≡ refused_line x))
-    ⊎ ((τ : Table) × (admitted expected table ≡ Read τ)
+    ((x : Refusal) × (admitted expected table ≡ Err x) × (text ≡ refused_line x))
+    ⊎ ((τ : Table) × (admitted expected table ≡ Ok τ)
     × (Shows4 τ type bi bc most text ⊎ (Shows13 τ type bi bc most text ⊎ ShowsPattern τ type bi bc most text)))

@@ -4,7 +4,7 @@
 
 pub mod line;
 
-ghost use Rattle.std.specs.Prelude.{◌≡◌, ◌≤◌, length};
+ghost use Rattle.std.specs.Prelude.{◌≤◌, length};
 ghost use Rattle.text.specs.Puts.{Writes};
 ghost use Rattle.patterned.specs.Pattern.{Told, PatternOf};
 
@@ -13,7 +13,6 @@ use line::put_pattern;
 use printed::answer::put_refusal;
 use records::little::num_at;
 use records::refusal::refuse;
-use shortest::answer::ShortestAnswer;
 
 // The desk's call, in a room for six records.
 fn pattern_told(
@@ -32,17 +31,9 @@ fn pattern_told(
     let pattern = &mut room[..];
     let answer = shortest_pattern(expected, table, kind, bi, bc, most, pattern);
     match answer {
-        ShortestAnswer::Pattern(edition, least, written) => {
-            put_pattern(out, edition, least, pattern, written)
-        }
-        ShortestAnswer::Refused(x) => put_refusal(out, x),
+        Ok((edition, least, written)) => { put_pattern(out, edition, least, pattern, written) }
+        Err(x) => put_refusal(out, x),
     }
-}
-
-fn wide(x: u8) -> u32
-    ensures { result ≡ x }
-{
-    x as u32
 }
 
 // What the program prints for these bytes, from the buffer's start, and its length.
@@ -58,6 +49,6 @@ pub fn pattern_of(input: &[u8], out: &mut [u8]) -> usize
     let kind = input[end];
     let bi = input[n - 3];
     let bc = input[n - 2];
-    let most = wide(input[n - 1]);
+    let most = u32::from(input[n - 1]);
     pattern_told(num_at(input, 0), &input[2..end], kind, bi, bc, most, out)
 }

@@ -13,10 +13,8 @@ pub fn put_command_lines(out: &mut [u8], at: usize, s: &[u8], n: usize) -> usize
     ensures { Puts (command_lines (commands_from s.now n 0)) at result out.old out.new × (result ≤ at + 25 * n) }
 {
     let mut next = at;
-    let mut i = 0;
-    while i < n {
+    for i in 0..n {
         next = put_command_line(out, next, command_at(s, 8 * i));
-        i += 1;
     }
     next
 }
@@ -27,10 +25,8 @@ pub fn put_finish_lines(out: &mut [u8], at: usize, s: &[u32], n: usize) -> usize
     ensures { Puts (finish_lines 0 (take n s.now)) at result out.old out.new × (result ≤ at + 39 * n) }
 {
     let mut next = at;
-    let mut i = 0;
-    while i < n {
+    for i in 0..n {
         next = put_finish_line(out, next, i, s[i]);
-        i += 1;
     }
     next
 }

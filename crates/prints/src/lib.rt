@@ -1,60 +1,48 @@
-// What the programs of stored cases share of their printing, to the writer that they pass. What is printed no contract says: it is held to the
-// stored output. The text of the listing, of the trace and of a pattern, which is proved, is `text`'s and `lines`'s.
+// What the programs of stored cases share of their printing. What is printed no contract says: it is held to the stored output. The text of the
+// listing, of the trace and of a pattern, which is proved, is `text`'s and `lines`'s.
 #![tactic(auto)]
 
 use records::refusal::Refusal;
-use std::io;
-use std::io::Write;
+use std::fmt;
+use std::fmt::Display;
 
-pub fn refused<W: Write>(out: &mut W, r: Refusal) -> io::Result<()> {
-    text(out, b" refused")?;
-    refusal(out, r)
-}
+// A refusal's number, its position and the table's edition.
+#[derive(Clone, Copy)]
+pub struct Refused(pub Refusal);
 
-pub fn refusal<W: Write>(out: &mut W, r: Refusal) -> io::Result<()> {
-    small(out, r.number)?;
-    text(out, b" at")?;
-    long(out, r.position)?;
-    text(out, b" edition")?;
-    number(out, r.edition)
+impl Display for Refused {
+    fn fmt<W: fmt::Write>(&self, f: &mut fmt::Formatter<W>) -> fmt::Result {
+        let Refusal {
+            number,
+            position,
+            edition,
+        } = self.0;
+        write!(f, "refused {number} at {position} edition {edition}")
+    }
 }
 
 // Each byte as two digits.
-pub fn hex<W: Write>(out: &mut W, room: &[u8]) -> io::Result<()> {
-    for b in room {
-        byte(out, *b)?;
+#[derive(Clone, Copy)]
+pub struct InHex<'a>(pub &'a [u8]);
+
+impl Display for InHex<'_> {
+    fn fmt<W: fmt::Write>(&self, f: &mut fmt::Formatter<W>) -> fmt::Result {
+        for b in self.0 {
+            write!(f, "{b:02x}")?;
+        }
+        Ok(())
     }
-    Ok(())
 }
 
-fn byte<W: Write>(out: &mut W, b: u8) -> io::Result<()> {
-    write!(out, "{b:02x}")
-}
+// Each behind a space.
+#[derive(Clone, Copy)]
+pub struct Row<'a, T>(pub &'a [T]);
 
-// A number after a space, of each width.
-pub fn small<W: Write>(out: &mut W, n: u8) -> io::Result<()> {
-    long(out, n as u32)
-}
-
-pub fn number<W: Write>(out: &mut W, n: u16) -> io::Result<()> {
-    long(out, n as u32)
-}
-
-pub fn long<W: Write>(out: &mut W, n: u32) -> io::Result<()> {
-    text(out, b" ")?;
-    first(out, n)
-}
-
-pub fn count<W: Write>(out: &mut W, n: usize) -> io::Result<()> {
-    text(out, b" ")?;
-    write!(out, "{n}")
-}
-
-// A line's first number.
-pub fn first<W: Write>(out: &mut W, n: u32) -> io::Result<()> {
-    write!(out, "{n}")
-}
-
-pub fn text<W: Write>(out: &mut W, s: &[u8]) -> io::Result<()> {
-    out.write_all(s)
+impl<T: Display> Display for Row<'_, T> {
+    fn fmt<W: fmt::Write>(&self, f: &mut fmt::Formatter<W>) -> fmt::Result {
+        for x in self.0 {
+            write!(f, " {x}")?;
+        }
+        Ok(())
+    }
 }

@@ -1,5 +1,6 @@
 -- What a call answers stands in the buffers that it was lent.
 -- Assumes nothing.
+use Rattle.std.specs.Prelude.{Result, Ok, Err}
 use Prim.Native.Nat.{ℕ, ◌*◌, ◌≤◌}
 use mathlib.Core.Bool.{Bool, true, false}
 use mathlib.Core.Path.{◌≡◌, refl, sym, ap, ◌∙◌, subst}
@@ -8,8 +9,6 @@ use native.Mathlib.Omega.{arith}
 use lib.Dec.{eqb}
 use lib.ListN.{length, drop, length-append}
 use Rattle.records.specs.declared.table.Table.{Table}
-use Rattle.records.specs.declared.table.TableRead.{TableRead}
-use Rattle.records.specs.declared.table.TableRead.TheVariants.{Read, Refused}
 use Rattle.records.specs.declared.transaction.Transaction.{Transaction}
 use Rattle.records.specs.declared.refusal.Refusal.{Refusal}
 use Rattle.records.specs.Tests.{pick}
@@ -22,18 +21,12 @@ use Rattle.records.proofs.Listed.{length_list}
 use Rattle.engine.specs.Build.{finishes_from}
 use Rattle.records.proofs.Written.{length_bytes}
 use Rattle.engine.proofs.Schedule.{finishes_length}
-use Rattle.shortest.specs.declared.answer.ShortestAnswer.TheVariants.{Pattern}
 use Rattle.shortest.proofs.Calls.{pattern_few}
-use Rattle.lists.specs.declared.check.Checked.{Checked}
-use Rattle.lists.specs.declared.check.Checked.TheVariants.{Fine, Refused as NotFine}
 use Rattle.lists.specs.Check.{check_bytes}
 use Rattle.builder.specs.Build.{Stands}
-use Rattle.builder.specs.declared.build.BuildAnswer.{BuildAnswer}
-use Rattle.builder.specs.declared.build.BuildAnswer.TheVariants.{Built}
 use Rattle.controller.specs.declared.controller.Controller.{Controller}
 use Rattle.controller.specs.declared.run.RunReport.{RunReport}
 use Rattle.controller.specs.declared.run.RunTold.{RunTold}
-use Rattle.controller.specs.declared.run.RunAnswer.TheVariants.{Ran}
 use Rattle.sound.specs.Refused.{run_refusal}
 use Rattle.controller.specs.Controller.{tells}
 use Rattle.controller.specs.Run.{RunLeft, written, ran_left, refused_left, run_controller, LeavesRun}
@@ -58,24 +51,24 @@ module _ (l : List Transaction) (b₀ b f₀ f : List ℕ) (e n : ℕ) where
     omega (arith, finishes_length τ l 0 k.schedule, over_room (finishes_from τ l 0 k.schedule) f₀ f k.finishes),
   )
 
-  nothing : (x : Refusal) → NothingBuilt x b₀ b f₀ f (Built e n) → Fits
+  nothing : (x : Refusal) → NothingBuilt x b₀ b f₀ f (Ok (e, n)) → Fits
   nothing x h = let k = h.0 in let z : ◌≡◌ {A = ℕ} 0 1 = cc in absurd (omega arith)
 
-  checked : (d : Checked) (τ : Table) → BuildsChecked d τ l b₀ b f₀ f (Built e n) → Fits
+  checked : (d : Result Unit Refusal) (τ : Table) → BuildsChecked d τ l b₀ b f₀ f (Ok (e, n)) → Fits
   unfolding BuildsChecked
-  checked Fine τ h = stands τ h.2
-  checked (NotFine x) τ h = nothing x h
+  checked (Ok _) τ h = stands τ h.2
+  checked (Err x) τ h = nothing x h
 
-  fits : (check : Table → Checked) (a : TableRead) → Schedules check a l b₀ b f₀ f (Built e n) → Fits
+  fits : (check : Table → Result Unit Refusal) (a : Result Table Refusal) → Schedules check a l b₀ b f₀ f (Ok (e, n)) → Fits
   unfolding Schedules
-  fits check (Read τ) h = checked (check τ) τ h
-  fits check (Refused x) h = nothing x h
+  fits check (Ok τ) h = checked (check τ) τ h
+  fits check (Err x) h = nothing x h
 
-pub built_room : (w : ℕ) (t : List ℕ) (later : Bool) (s b₀ b f₀ f : List ℕ) (r : BuildAnswer) (e n : ℕ)
-    → Schedules (λ τ. check_bytes later τ s) (admitted w t) (list_of later s) b₀ b f₀ f r → r ≡ Built e n → (8 * n ≤ length b) × (record_count later (length s) ≤ length f)
+pub built_room : (w : ℕ) (t : List ℕ) (later : Bool) (s b₀ b f₀ f : List ℕ) (r : Result (ℕ × ℕ) Refusal) (e n : ℕ)
+    → Schedules (λ τ. check_bytes later τ s) (admitted w t) (list_of later s) b₀ b f₀ f r → r ≡ Ok (e, n) → (8 * n ≤ length b) × (record_count later (length s) ≤ length f)
 built_room w t later s b₀ b f₀ f r e n h p =
     let z = fits (list_of later s) b₀ b f₀ f e n (λ τ. check_bytes later τ s) (admitted w t)
-    (subst (λ (a : BuildAnswer). Schedules (λ τ. check_bytes later τ s) (admitted w t) (list_of later s) b₀ b f₀ f a) p h) in
+    (subst (λ (a : Result (ℕ × ℕ) Refusal). Schedules (λ τ. check_bytes later τ s) (admitted w t) (list_of later s) b₀ b f₀ f a) p h) in
     (z.0, omega (arith, z.1, length_list s later))
 
 -- ---- a run
@@ -83,7 +76,7 @@ built_room w t later s b₀ b f₀ f r e n h p =
 module _ (c : Controller) (l : List Transaction) (count : ℕ) (b₀ : List ℕ) (x : RunReport) where
   -- what a run leaves, if it reports x
   abbrev Holds : RunLeft → Type 0
-  Holds w = w.told.answer ≡ Ran x → 8 * x.commands ≤ length w.buffer
+  Holds w = w.told.answer ≡ Ok x → 8 * x.commands ≤ length w.buffer
 
   not_run : (y : Refusal) → Holds (nothing_run y c b₀)
   not_run y e = let z : ◌≡◌ {A = ℕ} 0 1 = cc in absurd (omega arith)
@@ -104,24 +97,24 @@ module _ (c : Controller) (l : List Transaction) (count : ℕ) (b₀ : List ℕ)
           omega (arith, ap (λ (v : RunReport). v.commands) same, written_length R.history, over_room (written R.history) b₀ (over (written R.history) b₀) refl)
       on false e = let z : ◌≡◌ {A = ℕ} 0 1 = cc in absurd (omega arith)
 
-  ran_checked : (d : Checked) (τ : Table) → Holds (runs_checked d c τ l count b₀)
+  ran_checked : (d : Result Unit Refusal) (τ : Table) → Holds (runs_checked d c τ l count b₀)
   unfolding runs_checked
-  ran_checked Fine τ = ran τ
-  ran_checked (NotFine y) τ = not_run y
+  ran_checked (Ok _) τ = ran τ
+  ran_checked (Err y) τ = not_run y
 
-  holds : (check : Table → Checked) (a : TableRead) → Holds (running check a c l count b₀)
+  holds : (check : Table → Result Unit Refusal) (a : Result Table Refusal) → Holds (running check a c l count b₀)
   unfolding running
-  holds check (Read τ) = ran_checked (check τ) τ
-  holds check (Refused y) = not_run y
+  holds check (Ok τ) = ran_checked (check τ) τ
+  holds check (Err y) = not_run y
 
-pub ran_room : (w : ℕ) (t : List ℕ) (check : Table → Checked) (c : Controller) (l : List Transaction) (count : ℕ) (b₀ : List ℕ) (r : RunTold) (b : List ℕ) (x : RunReport)
-    → LeavesRun (running check (admitted w t) c l count b₀) r b → r.answer ≡ Ran x → 8 * x.commands ≤ length b
+pub ran_room : (w : ℕ) (t : List ℕ) (check : Table → Result Unit Refusal) (c : Controller) (l : List Transaction) (count : ℕ) (b₀ : List ℕ) (r : RunTold) (b : List ℕ) (x : RunReport)
+    → LeavesRun (running check (admitted w t) c l count b₀) r b → r.answer ≡ Ok x → 8 * x.commands ≤ length b
 ran_room w t check c l count b₀ r b x h e =
     rw h.1 (holds c l count b₀ x check (admitted w t) (sym (ap (λ (v : RunTold). v.answer) h.0) ∙ e))
 
 -- ---- a pattern
 
-pub shortest_few : (a : TableRead) (type bi bc most : ℕ) (b₀ b : List ℕ) (e L n : ℕ) → ShortestTold a type bi bc most b₀ b (Pattern e L n) → n ≤ 6
+pub shortest_few : (a : Result Table Refusal) (type bi bc most : ℕ) (b₀ b : List ℕ) (e L n : ℕ) → ShortestTold a type bi bc most b₀ b (Ok (e, L, n)) → n ≤ 6
 unfolding ShortestTold
-shortest_few (Read τ) type bi bc most b₀ b e L n p = pattern_few τ type bi bc most b₀ b e L n p
-shortest_few (Refused x) type bi bc most b₀ b e L n p = let k = p.0 in let z : ◌≡◌ {A = ℕ} 0 1 = cc in absurd (omega arith)
+shortest_few (Ok τ) type bi bc most b₀ b e L n p = pattern_few τ type bi bc most b₀ b e L n p
+shortest_few (Err x) type bi bc most b₀ b e L n p = let k = p.0 in let z : ◌≡◌ {A = ℕ} 0 1 = cc in absurd (omega arith)

@@ -1,32 +1,23 @@
 -- Each public call's promise leaves one possible result and one possible content of each buffer it was lent, refused or not.
 -- Assumes nothing.
+use Rattle.std.specs.Prelude.{Result, Ok, Err}
+use Rattle.rules.specs.declared.verdict.PatternVerdict.{PatternVerdict}
+use Rattle.serves.specs.declared.answer.Served.{Served}
 use Prim.Native.Nat.{ℕ}
 use mathlib.Core.Bool.{Bool, true}
 use mathlib.Core.Path.{◌≡◌, refl, ◌∙◌}
 use mathlib.Core.List.{List}
 use Rattle.records.specs.declared.table.Table.{Table}
-use Rattle.records.specs.declared.table.TableRead.{TableRead}
-use Rattle.records.specs.declared.table.TableRead.TheVariants.{Read, Refused}
 use Rattle.records.specs.declared.transaction.Transaction.{Transaction}
 use Rattle.records.specs.declared.refusal.Refusal.{Refusal}
 use Rattle.records.specs.Table.{Accepted}
 use Rattle.records.specs.Transaction.{list_of, list_fits}
 use Rattle.records.proofs.Unique.{one_answer}
-use Rattle.judge.specs.declared.answer.PatternJudged.{PatternJudged}
-use Rattle.judge.specs.declared.answer.PatternJudged.TheVariants.{Refused as PatternNotJudged}
 use Rattle.judge.proofs.Unique.{judge_pattern_only}
 use Rattle.capture.proofs.Unique.{one_captured}
-use Rattle.shortest.specs.declared.answer.ShortestAnswer.{ShortestAnswer}
-use Rattle.shortest.specs.declared.answer.ShortestAnswer.TheVariants.{Refused as NoPattern}
 use Rattle.shortest.proofs.Unique.{shortest_only}
-use Rattle.builder.specs.declared.build.BuildAnswer.{BuildAnswer}
-use Rattle.builder.specs.declared.build.BuildAnswer.TheVariants.{Refused as NotBuilt}
 use Rattle.builder.proofs.Unique.{build_only}
-use Rattle.serves.specs.declared.answer.ServesAnswer.{ServesAnswer}
-use Rattle.serves.specs.declared.answer.ServesAnswer.TheVariants.{Refused as NotTold}
 use Rattle.serves.proofs.Unique.{serves_only}
-use Rattle.lists.specs.declared.check.Checked.{Checked}
-use Rattle.lists.specs.declared.check.Checked.TheVariants.{Fine, Refused as NotFine}
 use Rattle.lists.specs.Check.{check_list, check_bytes}
 use Rattle.lists.proofs.Checks.{into_256, into_list, fine_fits}
 use Rattle.promises.specs.Admit.{admitted}
@@ -43,46 +34,46 @@ use Rattle.promises.proofs.Laws.{read_accepted}
 
 -- ---- by what `admit` answered
 
-pattern_only : (a : TableRead) (s : List ℕ) (L : ℕ) (x y : PatternJudged) → PatternTold a s L x → PatternTold a s L y → x ≡ y
+pattern_only : (a : Result Table Refusal) (s : List ℕ) (L : ℕ) (x y : Result (ℕ × PatternVerdict) Refusal) → PatternTold a s L x → PatternTold a s L y → x ≡ y
 unfolding PatternTold
-pattern_only (Read τ) s L x y p q = judge_pattern_only τ s L x y p q
-pattern_only (Refused r) s L x y p q = one_answer (PatternNotJudged r) x y p q
+pattern_only (Ok τ) s L x y p q = judge_pattern_only τ s L x y p q
+pattern_only (Err r) s L x y p q = one_answer (Err r) x y p q
 
-least_only : (a : TableRead) (type bi bc most : ℕ) (b₀ : List ℕ) (x y : ShortestAnswer) (b d : List ℕ) → ShortestTold a type bi bc most b₀ b x
+least_only : (a : Result Table Refusal) (type bi bc most : ℕ) (b₀ : List ℕ) (x y : Result (ℕ × ℕ × ℕ) Refusal) (b d : List ℕ) → ShortestTold a type bi bc most b₀ b x
     → ShortestTold a type bi bc most b₀ d y → (x ≡ y) × (b ≡ d)
 unfolding ShortestTold
-least_only (Read τ) type bi bc most b₀ x y b d p q = shortest_only τ type bi bc most b₀ b d x y p q
-least_only (Refused r) type bi bc most b₀ x y b d p q = (one_answer (NoPattern r) x y p.0 q.0, one_answer b₀ b d p.1 q.1)
+least_only (Ok τ) type bi bc most b₀ x y b d p q = shortest_only τ type bi bc most b₀ b d x y p q
+least_only (Err r) type bi bc most b₀ x y b d p q = (one_answer (Err r) x y p.0 q.0, one_answer b₀ b d p.1 q.1)
 
-module _ (l : List Transaction) (b₀ f₀ : List ℕ) (x y : BuildAnswer) (b d f g : List ℕ) where
+module _ (l : List Transaction) (b₀ f₀ : List ℕ) (x y : Result (ℕ × ℕ) Refusal) (b d f g : List ℕ) where
   -- a refusal by the table or by the check of the list
   nothing_only : (r : Refusal) → NothingBuilt r b₀ b f₀ f x → NothingBuilt r b₀ d f₀ g y → (x ≡ y) × (b ≡ d) × (f ≡ g)
-  nothing_only r p q = (one_answer (NotBuilt r) x y p.0 q.0, one_answer b₀ b d p.1 q.1, one_answer f₀ f g p.2 q.2)
+  nothing_only r p q = (one_answer (Err r) x y p.0 q.0, one_answer b₀ b d p.1 q.1, one_answer f₀ f g p.2 q.2)
 
-  builds_only : (τ : Table) → Accepted τ → (c : Checked) → (c ≡ Fine → list_fits τ l ≡ true)
+  builds_only : (τ : Table) → Accepted τ → (c : Result Unit Refusal) → (c ≡ Ok tt → list_fits τ l ≡ true)
       → BuildsChecked c τ l b₀ b f₀ f x → BuildsChecked c τ l b₀ d f₀ g y → (x ≡ y) × (b ≡ d) × (f ≡ g)
   unfolding BuildsChecked
-  builds_only τ acc Fine fit p q = build_only τ acc l (fit refl) b₀ f₀ x y b d f g p q
-  builds_only τ acc (NotFine r) fit p q = nothing_only r p q
+  builds_only τ acc (Ok _) fit p q = build_only τ acc l (fit refl) b₀ f₀ x y b d f g p q
+  builds_only τ acc (Err r) fit p q = nothing_only r p q
 
   -- a list of which the check finds nothing to refuse only where it fits
-  schedules_only : (check : Table → Checked) → ((τ : Table) → check τ ≡ Fine → list_fits τ l ≡ true)
-      → (a : TableRead) → ((τ : Table) → a ≡ Read τ → Accepted τ)
+  schedules_only : (check : Table → Result Unit Refusal) → ((τ : Table) → check τ ≡ Ok tt → list_fits τ l ≡ true)
+      → (a : Result Table Refusal) → ((τ : Table) → a ≡ Ok τ → Accepted τ)
       → Schedules check a l b₀ b f₀ f x → Schedules check a l b₀ d f₀ g y → (x ≡ y) × (b ≡ d) × (f ≡ g)
   unfolding Schedules
-  schedules_only check fit (Read τ) acc p q = builds_only τ (acc τ refl) (check τ) (fit τ) p q
-  schedules_only check fit (Refused r) acc p q = nothing_only r p q
+  schedules_only check fit (Ok τ) acc p q = builds_only τ (acc τ refl) (check τ) (fit τ) p q
+  schedules_only check fit (Err r) acc p q = nothing_only r p q
 
-module _ (l : List Transaction) (s : List ℕ) (x y : ServesAnswer) where
-  checked_only : (τ : Table) (c : Checked) → ServesChecked c τ l s x → ServesChecked c τ l s y → x ≡ y
+module _ (l : List Transaction) (s : List ℕ) (x y : Result (ℕ × Served) Refusal) where
+  checked_only : (τ : Table) (c : Result Unit Refusal) → ServesChecked c τ l s x → ServesChecked c τ l s y → x ≡ y
   unfolding ServesChecked
-  checked_only τ Fine p q = serves_only τ l s x y p q
-  checked_only τ (NotFine r) p q = one_answer (NotTold r) x y p q
+  checked_only τ (Ok _) p q = serves_only τ l s x y p q
+  checked_only τ (Err r) p q = one_answer (Err r) x y p q
 
-  serving_only : (check : Table → Checked) (a : TableRead) → Serving check a l s x → Serving check a l s y → x ≡ y
+  serving_only : (check : Table → Result Unit Refusal) (a : Result Table Refusal) → Serving check a l s x → Serving check a l s y → x ≡ y
   unfolding Serving
-  serving_only check (Read τ) p q = checked_only τ (check τ) p q
-  serving_only check (Refused r) p q = one_answer (NotTold r) x y p q
+  serving_only check (Ok τ) p q = checked_only τ (check τ) p q
+  serving_only check (Err r) p q = one_answer (Err r) x y p q
 
 -- ---- all of them
 
@@ -112,5 +103,5 @@ only expected table =
           (one_answer w.told x y p.0 q.0, one_answer w.buffer b d p.1 q.1);
     }
   where
-    bytes_fit : (later : Bool) (s : List ℕ) (τ : Table) → check_bytes later τ s ≡ Fine → list_fits τ (list_of later s) ≡ true
+    bytes_fit : (later : Bool) (s : List ℕ) (τ : Table) → check_bytes later τ s ≡ Ok tt → list_fits τ (list_of later s) ≡ true
     bytes_fit later s τ e = fine_fits τ (list_of later s) (into_list later τ s 256 (into_256 later τ s ∙ e))

@@ -1,5 +1,6 @@
 -- What the proofs of the readers and writers cite: a call refuses by the first check that fails, and else answers.
 -- Assumes nothing.
+use Rattle.std.specs.Prelude.{Ok, Err, Result}
 use Prim.Native.Nat.{ℕ, ◌≤◌}
 use mathlib.Core.Bool.{Bool, true, false, not, ◌&&◌, ◌||◌}
 use mathlib.Core.Path.{◌≡◌, refl, sym, ap, ◌∙◌}
@@ -9,9 +10,8 @@ use lib.Dec.{eqb, leb}
 use lib.ListN.{length}
 use borrow.Author.Tests.{eq-eqb, ne_eqb, eqb-true, leb-true, not-false}
 use Rattle.records.specs.declared.refusal.Refusal.{Refusal}
-use Rattle.records.specs.declared.refusal.Written.TheVariants.{Done, Refused}
 use Rattle.records.specs.Tests.{pick}
-use Rattle.records.specs.Told.{refusal, first_failed, Wrote}
+use Rattle.records.specs.Told.{refusal, first_failed, checked, Wrote}
 use Rattle.records.specs.declared.table.Table.{Table}
 use Rattle.records.specs.declared.transaction.Transaction.{Transaction}
 use Rattle.records.specs.Table.{table_refusal_by, table_size, table_refusal, in_range}
@@ -29,19 +29,60 @@ module _ {A : Type 0} (z y : ℕ) (e : z ≡ y) where
 -- a call that writes: its answer, and the buffer, which a refusal leaves as it stood
 module _ (z y : ℕ) (e : z ≡ y) (s : List ℕ) (w : Wrote) where
   abbrev wrote : Wrote
-  wrote = pick (eqb y 0) w (record { answer = Refused (refusal y 0 0); buffer = s })
+  wrote = pick (eqb y 0) w (record { answer = Err (refusal y 0 0); buffer = s })
 
-  pub write_refuses : (q : Refusal) → q ≡ refusal z 0 0 → (z ≡ 0 → ⊥) → (Refused q ≡ wrote.answer) × (s ≡ wrote.buffer)
-  write_refuses q p n = (ap Refused p ∙ ap (λ (v : Wrote). v.answer) left, ap (λ (v : Wrote). v.buffer) left)
+  pub write_refuses : (q : Refusal) → q ≡ refusal z 0 0 → (z ≡ 0 → ⊥) → (Err q ≡ wrote.answer) × (s ≡ wrote.buffer)
+  write_refuses q p n = (ap Err p ∙ ap (λ (v : Wrote). v.answer) left, ap (λ (v : Wrote). v.buffer) left)
     where
-      left : record { answer = Refused (refusal z 0 0); buffer = s } ≡ wrote
-      left = refuses z y e w (λ n. record { answer = Refused (refusal n 0 0); buffer = s }) n
+      left : record { answer = Err (refusal z 0 0); buffer = s } ≡ wrote
+      left = refuses z y e w (λ n. record { answer = Err (refusal n 0 0); buffer = s }) n
 
   pub write_answers : (b : List ℕ) → b ≡ w.buffer → z ≡ 0 → (w.answer ≡ wrote.answer) × (b ≡ wrote.buffer)
   write_answers b p k = (ap (λ (v : Wrote). v.answer) left, p ∙ ap (λ (v : Wrote). v.buffer) left)
     where
       left : w ≡ wrote
-      left = answers z y e w (record { answer = Refused (refusal y 0 0); buffer = s }) k
+      left = answers z y e w (record { answer = Err (refusal y 0 0); buffer = s }) k
+
+-- a call that writes after a check by the number z: r is what the check finds
+module _ (z : ℕ) (s : List ℕ) (w : Wrote) (r : Result Unit Refusal) (e : r ≡ checked z 0 0) where
+  abbrev after : Bool → Wrote
+  after b = pick b w (record { answer = Err (refusal z 0 0); buffer = s })
+
+  abbrev found : Bool → Result Unit Refusal
+  found b = pick b (Ok tt) (Err (refusal z 0 0))
+
+  pub check_writes : (b : List ℕ) → r ≡ Ok tt → b ≡ w.buffer → (w.answer ≡ (after (eqb z 0)).answer) × (b ≡ (after (eqb z 0)).buffer)
+  check_writes b k p = on (eqb z 0) (sym e ∙ k)
+    where
+      on : (t : Bool) → found t ≡ Ok tt → (w.answer ≡ (after t).answer) × (b ≡ (after t).buffer)
+      on true h = (refl, p)
+      on false h = let y : ◌≡◌ {A = ℕ} 0 1 = cc in absurd (omega arith)
+
+  pub check_stops : (q : Result ℕ Refusal) (x : Refusal) → r ≡ Err x → q ≡ Err x → (q ≡ (after (eqb z 0)).answer) × (s ≡ (after (eqb z 0)).buffer)
+  check_stops q x k p = on (eqb z 0) (sym e ∙ k)
+    where
+      on : (t : Bool) → found t ≡ Err x → (q ≡ (after t).answer) × (s ≡ (after t).buffer)
+      on true h = let y : ◌≡◌ {A = ℕ} 0 1 = cc in absurd (omega arith)
+      on false h = let y : refusal z 0 0 ≡ x = cc in (p ∙ ap Err (sym y), refl)
+
+-- what a check by the number z tells
+module _ (z p e : ℕ) where
+  abbrev told_by : Bool → Result Unit Refusal
+  told_by b = pick b (Ok tt) (Err (refusal z p e))
+
+  pub check_lets : checked z p e ≡ Ok tt → z ≡ 0
+  check_lets = on (eqb z 0) refl
+    where
+      on : (t : Bool) → eqb z 0 ≡ t → told_by t ≡ Ok tt → z ≡ 0
+      on true q h = eqb-true z 0 q
+      on false q h = let y : ◌≡◌ {A = ℕ} 0 1 = cc in absurd (omega arith)
+
+  pub check_says : (x : Refusal) → checked z p e ≡ Err x → (z ≡ 0 → ⊥) × (x ≡ refusal z p e)
+  check_says x = on (eqb z 0) refl
+    where
+      on : (t : Bool) → eqb z 0 ≡ t → told_by t ≡ Err x → (z ≡ 0 → ⊥) × (x ≡ refusal z p e)
+      on true q h = let y : ◌≡◌ {A = ℕ} 0 1 = cc in absurd (omega arith)
+      on false q h = let y : refusal z p e ≡ x = cc in (λ k. absurd (let b : true ≡ false = sym (eq-eqb z 0 k) ∙ q in let w : ◌≡◌ {A = ℕ} 0 1 = cc in omega arith), sym y)
 
 -- no check fails: each passes
 pub passes : (n : ℕ) (b : Bool) (l : List (ℕ × Bool)) → (n ≡ 0 → ⊥) → first_failed ((n, b) ∷ l) ≡ 0 → (b ≡ false) × (first_failed l ≡ 0)
@@ -117,12 +158,12 @@ module _ {R A : Type 0} (check : ℕ → R → ℕ) (at : List ℕ → R) (is : 
 -- a writer of one record that z refuses
 module _ (z : ℕ) (w : Wrote) (s : List ℕ) where
   abbrev writes : Wrote
-  writes = pick (eqb z 0) w (record { answer = Refused (refusal z 0 0); buffer = s })
+  writes = pick (eqb z 0) w (record { answer = Err (refusal z 0 0); buffer = s })
 
   pub write_is : z ≡ 0 → writes ≡ w
-  write_is e = sym (answers 0 z (sym e) w (record { answer = Refused (refusal z 0 0); buffer = s }) refl)
+  write_is e = sym (answers 0 z (sym e) w (record { answer = Err (refusal z 0 0); buffer = s }) refl)
 
-  pub write_was : (e : ℕ) → writes.answer ≡ Done e → z ≡ 0
+  pub write_was : (e : ℕ) → writes.answer ≡ Ok e → z ≡ 0
   write_was e d =
-      (answered (λ (v : Wrote). v.answer) z w (record { answer = Refused (refusal z 0 0); buffer = s }) (Done e) d
+      (answered (λ (v : Wrote). v.answer) z w (record { answer = Err (refusal z 0 0); buffer = s }) (Ok e) d
       (λ k. let y : ◌≡◌ {A = ℕ} 0 1 = cc in absurd (omega arith))).0

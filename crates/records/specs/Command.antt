@@ -1,12 +1,10 @@
 -- "Command, 8 bytes: cycle (32 bits), kind (0 ACT, 1 RD, 2 RDA, 3 WR, 4 WRA), bank, transaction number (16 bits)."
 -- Document 02, request 5: "kind 5 (REF, bank 0)".
-use Rattle.std.specs.Prelude.{ℕ, zero, suc, ◌+◌, ◌/◌, not, List, [], ◌∷◌, ◌++◌, leb, eqb, length, get_or}
+use Rattle.std.specs.Prelude.{ℕ, zero, suc, ◌+◌, ◌/◌, not, List, [], ◌∷◌, ◌++◌, leb, eqb, length, get_or, Result, Ok, Err}
+use Rattle.records.specs.declared.refusal.Refusal.{Refusal}
 use Rattle.records.specs.declared.command.Kind.{Kind}
 use Rattle.records.specs.declared.command.Kind.TheVariants.{Act, Rd, Rda, Wr, Wra, Ref, Other}
 use Rattle.records.specs.declared.command.Command.{Command}
-use Rattle.records.specs.declared.command.CommandRead.{CommandRead}
-use Rattle.records.specs.declared.command.CommandRead.TheVariants.{Read, Refused}
-use Rattle.records.specs.declared.refusal.Written.TheVariants.{Done, Refused as NotWritten}
 use Rattle.records.specs.Tests.{pick}
 use Rattle.records.specs.Told.{refusal, first_failed, over, Wrote}
 use Rattle.records.specs.Little.{num, num32, bytes16, bytes32}
@@ -51,8 +49,8 @@ bytes_of_all (c ∷ l) = bytes_of c ++ bytes_of_all l
 abbrev pub command_refusal : ℕ → ℕ
 command_refusal size = first_failed ((7, not (eqb size 8)) ∷ [])
 
-unfoldable pub read_command : List ℕ → CommandRead
-read_command s = let z = command_refusal (length s) in pick (eqb z 0) (Read (command_at s 0)) (Refused (refusal z 0 0))
+unfoldable pub read_command : List ℕ → Result Command Refusal
+read_command s = let z = command_refusal (length s) in pick (eqb z 0) (Ok (command_at s 0)) (Err (refusal z 0 0))
 
 -- number 5 for a buffer under 8
 abbrev pub room_refusal : ℕ → ℕ
@@ -62,5 +60,5 @@ unfoldable pub write_command : Command → List ℕ → Wrote
 write_command c s =
     let z = room_refusal (length s) in
     pick (eqb z 0)
-    (record { answer = Done 0; buffer = over (bytes_of c) s })
-    (record { answer = NotWritten (refusal z 0 0); buffer = s })
+    (record { answer = Ok 0; buffer = over (bytes_of c) s })
+    (record { answer = Err (refusal z 0 0); buffer = s })

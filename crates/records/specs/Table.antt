@@ -1,11 +1,9 @@
 -- "Table, 32 bytes, sixteen 16-bit numbers": edition, banks, B, CCD, RCD, RP, RAS, RC, RRD, FAW, RL, WL, RTP, WR, WTR, and a last.
 -- Document 02, request 5: "The table's last number becomes RFC, 0 to 1,023, 0 meaning that the table has no refresh". Request 7: "A second table
 -- record of 40 bytes has the first sixteen numbers, then the group count .., long CCD, long RRD and long WTR".
-use Rattle.std.specs.Prelude.{ℕ, Bool, true, not, ◌&&◌, ◌||◌, ◌≡◌, List, [], ◌∷◌, ◌++◌, leb, eqb, length, get_or}
+use Rattle.std.specs.Prelude.{ℕ, Bool, true, not, ◌&&◌, ◌||◌, ◌≡◌, List, [], ◌∷◌, ◌++◌, leb, eqb, length, get_or, Result, Ok, Err}
+use Rattle.records.specs.declared.refusal.Refusal.{Refusal}
 use Rattle.records.specs.declared.table.Table.{Table}
-use Rattle.records.specs.declared.table.TableRead.{TableRead}
-use Rattle.records.specs.declared.table.TableRead.TheVariants.{Read, Refused}
-use Rattle.records.specs.declared.refusal.Written.TheVariants.{Done, Refused as NotWritten}
 use Rattle.records.specs.Tests.{pick, every, within}
 use Rattle.records.specs.Told.{refusal, first_failed, over, Wrote}
 use Rattle.records.specs.Little.{num, bytes16}
@@ -145,20 +143,20 @@ abbrev pub table_refusal : ℕ → Table → ℕ
 table_refusal size τ = table_refusal_by (table_size size) τ
 
 -- "Refusals 1 and 2 name edition 0."
-unfoldable pub read_table : List ℕ → TableRead
-read_table s = let z = table_refusal (length s) (table_at s) in pick (eqb z 0) (Read (table_at s)) (Refused (refusal z 0 0))
+unfoldable pub read_table : List ℕ → Result Table Refusal
+read_table s = let z = table_refusal (length s) (table_at s) in pick (eqb z 0) (Ok (table_at s)) (Err (refusal z 0 0))
 
 -- writing checks the values as a reader would, and the room: sixteen numbers into 32 bytes, twenty into 40
 unfoldable pub write_table : List ℕ → List ℕ → Wrote
 write_table l s =
     let z = table_refusal_by (eqb (length s) 32) (table_of l) in
     pick (eqb z 0)
-    (record { answer = Done (table_of l).edition; buffer = over (bytes16 l) s })
-    (record { answer = NotWritten (refusal z 0 0); buffer = s })
+    (record { answer = Ok (table_of l).edition; buffer = over (bytes16 l) s })
+    (record { answer = Err (refusal z 0 0); buffer = s })
 
 unfoldable pub write_group_table : List ℕ → List ℕ → Wrote
 write_group_table l s =
     let z = table_refusal_by (eqb (length s) 40) (group_table_of l) in
     pick (eqb z 0)
-    (record { answer = Done (group_table_of l).edition; buffer = over (bytes16 l) s })
-    (record { answer = NotWritten (refusal z 0 0); buffer = s })
+    (record { answer = Ok (group_table_of l).edition; buffer = over (bytes16 l) s })
+    (record { answer = Err (refusal z 0 0); buffer = s })

@@ -1,7 +1,6 @@
 -- Document 01, "What the caller is told".
-use Rattle.std.specs.Prelude.{ℕ, ◌+◌, Bool, ◌≡◌, List, [], ◌∷◌, ◌++◌, length, take, drop}
+use Rattle.std.specs.Prelude.{ℕ, ◌+◌, Bool, ◌≡◌, List, [], ◌∷◌, ◌++◌, length, take, drop, eqb, Result, Ok, Err}
 use Rattle.records.specs.declared.refusal.Refusal.{Refusal}
-use Rattle.records.specs.declared.refusal.Written.{Written}
 use Rattle.records.specs.Tests.{pick}
 
 -- a refusal tells its number, the position and the edition
@@ -13,6 +12,10 @@ abbrev pub first_failed : List (ℕ × Bool) → ℕ
 first_failed [] = 0
 first_failed (c ∷ l) = pick c.1 c.0 (first_failed l)
 
+-- what a check by such a number finds: nothing to refuse where it is 0, else the refusal
+abbrev pub checked : ℕ → ℕ → ℕ → Result Unit Refusal
+checked z p e = pick (eqb z 0) (Ok tt) (Err (refusal z p e))
+
 -- "Success writes each result from its buffer's start and leaves all beyond as it stood."
 abbrev pub over : List ℕ → List ℕ → List ℕ
 over new s = new ++ drop (length new) s
@@ -23,9 +26,9 @@ put_at s at new = take at s ++ new ++ drop (at + length new) s
 
 -- what a call that writes one record leaves: its answer, and the buffer
 pub record Wrote : Type 0 where
-  pub answer : Written
+  pub answer : Result ℕ Refusal
   pub buffer : List ℕ
 
 -- the promise of such a call: r is its answer, b what the buffer holds as it returns
-abbrev pub Leaves : Wrote → Written → List ℕ → Type 0
+abbrev pub Leaves : Wrote → Result ℕ Refusal → List ℕ → Type 0
 Leaves w r b = (r ≡ w.answer) × (b ≡ w.buffer)

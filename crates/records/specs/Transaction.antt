@@ -1,11 +1,9 @@
 -- "Transaction, 4 bytes: type (0 read, 1 write), start bank, BI, BC." Document 02, request 5: "A transaction of type 2, with the other three bytes
 -- 0, is a refresh". Request 9: "A transaction record of 8 bytes adds a 32-bit arrival"; "The 4-byte record is arrival 0".
-use Rattle.std.specs.Prelude.{ℕ, zero, suc, ◌+◌, ◌*◌, ◌/◌, Bool, true, not, ◌&&◌, ◌||◌, List, [], ◌∷◌, ◌++◌, ltb, leb, eqb, length, get_or}
+use Rattle.std.specs.Prelude.{ℕ, zero, suc, ◌+◌, ◌*◌, ◌/◌, Bool, true, not, ◌&&◌, ◌||◌, List, [], ◌∷◌, ◌++◌, ltb, leb, eqb, length, get_or, Result, Ok, Err}
+use Rattle.records.specs.declared.refusal.Refusal.{Refusal}
 use Rattle.records.specs.declared.table.Table.{Table}
 use Rattle.records.specs.declared.transaction.Transaction.{Transaction}
-use Rattle.records.specs.declared.transaction.TransactionRead.{TransactionRead}
-use Rattle.records.specs.declared.transaction.TransactionRead.TheVariants.{Read, Refused}
-use Rattle.records.specs.declared.refusal.Written.TheVariants.{Done, Refused as NotWritten}
 use Rattle.records.specs.Tests.{pick, within}
 use Rattle.records.specs.Little.{num32, bytes32}
 use Rattle.records.specs.Told.{refusal, first_failed, over, Wrote}
@@ -114,26 +112,26 @@ transaction_refusal size x = refusal_by 4 0 size x
 abbrev pub later_refusal : ℕ → Transaction → ℕ
 later_refusal size x = refusal_by 8 20000000 size x
 
-unfoldable pub read_transaction : List ℕ → TransactionRead
+unfoldable pub read_transaction : List ℕ → Result Transaction Refusal
 read_transaction s =
     let z = transaction_refusal (length s) (transaction_at s 0) in
-    pick (eqb z 0) (Read (transaction_at s 0)) (Refused (refusal z 0 0))
+    pick (eqb z 0) (Ok (transaction_at s 0)) (Err (refusal z 0 0))
 
 unfoldable pub write_transaction : Transaction → List ℕ → Wrote
 write_transaction x s =
     let z = transaction_refusal (length s) x in
     pick (eqb z 0)
-    (record { answer = Done 0; buffer = over (bytes_of x) s })
-    (record { answer = NotWritten (refusal z 0 0); buffer = s })
+    (record { answer = Ok 0; buffer = over (bytes_of x) s })
+    (record { answer = Err (refusal z 0 0); buffer = s })
 
-unfoldable pub read_later : List ℕ → TransactionRead
+unfoldable pub read_later : List ℕ → Result Transaction Refusal
 read_later s =
     let z = later_refusal (length s) (later_at s 0) in
-    pick (eqb z 0) (Read (later_at s 0)) (Refused (refusal z 0 0))
+    pick (eqb z 0) (Ok (later_at s 0)) (Err (refusal z 0 0))
 
 unfoldable pub write_later : Transaction → List ℕ → Wrote
 write_later x s =
     let z = later_refusal (length s) x in
     pick (eqb z 0)
-    (record { answer = Done 0; buffer = over (later_bytes x) s })
-    (record { answer = NotWritten (refusal z 0 0); buffer = s })
+    (record { answer = Ok 0; buffer = over (later_bytes x) s })
+    (record { answer = Err (refusal z 0 0); buffer = s })

@@ -5,13 +5,13 @@ ghost use Rattle.records.specs.Little.{le16, le32, num, num32, put16, put32};
 pub fn from_le16(a: u8, b: u8) -> u16
     ensures { result ≡ le16 a b }
 {
-    a as u16 + b as u16 * 256
+    u16::from_le_bytes([a, b])
 }
 
 pub fn from_le32(a: u8, b: u8, c: u8, d: u8) -> u32
     ensures { result ≡ le32 a b c d }
 {
-    a as u32 + b as u32 * 256 + c as u32 * 65536 + d as u32 * 16777216
+    u32::from_le_bytes([a, b, c, d])
 }
 
 // The 16-bit number at a place.
@@ -27,8 +27,9 @@ pub fn put_16(s: &mut [u8], at: usize, x: u16)
     requires { at + 2 ≤ length s.old }
     ensures { s.new ≡ put16 s.old at x }
 {
-    s[at] = (x % 256) as u8;
-    s[at + 1] = (x / 256) as u8;
+    let [low, high] = x.to_le_bytes();
+    s[at] = low;
+    s[at + 1] = high;
 }
 
 // The 32-bit number at a place.
@@ -44,8 +45,9 @@ pub fn put_32(s: &mut [u8], at: usize, x: u32)
     requires { at + 4 ≤ length s.old }
     ensures { s.new ≡ put32 s.old at x }
 {
-    s[at] = (x % 256) as u8;
-    s[at + 1] = (x / 256 % 256) as u8;
-    s[at + 2] = (x / 65536 % 256) as u8;
-    s[at + 3] = (x / 16777216) as u8;
+    let [a, b, c, d] = x.to_le_bytes();
+    s[at] = a;
+    s[at + 1] = b;
+    s[at + 2] = c;
+    s[at + 3] = d;
 }

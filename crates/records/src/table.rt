@@ -1,7 +1,6 @@
 // The table: sixteen 16-bit numbers in 32 bytes, or twenty in 40. It is read and written in `tables`.
-use crate::refusal::Refusal;
 
-#[derive(Clone, Copy)]
+#[derive(Clone, Copy, Debug, PartialEq, Eq)]
 pub struct Table {
     pub edition: u16,
     pub banks: u16,
@@ -25,10 +24,4 @@ pub struct Table {
     pub ccdl: u16,
     pub rrdl: u16,
     pub wtrl: u16,
-}
-
-#[derive(Clone, Copy)]
-pub enum TableRead {
-    Read(Table),
-    Refused(Refusal),
 }

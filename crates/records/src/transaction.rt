@@ -1,9 +1,9 @@
 // The transaction, 4 bytes, which arrives at cycle 0, or 8, which add its arrival. Both are read and written in `transactions`.
-use crate::refusal::Refusal;
 
-// `kind` is the paper's type: 0 read, 1 write, 2 refresh. (`type` is a word of the language.)
+// `kind` is the paper's type: 0 read, 1 write, 2 refresh. (`type` is a word of the language.) It is a byte, since C lends runs of
+// this record.
 #[repr(C)]
-#[derive(Clone, Copy)]
+#[derive(Clone, Copy, Debug, PartialEq, Eq)]
 pub struct Transaction {
     pub kind: u8,
     pub start: u8,
@@ -11,10 +11,4 @@ pub struct Transaction {
     pub bc: u8,
     // The cycle from which the queues see it.
     pub arrival: u32,
-}
-
-#[derive(Clone, Copy)]
-pub enum TransactionRead {
-    Read(Transaction),
-    Refused(Refusal),
 }

@@ -1,7 +1,9 @@
 -- Rules 6 and 9, and what reads them, as they stood before there were groups (document 02, request 7): "with one group and long equal to short,
 -- every answer equals the old (from a running state, where the group's latest ACT is the first of the four)". Nothing else uses these.
-use Rattle.std.specs.Prelude.{ℕ, zero, suc, ◌+◌, ◌-◌, ◌*◌, ◌/◌, ◌≤◌, max, Bool, true, false, not, ◌&&◌, ◌||◌, ◌≡◌, List, [], ◌∷◌, leb, length, get_or, set}
+use Rattle.std.specs.Prelude.{ℕ, zero, suc, ◌+◌, ◌-◌, ◌*◌, ◌/◌, ◌≤◌, max, Bool, true, false, not, ◌&&◌, ◌||◌, ◌≡◌, List, [], ◌∷◌, leb, length, get_or, set, Some, None}
 use Rattle.std.proofs.Math.Option.{Option, none, some}
+use Rattle.rules.specs.Types.{Stamp}
+use Rattle.rules.specs.Types.{Found}
 use Rattle.records.specs.Tests.{pick, all_of, every, every_below}
 use Rattle.records.specs.Table.{table_at}
 use Rattle.records.specs.Transaction.{is_refresh}
@@ -10,13 +12,9 @@ use Rattle.records.specs.declared.transaction.Transaction.{Transaction}
 use Rattle.records.specs.declared.command.Kind.{Kind}
 use Rattle.records.specs.declared.command.Kind.TheVariants.{Act, Rd, Rda, Wr, Wra, Ref, Other}
 use Rattle.records.specs.declared.command.Command.{Command}
-use Rattle.rules.specs.declared.state.Stamp.{Stamp}
-use Rattle.rules.specs.declared.state.Stamp.TheVariants.{At}
 use Rattle.rules.specs.declared.state.Bank.{Bank}
 use Rattle.rules.specs.declared.state.State.{State}
 use Rattle.rules.specs.declared.verdict.Rule.TheVariants.{End}
-use Rattle.rules.specs.declared.verdict.Found.{Found}
-use Rattle.rules.specs.declared.verdict.Found.TheVariants.{Fine, Broken}
 use Rattle.rules.specs.declared.verdict.Verdict.{Verdict}
 use Rattle.rules.specs.declared.verdict.Verdict.TheVariants.{Accepted as Legally, Refused as Not}
 use Rattle.rules.specs.declared.verdict.PatternVerdict.{PatternVerdict}
@@ -86,7 +84,7 @@ broken τ r h = first_broken (rules τ r h) rules_in_order
 
 abbrev pub judge_from : Table → List Command → ℕ → List Command → Verdict
 judge_from τ [] n h = pick (all_shut τ.banks h) Legally (Not End n)
-judge_from τ (r ∷ rs) n h = elim (broken τ r h) [ Fine ↦ judge_from τ rs (suc n) (r ∷ h) | Broken x ↦ Not x n ]
+judge_from τ (r ∷ rs) n h = elim (broken τ r h) [ None ↦ judge_from τ rs (suc n) (r ∷ h) | Some x ↦ Not x n ]
 
 abbrev pub copies_from : Table → ℕ → List Command → ℕ → ℕ → List Command → PatternVerdict
 copies_from τ L p zero k h = Accepted
@@ -145,13 +143,13 @@ note s c k b =
       acts = add_if (in_act_queue k) s.acts;
       datas = add_if (is_data k) s.datas;
       banks = set s.banks b (bank_after k c (bank_of s b));
-      a1 = pick (is_act k) (At c) s.a1;
+      a1 = pick (is_act k) (Some c) s.a1;
       a2 = pick (is_act k) s.a1 s.a2;
       a3 = pick (is_act k) s.a2 s.a3;
       a4 = pick (is_act k) s.a3 s.a4;
-      rd = pick (is_rd k) (At c) s.rd;
-      wr = pick (is_wr k) (At c) s.wr;
-      refresh = pick (is_ref k) (At c) s.refresh;
+      rd = pick (is_rd k) (Some c) s.rd;
+      wr = pick (is_wr k) (Some c) s.wr;
+      refresh = pick (is_ref k) (Some c) s.refresh;
     }
 
 abbrev pub idle : OldState → OldState

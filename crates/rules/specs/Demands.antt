@@ -1,5 +1,5 @@
 -- The customer's demands 2 and 3, for the definitions of document 01.
-use Rattle.std.specs.Prelude.{ℕ, suc, ◌+◌, ◌≤◌, ◌<◌, true, false, ◌≡◌, ◌↔◌, ◌⊎◌, List, [], ◌++◌, length, take}
+use Rattle.std.specs.Prelude.{ℕ, suc, ◌+◌, ◌≤◌, ◌<◌, true, false, ◌≡◌, ◌↔◌, ◌⊎◌, List, [], ◌++◌, length, take, Some, None}
 use Rattle.std.proofs.Math.Option.{some}
 use Rattle.std.proofs.Math.ListN.{get_elem?}
 use Rattle.records.specs.declared.table.Table.{Table}
@@ -7,10 +7,8 @@ use Rattle.records.specs.declared.transaction.Transaction.{Transaction}
 use Rattle.records.specs.declared.command.Command.{Command}
 use Rattle.records.specs.Table.{Accepted}
 use Rattle.records.specs.Transaction.{list_fits}
-use Rattle.rules.specs.declared.state.Stamp.TheVariants.{At}
 use Rattle.rules.specs.declared.verdict.Rule.{Rule}
 use Rattle.rules.specs.declared.verdict.Rule.TheVariants.{End}
-use Rattle.rules.specs.declared.verdict.Found.TheVariants.{Fine, Broken}
 use Rattle.rules.specs.declared.verdict.Verdict.TheVariants.{Accepted as Passed, Refused}
 use Rattle.rules.specs.declared.verdict.PatternVerdict.TheVariants.{Accepted as AllPassed, Refused as RefusedAt}
 use Rattle.rules.specs.History.{broken}
@@ -25,11 +23,11 @@ use Rattle.rules.specs.Promise.{of_first, last_command_cycle, finish_cycle}
 
 -- each of the first n records breaks no rule against all records before it, of which those of h are the oldest
 abbrev pub FineTo : Table → List Command → List Command → ℕ → Type 0
-FineTo τ h rs n = (i : ℕ) (r : Command) → i < n → get_elem? rs i ≡ some r → broken τ r (onto (take i rs) h) ≡ Fine
+FineTo τ h rs n = (i : ℕ) (r : Command) → i < n → get_elem? rs i ≡ some r → broken τ r (onto (take i rs) h) ≡ None
 
 -- record i breaks rule x
 abbrev pub BrokenAt : Table → List Command → List Command → Rule → ℕ → Type 0
-BrokenAt τ h rs x i = (r : Command) × (get_elem? rs i ≡ some r) × (broken τ r (onto (take i rs) h) ≡ Broken x)
+BrokenAt τ h rs x i = (r : Command) × (get_elem? rs i ≡ some r) × (broken τ r (onto (take i rs) h) ≡ Some x)
 
 -- rule 10: at the end, whose number is the count, a bank is open
 abbrev pub OpenAtEnd : Table → List Command → List Command → Rule → ℕ → Type 0
@@ -59,7 +57,7 @@ pub record Demand3 (τ : Table) (l : List Transaction) : Type 0 where
   -- "the built schedule passes the judge"
   pub passes : Legal τ schedule
   -- each transaction has a last command: its last read or write command, or its REF
-  pub served : (k : ℕ) → k < length l → last_command k schedule ≡ At (last_command_cycle k schedule)
+  pub served : (k : ℕ) → k < length l → last_command k schedule ≡ Some (last_command_cycle k schedule)
   -- "each transaction's last read or write command comes no later than its predecessor's last plus the bound ..
   -- (for the first, counted from cycle 0)"; "The promise counts from that finish where the predecessor", w, "is a refresh", and a REF comes
   -- "within S of where its count starts"; no count starts before the arrival

@@ -1,19 +1,18 @@
 -- Where a transaction finishes: "a read finishes when its last word has come back" (document 02, request 4).
-use Rattle.std.specs.Prelude.{ℕ, ◌+◌, ◌&&◌, List, [], ◌∷◌, eqb}
+use Rattle.std.specs.Prelude.{ℕ, ◌+◌, ◌&&◌, List, [], ◌∷◌, eqb, Some, None}
+use Rattle.rules.specs.Types.{Stamp}
 use Rattle.records.specs.Tests.{pick}
 use Rattle.records.specs.declared.table.Table.{Table}
 use Rattle.records.specs.declared.transaction.Transaction.{Transaction}
 use Rattle.records.specs.declared.command.Command.{Command}
 use Rattle.records.specs.Transaction.{is_write, is_refresh}
-use Rattle.rules.specs.declared.state.Stamp.{Stamp}
-use Rattle.rules.specs.declared.state.Stamp.TheVariants.{Never, At}
 use Rattle.rules.specs.Kinds.{can_end}
 use Rattle.rules.specs.Pattern.{onto}
 
 -- the cycle of the last data command of transaction k, or of its REF, in a history, newest first
 abbrev pub last_command_in : ℕ → List Command → Stamp
-last_command_in k [] = Never
-last_command_in k (r ∷ h) = pick (eqb r.number k && can_end r.kind) (At r.cycle) (last_command_in k h)
+last_command_in k [] = None
+last_command_in k (r ∷ h) = pick (eqb r.number k && can_end r.kind) (Some r.cycle) (last_command_in k h)
 
 -- "a read finishes at its last data command + RL + B, a write as before", at its last data command; c is that command's cycle.
 -- "A refresh finishes at its cycle + RFC" (document 02, request 5), the cycle of its REF.
@@ -30,8 +29,8 @@ abbrev pub last_command : ℕ → List Command → Stamp
 last_command k rs = last_command_in k (onto rs [])
 
 abbrev pub map_stamp : (ℕ → ℕ) → Stamp → Stamp
-map_stamp f Never = Never
-map_stamp f (At c) = At (f c)
+map_stamp f None = None
+map_stamp f (Some c) = Some (f c)
 
 -- where transaction x, number k of the list, finishes in a schedule
 abbrev pub finish : Table → Transaction → ℕ → List Command → Stamp

@@ -1,14 +1,12 @@
 -- Document 01, "Timing rules": the table of rules, "against all records before it", which stand newest first.
-use Rattle.std.specs.Prelude.{ℕ, zero, suc, ◌+◌, max, Bool, true, false, not, ◌&&◌, ◌||◌, List, [], ◌∷◌, leb, ltb, eqb}
+use Rattle.std.specs.Prelude.{ℕ, zero, suc, ◌+◌, max, Bool, true, false, not, ◌&&◌, ◌||◌, List, [], ◌∷◌, leb, ltb, eqb, Some, None}
+use Rattle.rules.specs.Types.{Stamp}
+use Rattle.rules.specs.Types.{Found}
 use Rattle.records.specs.Tests.{pick, every, every_below}
 use Rattle.records.specs.declared.table.Table.{Table}
 use Rattle.records.specs.declared.command.Kind.{Kind}
 use Rattle.records.specs.declared.command.Kind.TheVariants.{Act, Rd, Rda, Wr, Wra, Ref, Other}
 use Rattle.records.specs.declared.command.Command.{Command}
-use Rattle.rules.specs.declared.state.Stamp.{Stamp}
-use Rattle.rules.specs.declared.state.Stamp.TheVariants.{Never, At}
-use Rattle.rules.specs.declared.verdict.Found.{Found}
-use Rattle.rules.specs.declared.verdict.Found.TheVariants.{Fine, Broken}
 use Rattle.rules.specs.Kinds.{is_act, is_rd, is_wr, is_ref, is_known, first_broken, rules_in_order}
 use Rattle.rules.specs.Square.{group_of, rrd_of, from_rd, from_wr, write_tail}
 use Rattle.rules.specs.State.{past}
@@ -38,18 +36,18 @@ open_in b (r ∷ h) = pick (eqb r.bank b) (open_after r.kind (open_in b h)) (ope
 
 -- the cycle of the bank's last ACT
 abbrev pub act_in : ℕ → List Command → Stamp
-act_in b [] = Never
-act_in b (r ∷ h) = pick (eqb r.bank b && is_act r.kind) (At r.cycle) (act_in b h)
+act_in b [] = None
+act_in b (r ∷ h) = pick (eqb r.bank b && is_act r.kind) (Some r.cycle) (act_in b h)
 
 -- the greater of a cycle and a stamp
 abbrev pub greater : ℕ → Stamp → Stamp
-greater n Never = At n
-greater n (At c) = At (max n c)
+greater n None = Some n
+greater n (Some c) = Some (max n c)
 
 -- (Before a bank's first ACT every RD and WR counts; a legal history has none there.)
 -- "A bank's precharge starts at the greatest of: its ACT + RAS, each RD since that ACT + RTP, each WR since that ACT + WL + B + WR."
 abbrev pub precharge_after : Table → ℕ → Kind → Stamp → Stamp
-precharge_after τ c Act s = At (c + τ.ras)
+precharge_after τ c Act s = Some (c + τ.ras)
 precharge_after τ c Rd s = greater (c + τ.rtp) s
 precharge_after τ c Rda s = greater (c + τ.rtp) s
 precharge_after τ c Wr s = greater (c + write_tail τ) s
@@ -58,13 +56,13 @@ precharge_after τ c Ref s = s
 precharge_after τ c (Other n) s = s
 
 abbrev pub precharge_in : Table → ℕ → List Command → Stamp
-precharge_in τ b [] = Never
+precharge_in τ b [] = None
 precharge_in τ b (r ∷ h) = pick (eqb r.bank b) (precharge_after τ r.cycle r.kind (precharge_in τ b h)) (precharge_in τ b h)
 
 -- the cycle of the n-th ACT back, from 0
 abbrev pub act_back : ℕ → List Command → Stamp
-act_back n [] = Never
-act_back zero (r ∷ h) = pick (is_act r.kind) (At r.cycle) (act_back zero h)
+act_back n [] = None
+act_back zero (r ∷ h) = pick (is_act r.kind) (Some r.cycle) (act_back zero h)
 act_back (suc n) (r ∷ h) = pick (is_act r.kind) (act_back n h) (act_back (suc n) h)
 
 -- rule 7: "the fourth ACT before it"
@@ -132,5 +130,5 @@ abbrev pub broken : Table → Command → List Command → Found
 broken τ r h = first_broken (rules τ r h) rules_in_order
 
 abbrev pub is_fine : Found → Bool
-is_fine Fine = true
-is_fine (Broken r) = false
+is_fine None = true
+is_fine (Some r) = false

@@ -1,11 +1,10 @@
 -- "RD meaning RD or RDA and WR meaning WR or WRA"; the rules in the order of their numbers. REF is document 02's, request 5.
-use Rattle.std.specs.Prelude.{Bool, true, false, ◌||◌, List, [], ◌∷◌}
+use Rattle.std.specs.Prelude.{Bool, true, false, ◌||◌, List, [], ◌∷◌, Some, None}
+use Rattle.rules.specs.Types.{Found}
 use Rattle.records.specs.declared.command.Kind.{Kind}
 use Rattle.records.specs.declared.command.Kind.TheVariants.{Act, Rd, Rda, Wr, Wra, Ref, Other}
 use Rattle.rules.specs.declared.verdict.Rule.{Rule}
 use Rattle.rules.specs.declared.verdict.Rule.TheVariants.{Range, Order, Opened, Precharge, Rc, Rrd, Faw, Rcd, Distance, Refresh, Rfc}
-use Rattle.rules.specs.declared.verdict.Found.{Found}
-use Rattle.rules.specs.declared.verdict.Found.TheVariants.{Fine, Broken}
 
 abbrev pub is_act : Kind → Bool
 is_act Act = true
@@ -81,7 +80,7 @@ rules_in_order = Range ∷ Order ∷ Opened ∷ Precharge ∷ Rc ∷ Rrd ∷ Faw
 
 -- "A record breaks the first of these that applies": of tests in the order of the rules, the rule of the first that fails
 abbrev pub first_broken : List Bool → List Rule → Found
-first_broken [] rs = Fine
-first_broken (t ∷ ts) [] = Fine
+first_broken [] rs = None
+first_broken (t ∷ ts) [] = None
 first_broken (true ∷ ts) (r ∷ rs) = first_broken ts rs
-first_broken (false ∷ ts) (r ∷ rs) = Broken r
+first_broken (false ∷ ts) (r ∷ rs) = Some r

@@ -18,3 +18,4 @@ pub mod Demands
 pub mod Before
 pub mod Pins
 pub mod PinShare
+pub mod Types

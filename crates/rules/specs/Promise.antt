@@ -1,13 +1,12 @@
 -- What is promised of the built schedule and of runs, for a table that is accepted and a list that fits it.
-use Rattle.std.specs.Prelude.{ℕ, suc, ◌+◌, ◌-◌, ◌≤◌, ◌<◌, Bool, true, ◌≡◌, List, [], ◌∷◌, ◌++◌, ltb, leb, length, take, drop}
+use Rattle.std.specs.Prelude.{ℕ, suc, ◌+◌, ◌-◌, ◌≤◌, ◌<◌, Bool, true, ◌≡◌, List, [], ◌∷◌, ◌++◌, ltb, leb, length, take, drop, Some, None}
 use Rattle.std.proofs.Math.Option.{Option, none, some}
 use Rattle.std.proofs.Math.ListN.{get_elem?}
+use Rattle.rules.specs.Types.{Stamp}
 use Rattle.records.specs.Tests.{pick, every}
 use Rattle.records.specs.declared.table.Table.{Table}
 use Rattle.records.specs.declared.transaction.Transaction.{Transaction}
 use Rattle.records.specs.declared.command.Command.{Command}
-use Rattle.rules.specs.declared.state.Stamp.{Stamp}
-use Rattle.rules.specs.declared.state.Stamp.TheVariants.{Never, At}
 use Rattle.rules.specs.declared.state.State.{State}
 use Rattle.rules.specs.State.{fresh}
 use Rattle.rules.specs.Pattern.{onto}
@@ -29,8 +28,8 @@ next_cycle [] = 0
 next_cycle (r ∷ h) = r.cycle + 1
 
 abbrev pub cycle_of : Stamp → ℕ
-cycle_of Never = 0
-cycle_of (At c) = c
+cycle_of None = 0
+cycle_of (Some c) = c
 
 -- the cycle of the last command of transaction k
 abbrev pub last_command_cycle : ℕ → List Command → ℕ
@@ -72,12 +71,12 @@ pub record Kept (τ : Table) (l : List Transaction) (rs : List Command) : Type 0
   pub not_before : every (arrived l) rs ≡ true
   -- each transaction has its last command: the first within its span after its arrival, each other within its span after where its count starts, w
   -- being its predecessor
-  pub finishes : (k : ℕ) → k < length l → last_command k rs ≡ At (last_command_cycle k rs)
+  pub finishes : (k : ℕ) → k < length l → last_command k rs ≡ Some (last_command_cycle k rs)
   pub first_in : (x : Transaction) → get_elem? l 0 ≡ some x → last_command_cycle 0 rs ≤ start_at x 0 + span τ x
   pub next_in : (k : ℕ) (w x : Transaction) → get_elem? l k ≡ some w → get_elem? l (suc k) ≡ some x
       → last_command_cycle (suc k) rs ≤ start_at x (count_from τ w (last_command_cycle k rs)) + span τ x
   -- it finishes there, a read RL + B and a refresh RFC later, so no later than if its last command went at that limit; and 32 bits hold it
-  pub finish_at : (k : ℕ) (x : Transaction) → get_elem? l k ≡ some x → finish τ x k rs ≡ At (finish_of τ x (last_command_cycle k rs))
+  pub finish_at : (k : ℕ) (x : Transaction) → get_elem? l k ≡ some x → finish τ x k rs ≡ Some (finish_of τ x (last_command_cycle k rs))
   pub first_finish : (x : Transaction) → get_elem? l 0 ≡ some x → finish_cycle τ x 0 rs ≤ finish_of τ x (start_at x 0 + span τ x)
   pub next_finish : (k : ℕ) (w x : Transaction) → get_elem? l k ≡ some w → get_elem? l (suc k) ≡ some x
       → finish_cycle τ x (suc k) rs ≤ finish_of τ x (start_at x (count_from τ w (last_command_cycle k rs)) + span τ x)

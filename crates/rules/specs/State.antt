@@ -1,13 +1,12 @@
 -- Document 01, "Running a few cycles": what a state tells, the rules read off it, and the state after a command.
-use Rattle.std.specs.Prelude.{ℕ, ◌+◌, ◌≤◌, Bool, true, false, not, ◌&&◌, List, [], ◌∷◌, leb, eqb, get_or, set, replicate}
+use Rattle.std.specs.Prelude.{ℕ, ◌+◌, ◌≤◌, Bool, true, false, not, ◌&&◌, List, [], ◌∷◌, leb, eqb, get_or, set, replicate, Some, None}
 use Rattle.std.proofs.Math.Option.{Option, none, some}
+use Rattle.rules.specs.Types.{Stamp}
 use Rattle.records.specs.Tests.{pick, all_of, every_below}
 use Rattle.records.specs.declared.table.Table.{Table}
 use Rattle.records.specs.declared.command.Kind.{Kind}
 use Rattle.records.specs.declared.command.Kind.TheVariants.{Act, Rd, Rda, Wr, Wra, Ref, Other}
 use Rattle.records.specs.declared.command.Command.{Command}
-use Rattle.rules.specs.declared.state.Stamp.{Stamp}
-use Rattle.rules.specs.declared.state.Stamp.TheVariants.{Never, At}
 use Rattle.rules.specs.declared.state.Bank.{Bank}
 use Rattle.rules.specs.declared.state.Group.{Group}
 use Rattle.rules.specs.declared.state.State.{State}
@@ -16,22 +15,22 @@ use Rattle.rules.specs.Square.{group_of, rrd_of, square, side, cell, write_tail}
 
 -- cycle t is at least d after the stamp; "never" breaks no rule
 abbrev pub past : Stamp → ℕ → ℕ → Bool
-past Never d t = true
-past (At c) d t = leb (c + d) t
+past None d t = true
+past (Some c) d t = leb (c + d) t
 
 abbrev pub is_open : Bank → Bool
 is_open k = not (eqb k.opened 0)
 
 -- a closed bank that no command has reached
 abbrev pub shut : Bank
-shut = record { opened = 0; act = Never; rd = Never; wr = Never }
+shut = record { opened = 0; act = None; rd = None; wr = None }
 
 abbrev pub bank_of : State → ℕ → Bank
 bank_of s b = get_or s.banks b shut
 
 -- a group that no command has reached
 abbrev pub quiet : Group
-quiet = record { act = Never; rd = Never; wr = Never }
+quiet = record { act = None; rd = None; wr = None }
 
 abbrev pub group_at : State → ℕ → Group
 group_at s g = get_or s.groups g quiet
@@ -127,28 +126,28 @@ fresh τ =
       acts = 0;
       datas = 0;
       banks = replicate 16 shut;
-      a1 = Never;
-      a2 = Never;
-      a3 = Never;
-      a4 = Never;
+      a1 = None;
+      a2 = None;
+      a3 = None;
+      a4 = None;
       groups = replicate 8 quiet;
-      refresh = Never;
+      refresh = None;
       lent = 0;
     }
 
 -- a bank after a command to it at cycle c: its last ACT, and the last RD and WR since
 abbrev pub bank_after : Kind → ℕ → Bank → Bank
-bank_after Act c k = record { opened = 1; act = At c; rd = Never; wr = Never }
-bank_after Rd c k = record { opened = 1; act = k.act; rd = At c; wr = k.wr }
-bank_after Rda c k = record { opened = 0; act = k.act; rd = At c; wr = k.wr }
-bank_after Wr c k = record { opened = 1; act = k.act; rd = k.rd; wr = At c }
-bank_after Wra c k = record { opened = 0; act = k.act; rd = k.rd; wr = At c }
+bank_after Act c k = record { opened = 1; act = Some c; rd = None; wr = None }
+bank_after Rd c k = record { opened = 1; act = k.act; rd = Some c; wr = k.wr }
+bank_after Rda c k = record { opened = 0; act = k.act; rd = Some c; wr = k.wr }
+bank_after Wr c k = record { opened = 1; act = k.act; rd = k.rd; wr = Some c }
+bank_after Wra c k = record { opened = 0; act = k.act; rd = k.rd; wr = Some c }
 bank_after Ref c k = k
 bank_after (Other n) c k = k
 
 -- a group after a command to one of its banks at cycle c: its latest ACT, RD and WR
 abbrev pub group_after : Kind → ℕ → Group → Group
-group_after k c g = record { act = pick (is_act k) (At c) g.act; rd = pick (is_rd k) (At c) g.rd; wr = pick (is_wr k) (At c) g.wr }
+group_after k c g = record { act = pick (is_act k) (Some c) g.act; rd = pick (is_rd k) (Some c) g.rd; wr = pick (is_wr k) (Some c) g.wr }
 
 abbrev pub add_if : Bool → ℕ → ℕ
 add_if b n = pick b (n + 1) n
@@ -162,12 +161,12 @@ note τ s c k b =
       acts = add_if (in_act_queue k) s.acts;
       datas = add_if (is_data k) s.datas;
       banks = set s.banks b (bank_after k c (bank_of s b));
-      a1 = pick (is_act k) (At c) s.a1;
+      a1 = pick (is_act k) (Some c) s.a1;
       a2 = pick (is_act k) s.a1 s.a2;
       a3 = pick (is_act k) s.a2 s.a3;
       a4 = pick (is_act k) s.a3 s.a4;
       groups = set s.groups (group_of τ b) (group_after k c (group_at s (group_of τ b)));
-      refresh = pick (is_ref k) (At c) s.refresh;
+      refresh = pick (is_ref k) (Some c) s.refresh;
       lent = s.lent;
     }
 

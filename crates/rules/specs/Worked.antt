@@ -1,6 +1,6 @@
 -- Document 01, "Examples from the desk": those marked †, its figures for table A, figures for table T and with refreshes; with those of
 -- `WorkedGroups` and of `WorkedArrivals`, a single list under a single claim.
-use Rattle.std.specs.Prelude.{ℕ, suc, ◌+◌, ◌≡◌, true, false, List, [], ◌∷◌}
+use Rattle.std.specs.Prelude.{ℕ, suc, ◌+◌, ◌≡◌, true, false, List, [], ◌∷◌, Some}
 use Rattle.records.specs.declared.table.Table.{Table}
 use Rattle.records.specs.declared.transaction.Transaction.{Transaction}
 use Rattle.records.specs.declared.command.Kind.TheVariants.{Act, Rd, Rda, Wr, Wra, Ref}
@@ -9,7 +9,6 @@ use Rattle.records.specs.Command.{command}
 use Rattle.records.specs.Transaction.{transaction, fits}
 use Rattle.records.specs.House.{house, table_a, table_b, table_c, table_t}
 use Rattle.records.specs.Table.{table_of, accepted}
-use Rattle.rules.specs.declared.state.Stamp.TheVariants.{At}
 use Rattle.rules.specs.declared.verdict.Rule.TheVariants.{Range, Order, Precharge, Rc, Faw, Refresh, Rfc}
 use Rattle.rules.specs.declared.verdict.Verdict.TheVariants.{Accepted, Refused}
 use Rattle.rules.specs.declared.verdict.PatternVerdict.TheVariants.{Refused as RefusedAt}
@@ -125,21 +124,21 @@ examples =
     ∷ (bound_x table_a ≡ 18)
     -- 1 to 3, with the finishes of 1 and 3 as document 02 changes them, and 3's bound, which is met exactly
     ∷ Built table_a (read 0 1 1 ∷ []) one
-    ∷ (finish table_a (read 0 1 1) 0 one ≡ At 24)
+    ∷ (finish table_a (read 0 1 1) 0 one ≡ Some 24)
     ∷ Built table_a (read 0 1 1 ∷ read 0 1 1 ∷ []) two
     ∷ Built table_a (write 0 1 1 ∷ read 0 1 1 ∷ []) three
-    ∷ (finish table_a (write 0 1 1) 0 three ≡ At 10)
-    ∷ (finish table_a (read 0 1 1) 1 three ≡ At 68)
+    ∷ (finish table_a (write 0 1 1) 0 three ≡ Some 10)
+    ∷ (finish table_a (read 0 1 1) 1 three ≡ Some 68)
     ∷ (bound table_a 1 1 ≡ 44)
-    ∷ (last_command 1 three ≡ At (10 + bound table_a 1 1))
+    ∷ (last_command 1 three ≡ Some (10 + bound table_a 1 1))
     -- 4, and with its types swapped
     ∷ Built table_a (read 0 1 1 ∷ write 1 1 1 ∷ []) four
     ∷ Built table_a (write 0 1 1 ∷ read 1 1 1 ∷ []) four_swapped
-    ∷ (finish table_a (read 1 1 1) 1 four_swapped ≡ At 42)
+    ∷ (finish table_a (read 1 1 1) 1 four_swapped ≡ Some 42)
     -- 5 and 6
     ∷ Built table_a (read 0 4 2 ∷ []) five
     ∷ Built table_a (read 0 5 1 ∷ []) six
-    ∷ (finish table_a (read 0 5 1) 0 six ≡ At 56)
+    ∷ (finish table_a (read 0 5 1) 0 six ≡ Some 56)
     -- 7
     ∷ (bound table_a 2 1 ≡ 53)
     ∷ (bound table_a 1 4 ≡ 56)
@@ -172,11 +171,11 @@ examples =
     ∷ (bound table_t 6 2 ≡ 106)
     -- schedules, with where their transactions finish
     ∷ Built table_t (read 0 1 2 ∷ write 1 1 2 ∷ read 2 1 1 ∷ []) pairs_t
-    ∷ (finish table_t (read 0 1 2) 0 pairs_t ≡ At 33)
-    ∷ (finish table_t (write 1 1 2) 1 pairs_t ≡ At 31)
-    ∷ (finish table_t (read 2 1 1) 2 pairs_t ≡ At 65)
+    ∷ (finish table_t (read 0 1 2) 0 pairs_t ≡ Some 33)
+    ∷ (finish table_t (write 1 1 2) 1 pairs_t ≡ Some 31)
+    ∷ (finish table_t (read 2 1 1) 2 pairs_t ≡ Some 65)
     ∷ Built table_t (write 0 1 1 ∷ read 0 1 1 ∷ []) again_t
-    ∷ (last_command 1 again_t ≡ At (11 + bound table_t 1 1))
+    ∷ (last_command 1 again_t ≡ Some (11 + bound table_t 1 1))
     ∷ Built table_t (read 0 5 1 ∷ []) five_t
     -- the three causes of a precharge, and RC
     ∷ (judge table_t (by_act_t 37) ≡ Refused Precharge 2)
@@ -197,18 +196,18 @@ examples =
     ∷ (fits table_r (transaction 2 0 1 1) ≡ false)
     -- the schedules, where they finish, and that they pass the judge
     ∷ Built table_r (refresh ∷ write 0 1 1 ∷ []) refresh_first
-    ∷ (finish table_r refresh 0 refresh_first ≡ At 50)
+    ∷ (finish table_r refresh 0 refresh_first ≡ Some 50)
     ∷ (judge table_r refresh_first ≡ Accepted)
     ∷ Built table_r (read 0 1 1 ∷ refresh ∷ read 0 1 1 ∷ []) refreshed
-    ∷ (finish table_r (read 0 1 1) 0 refreshed ≡ At 24)
-    ∷ (finish table_r refresh 1 refreshed ≡ At 88)
-    ∷ (finish table_r (read 0 1 1) 2 refreshed ≡ At 112)
+    ∷ (finish table_r (read 0 1 1) 0 refreshed ≡ Some 24)
+    ∷ (finish table_r refresh 1 refreshed ≡ Some 88)
+    ∷ (finish table_r (read 0 1 1) 2 refreshed ≡ Some 112)
     ∷ (judge table_r refreshed ≡ Accepted)
     ∷ Built table_r (write 3 1 1 ∷ refresh ∷ refresh ∷ []) twice
     ∷ (judge table_r twice ≡ Accepted)
     -- the bounds: the first REF of `twice` meets S exactly; the second one's count starts at the first one's finish
     ∷ (span table_r refresh ≡ 34)
-    ∷ (last_command 1 twice ≡ At (10 + bound_s table_r))
+    ∷ (last_command 1 twice ≡ Some (10 + bound_s table_r))
     ∷ (count_from table_r refresh 44 ≡ 94)
     -- rule 11: a bank's precharge start + RP; an open bank. Rule 12: RFC after a REF, for a REF and for an ACT. Rule 1: a REF's bank is 0.
     ∷ (judge table_r (then_ref 38 0) ≡ Accepted)

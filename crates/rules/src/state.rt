@@ -1,27 +1,20 @@
 // What a running state tells.
 
-// A cycle that may be "never". 64 bits, so that the cycles of a pattern's copies never wrap.
-#[derive(Clone, Copy)]
-pub enum Stamp {
-    Never,
-    At(u64),
-}
-
 // A bank: open unless `opened` is 0; the cycles of its last ACT and of the last RD and WR since.
 #[derive(Clone, Copy)]
 pub struct Bank {
     pub opened: u32,
-    pub act: Stamp,
-    pub rd: Stamp,
-    pub wr: Stamp,
+    pub act: Option<u64>,
+    pub rd: Option<u64>,
+    pub wr: Option<u64>,
 }
 
 // A group of banks: the cycles of its latest ACT, RD and WR.
 #[derive(Clone, Copy)]
 pub struct Group {
-    pub act: Stamp,
-    pub rd: Stamp,
-    pub wr: Stamp,
+    pub act: Option<u64>,
+    pub rd: Option<u64>,
+    pub wr: Option<u64>,
 }
 
 // `cycle` is the next to be tried; `acts` and `datas` have left the two queues; `a1` to `a4` are the cycles of the last four ACTs, newest
@@ -33,11 +26,11 @@ pub struct State {
     pub acts: u32,
     pub datas: u32,
     pub banks: [Bank; 16],
-    pub a1: Stamp,
-    pub a2: Stamp,
-    pub a3: Stamp,
-    pub a4: Stamp,
+    pub a1: Option<u64>,
+    pub a2: Option<u64>,
+    pub a3: Option<u64>,
+    pub a4: Option<u64>,
     pub groups: [Group; 8],
-    pub refresh: Stamp,
+    pub refresh: Option<u64>,
     pub lent: u32,
 }

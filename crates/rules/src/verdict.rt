@@ -1,7 +1,7 @@
 // What the judge answers.
 
 // The rules of document 01, in the order of their numbers, 1 to 12. Rule 10 is asked at the end, the others of each record.
-#[derive(Clone, Copy)]
+#[derive(Clone, Copy, Debug, PartialEq, Eq)]
 pub enum Rule {
     Range,
     Order,
@@ -17,22 +17,16 @@ pub enum Rule {
     Rfc,
 }
 
-// What one record breaks: no rule, or the first that applies.
-#[derive(Clone, Copy)]
-pub enum Found {
-    Fine,
-    Broken(Rule),
-}
-
-// A verdict on a schedule: the broken rule and the record's number, from 0.
-#[derive(Clone, Copy)]
+// A verdict on a schedule: the broken rule and the record's number, from 0. It is no `Result`: a verdict against a schedule is an answer, and the
+// `Result` around it tells whether the call was refused.
+#[derive(Clone, Copy, Debug, PartialEq, Eq)]
 pub enum Verdict {
     Accepted,
     Refused(Rule, u32),
 }
 
-// A verdict on a pattern: the broken rule, the copy, from 1, and the record's number in it, from 0.
-#[derive(Clone, Copy)]
+// A verdict on a pattern, likewise: the broken rule, the copy, from 1, and the record's number in it, from 0.
+#[derive(Clone, Copy, Debug, PartialEq, Eq)]
 pub enum PatternVerdict {
     Accepted,
     Refused(Rule, u32, u32),

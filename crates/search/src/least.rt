@@ -10,18 +10,10 @@ use records::command::{Command, Kind};
 use records::table::Table;
 use shortest::place::records_of;
 
-// The length and its pattern, if there is one.
-#[derive(Clone, Copy)]
-pub struct Found {
-    pub ok: bool,
-    pub length: u32,
-    pub items: [Command; 6],
-}
-
-// Each length in turn, from 1 to the greatest.
-pub fn least(t: Table, write: bool, bi: u8, bc: u8, most: u32) -> Found
+// Each length in turn, from 1 to the greatest: the least length and its pattern, if there is one.
+pub fn least(t: Table, write: bool, bi: u8, bc: u8, most: u32) -> Option<(u32, [Command; 6])>
     requires { Held t × (0 < bi) × (0 < bc) × (bi * suc bc ≤ 6) × (bi ≤ t.banks) × (most ≤ 128) }
-    ensures { FoundLeast t write bi bc most result.ok result.length result.items }
+    ensures { FoundLeast t write bi bc most result }
 {
     let near = distances(t, true);
     let away = distances(t, false);
@@ -33,26 +25,26 @@ pub fn least(t: Table, write: bool, bi: u8, bc: u8, most: u32) -> Found
         number: 0,
     };
     let items = [nil; 6];
-    let mut length: u32 = 1;
-    while length <= most {
-        let now = length;
-        length = now + 1;
-        let some = hope(t, near, away, write, bi, bc, now, n, 1, 1, items);
-        if some {
-            let o = search(t, near, away, write, bi, bc, now, n, now - 1, 1, items);
-            let found = o.items;
-            if o.ok {
-                return Found {
-                    ok: true,
-                    length: now,
-                    items: found,
-                };
-            }
+    for length in 1..=most {
+        let some = hope(t, near, away, write, bi, bc, length, n, 1, 1, items);
+        if !some {
+            continue;
+        }
+        if let Some(found) = search(
+            t,
+            near,
+            away,
+            write,
+            bi,
+            bc,
+            length,
+            n,
+            length - 1,
+            1,
+            items,
+        ) {
+            return Some((length, found));
         }
     }
-    Found {
-        ok: false,
-        length: 0,
-        items: items,
-    }
+    None
 }

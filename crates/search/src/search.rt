@@ -7,25 +7,17 @@ ghost use Rattle.shortest.specs.Search.{Shaped, Searched};
 use lifts::hope::hope;
 use records::command::Command;
 use records::table::Table;
-use records::tests::both_of;
 use shortest::place::{class_of, count, kind_at, put};
 use shortest::write::judge_records;
-
-// What was found: the records, if ok.
-#[derive(Clone, Copy)]
-pub struct Out {
-    pub ok: bool,
-    pub items: [Command; 6],
-}
 
 pub fn is_choice(low: bool, few: bool, same: bool) -> bool
     ensures { result ≡ (low && (few && same)) }
 {
-    both_of(low, both_of(few, same))
+    low && few && same
 }
 
 // The first k of n records are placed, and `left` cycles of the pattern are left. At the first of them each choice is tried, ACTs first and
-// banks ascending; where none leads to a pattern the cycle stays empty.
+// banks ascending; where none leads to a pattern the cycle stays empty. What is found is the records.
 pub fn search(
     t: Table,
     near: [[u32; 2]; 2],
@@ -38,67 +30,37 @@ pub fn search(
     left: u32,
     k: usize,
     items: [Command; 6],
-) -> Out
+) -> Option<[Command; 6]>
     requires { Held t × (near ≡ square t true) × (away ≡ square t false) × (bi ≤ t.banks) × (0 < length) × (length ≤ 128) × (n ≡ bi * suc bc) × (n ≤ 6) × (bi ≤ 3)
         × (left ≤ length) × (0 < k) × (k ≤ n) × Shaped write bi bc length k items }
-    ensures { Searched t write bi bc length k items (length - left) result.ok result.items }
+    ensures { Searched t write bi bc length k items (length - left) result }
 {
     if k == n {
-        let ok = judge_records(t, length, n, items);
-        return Out {
-            ok: ok,
-            items: items,
-        };
+        let legal = judge_records(t, length, n, items);
+        return if legal { Some(items) } else { None };
     }
     if left == 0 {
-        return Out {
-            ok: false,
-            items: items,
-        };
+        return None;
     }
     let c = length - left;
     let fewer = left - 1;
-    let mut m: u8 = 0;
-    while m < 9 {
+    for m in 0..9 {
         let class = m / 3;
         let b = m % 3;
-        m = m + 1;
         let step = count(items, k, b);
         let kind = kind_at(write, bc, step);
         let same = class_of(kind) == class;
-        if is_choice(b < bi, step <= bc, same) {
-            let placed = put(items, k, c, kind, b);
-            let some = hope(
-                t,
-                near,
-                away,
-                write,
-                bi,
-                bc,
-                length,
-                n,
-                k + 1,
-                k + 1,
-                placed,
-            );
-            if some {
-                let o = search(
-                    t,
-                    near,
-                    away,
-                    write,
-                    bi,
-                    bc,
-                    length,
-                    n,
-                    fewer,
-                    k + 1,
-                    placed,
-                );
-                if o.ok {
-                    return o;
-                }
-            }
+        if !is_choice(b < bi, step <= bc, same) {
+            continue;
+        }
+        let placed = put(items, k, c, kind, b);
+        let next = k + 1;
+        let some = hope(t, near, away, write, bi, bc, length, n, next, next, placed);
+        if !some {
+            continue;
+        }
+        if let Some(found) = search(t, near, away, write, bi, bc, length, n, fewer, next, placed) {
+            return Some(found);
         }
     }
     search(t, near, away, write, bi, bc, length, n, fewer, k, items)

@@ -5,15 +5,16 @@
 // The line is `case` for any other call, and for a case that the input cuts short, which is the last.
 #![tactic(auto)]
 
-ghost use Rattle.std.specs.Prelude.{◌<◌};
+mod cases;
 
+use cases::{Case, Cases};
 use desk::{serves_bytes, serves_later_bytes};
-use prints::{long, number, refusal, text};
+use prints::Refused;
 use promises::numbers::rule_number;
+use reads::bytes::Bytes;
 use reads::read_full;
-use records::little::num_at;
 use records::refusal::Refusal;
-use serves::answer::{Served, ServesAnswer};
+use serves::answer::Served;
 use std::io;
 use std::io::Write;
 
@@ -23,95 +24,49 @@ fn main(rt: HostRuntime) -> io::Result<()> {
     all_cases(&mut rt.stdout(), &input[..n])
 }
 
-fn all_cases<W: Write>(out: &mut W, s: &[u8]) -> io::Result<()> {
-    let mut at = 0;
-    while 8 <= s.len() - at {
-        let table = at + 8;
-        let list = table + table_size(s[at + 3]);
-        let from = list + size(num_at(s, at + 4));
-        let end = from + size(num_at(s, at + 6));
-        if s.len() < end {
-            break;
-        }
-        one_case(
+fn all_cases<W: Write>(out: &mut W, input: &[u8]) -> io::Result<()> {
+    let mut cases = Cases {
+        bytes: Bytes { left: input },
+    };
+    for case in cases.by_ref() {
+        one_case(out, case)?;
+    }
+    if cases.bytes.left.is_empty() {
+        Ok(())
+    } else {
+        no_case(out)
+    }
+}
+
+fn one_case<W: Write>(out: &mut W, c: Case<'_>) -> io::Result<()> {
+    match c.call {
+        1 => told(out, serves_bytes(c.expected, c.table, c.list, c.schedule)),
+        2 => told(
             out,
-            s[at],
-            num_at(s, at + 1),
-            &s[table..list],
-            &s[list..from],
-            &s[from..end],
-        )?;
-        at = end;
+            serves_later_bytes(c.expected, c.table, c.list, c.schedule),
+        ),
+        _ => no_case(out),
     }
-    if at < s.len() {
-        no_case(out)?;
-        end_line(out)?;
-    }
-    Ok(())
-}
-
-fn size(n: u16) -> usize
-    ensures { result < 65536 }
-{
-    n as usize
-}
-
-fn table_size(n: u8) -> usize
-    ensures { result < 256 }
-{
-    n as usize
-}
-
-fn one_case<W: Write>(
-    out: &mut W,
-    call: u8,
-    expected: u16,
-    table: &[u8],
-    list: &[u8],
-    schedule: &[u8],
-) -> io::Result<()> {
-    match call {
-        1 => told(out, serves_bytes(expected, table, list, schedule))?,
-        2 => told(out, serves_later_bytes(expected, table, list, schedule))?,
-        _ => no_case(out)?,
-    }
-    end_line(out)
 }
 
 fn no_case<W: Write>(out: &mut W) -> io::Result<()> {
-    text(out, b"case")
+    out.write_all(b"case\n")
 }
 
-fn end_line<W: Write>(out: &mut W) -> io::Result<()> {
-    text(out, b"\n")
-}
-
-fn told<W: Write>(out: &mut W, answer: ServesAnswer) -> io::Result<()> {
+fn told<W: Write>(out: &mut W, answer: Result<(u16, Served), Refusal>) -> io::Result<()> {
     match answer {
-        ServesAnswer::Told(edition, a) => {
-            text(out, b"edition")?;
-            number(out, edition)?;
+        Ok((edition, a)) => {
+            write!(out, "edition {edition} ")?;
             served(out, a)
         }
-        ServesAnswer::Refused(r) => {
-            text(out, b"refused")?;
-            refusal(out, r)
-        }
+        Err(r) => writeln!(out, "{}", Refused(r)),
     }
 }
 
 fn served<W: Write>(out: &mut W, a: Served) -> io::Result<()> {
     match a {
-        Served::Serves => text(out, b" serves"),
-        Served::Refused(x, record) => {
-            text(out, b" rule")?;
-            long(out, rule_number(x))?;
-            text(out, b" record")?;
-            long(out, record)
-        }
-        Served::AtFault(x) => {
-            text(out, b" transaction")?;
-            long(out, x)
-        }
+        Served::Serves => writeln!(out, "serves"),
+        Served::Refused(x, record) => writeln!(out, "rule {} record {record}", rule_number(x)),
+        Served::AtFault(x) => writeln!(out, "transaction {x}"),
     }
 }

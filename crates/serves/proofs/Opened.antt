@@ -1,5 +1,6 @@
 -- In a schedule that the judge accepts the records are in the table, and a data command's bank has had an ACT.
 -- Assumes nothing.
+use Rattle.std.specs.Prelude.{None}
 use Prim.Native.Nat.{ℕ}
 use mathlib.Core.Path.{◌≡◌, refl, subst}
 use mathlib.Core.Logic.{inl, inr}
@@ -14,7 +15,6 @@ use Rattle.records.specs.declared.command.Kind.{Kind}
 use Rattle.records.specs.declared.command.Kind.TheVariants.{Act, Rd, Rda, Wr, Wra, Ref, Other}
 use Rattle.records.specs.declared.command.Command.{Command}
 use Rattle.records.specs.Tests.{pick, all_of}
-use Rattle.rules.specs.declared.verdict.Found.TheVariants.{Fine}
 use Rattle.rules.specs.Kinds.{is_act, is_data}
 use Rattle.rules.specs.History.{in_table, open_after, open_in, data_rules, rules_by, broken}
 use Rattle.rules.specs.Pattern.{onto}
@@ -27,7 +27,7 @@ use Rattle.serves.proofs.Records.{Somewhere, before_at}
 
 -- the records before one, and it, are lawful
 pub record Lawful (τ : Table) (r : Command) (h : List Command) : Type 0 where
-  pub fine : broken τ r h ≡ Fine
+  pub fine : broken τ r h ≡ None
   pub before : LegalHistory τ h
 
 -- what holds of each record of a legal history, with those before it

@@ -1,5 +1,6 @@
 -- What the call's numbers mean, over plain values.
 -- Assumes nothing.
+use Rattle.std.specs.Prelude.{Ok}
 use Prim.Native.Nat.{ℕ, suc, ◌*◌, ◌≤◌, ◌<◌}
 use native.Mathlib.Omega.{arith}
 use mathlib.Core.Path.{◌≡◌, sym, ap, ◌∙◌}
@@ -17,7 +18,6 @@ use Rattle.records.proofs.Laws.{passes}
 use Rattle.records.proofs.Written.{read_back}
 use Rattle.rules.proofs.laws.TestLaws.{and_snd, and_at}
 use Rattle.shortest.specs.Shortest.{Shortest}
-use Rattle.shortest.specs.declared.answer.ShortestAnswer.TheVariants.{Pattern}
 use Rattle.shortest.specs.Answer.{is_asked, shortest_refusal, Stands, LeavesShortest}
 use Rattle.shortest.proofs.Shape.{pattern_length}
 use Rattle.shortest.proofs.Written.{pattern_readable}
@@ -69,7 +69,7 @@ stands {τ} {w} {bi} {bc} {most} {L} {n} x {b₀} {b} e s f =
 
 -- ---- of an answer that is a pattern
 
-module _ (τ : Table) (type bi bc most : ℕ) (b₀ b : List ℕ) (e L n : ℕ) (p : LeavesShortest τ type bi bc most b₀ b (Pattern e L n)) where
+module _ (τ : Table) (type bi bc most : ℕ) (b₀ b : List ℕ) (e L n : ℕ) (p : LeavesShortest τ type bi bc most b₀ b (Ok (e, L, n))) where
   g : Granted τ.banks bi bc most (length b₀)
   g = granted τ.banks type bi bc most (length b₀) p.0
 

@@ -1,5 +1,7 @@
 -- One turn of the loop that sets records out, for a state that is kept in plain numbers and changed in place.
 -- Assumes nothing.
+use Rattle.std.specs.Prelude.{None}
+use Rattle.rules.specs.Types.{Found}
 use Prim.Native.Nat.{ℕ, suc, ◌+◌, ◌-◌, ◌*◌, ◌≤◌, ◌<◌, max}
 use native.Mathlib.Omega.{arith}
 use mathlib.Core.Path.{◌≡◌, refl, sym, ap, ◌∙◌, subst}
@@ -15,8 +17,6 @@ use Rattle.records.specs.Command.{command}
 use Rattle.records.specs.Tests.{pick}
 use Rattle.rules.specs.declared.state.Bank.{Bank}
 use Rattle.rules.specs.declared.state.State.{State}
-use Rattle.rules.specs.declared.verdict.Found.{Found}
-use Rattle.rules.specs.declared.verdict.Found.TheVariants.{Fine}
 use Rattle.rules.specs.Kinds.{is_act, is_wr, is_ref, is_known, first_broken, rules_in_order}
 use Rattle.rules.specs.Square.{group_of}
 use Rattle.rules.specs.State.{tests_by, note, Held}
@@ -38,7 +38,7 @@ use Rattle.shortest.proofs.Lifted.{lift_start, lift_wrap, lift_next, no_hope}
 
 -- no cycle before c breaks no rule
 abbrev pub NotBefore : (ℕ → Found) → ℕ → ℕ → Type 0
-NotBefore f from c = (x : ℕ) → from ≤ x → x < c → f x ≡ Fine → ⊥
+NotBefore f from c = (x : ℕ) → from ≤ x → x < c → f x ≡ None → ⊥
 
 pub scan_more : (f : ℕ → Found) (from c : ℕ) → NotBefore f from c → is_fine (f c) ≡ false → NotBefore f from (c + 1)
 scan_more f from c n e x l m g = on (eqb x c) refl
@@ -51,11 +51,11 @@ pub scan_ends : (f : ℕ → Found) (from lim r : ℕ) → from ≤ r → NotBef
 scan_ends f from lim r l n g = record { low = l; before = n; fine = λ m. is_fine_lem (f r) (g m) }
 
 -- what breaks no rule is at the state's cycle or later
-fine_late : (τ : Table) (s : State) (k : Kind) (c b : ℕ) → found_by τ s k c b ≡ Fine → s.cycle ≤ c
+fine_late : (τ : Table) (s : State) (k : Kind) (c b : ℕ) → found_by τ s k c b ≡ None → s.cycle ≤ c
 unfolding found_by
 fine_late τ s k c b e = on (in_table τ k b) (leb s.cycle c) refl e
   where
-    on : (x y : Bool) → leb s.cycle c ≡ y → first_broken (x ∷ y ∷ tests_by τ s k c b) rules_in_order ≡ Fine → s.cycle ≤ c
+    on : (x y : Bool) → leb s.cycle c ≡ y → first_broken (x ∷ y ∷ tests_by τ s k c b) rules_in_order ≡ None → s.cycle ≤ c
     on true true f g = leb-true s.cycle c f
     on true false f g = let z : ◌≡◌ {A = ℕ} 0 1 = cc in absurd (omega arith)
     on false y f g = let z : ◌≡◌ {A = ℕ} 0 1 = cc in absurd (omega arith)

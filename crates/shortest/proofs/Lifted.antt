@@ -1,5 +1,7 @@
 -- Lower bounds of a pattern's cycles, lifted: copies are set out at the earliest cycles that the rules let them have, and stay below the pattern's.
 -- Assumes nothing.
+use Rattle.std.specs.Prelude.{None}
+use Rattle.rules.specs.Types.{Found}
 use Prim.Native.Nat.{ℕ, suc, ◌+◌, ◌-◌, ◌*◌, ◌≤◌, ◌<◌}
 use native.Mathlib.Omega.{arith}
 use mathlib.Core.Path.{◌≡◌, refl, sym, ap, ◌∙◌, subst}
@@ -13,8 +15,6 @@ use Rattle.records.specs.declared.table.Table.{Table}
 use Rattle.records.specs.declared.command.Command.{Command}
 use Rattle.records.specs.Command.{command}
 use Rattle.rules.specs.declared.state.State.{State}
-use Rattle.rules.specs.declared.verdict.Found.{Found}
-use Rattle.rules.specs.declared.verdict.Found.TheVariants.{Fine}
 use Rattle.rules.specs.State.{fresh, note, Held}
 use Rattle.rules.specs.History.{broken}
 use Rattle.rules.specs.Pattern.{moved, end_to_end, onto, EveryNumberLegal}
@@ -45,7 +45,7 @@ copies_legal τ L p f n =
 
 -- each record of each copy breaks no rule
 pub fine_at : (τ : Table) (L : ℕ) (p : List Command) → EveryNumberLegal τ L p → (k i : ℕ) → i < length p
-    → broken τ (record_later (L * k) (nth p i)) (seen L p k i) ≡ Fine
+    → broken τ (record_later (L * k) (nth p i)) (seen L p k i) ≡ None
 fine_at τ L p f k i l =
     (legal_older τ (moved (L * k) (drop (suc i) p)) (record_later (L * k) (nth p i) ∷ seen L p k i)
     (subst (LegalHistory τ)
@@ -89,7 +89,7 @@ module _ (τ : Table) (w : Bool) (bi bc L k : ℕ) (x₀ : List Command) where
       inside = omega (arith, pattern_length q)
 
       -- the pattern's own cycle breaks no rule here
-      own_fine : finds ((nth p i).cycle + L * c) ≡ Fine
+      own_fine : finds ((nth p i).cycle + L * c) ≡ None
       unfolding found_by
       own_fine =
           let a = f.keeps p q u v in

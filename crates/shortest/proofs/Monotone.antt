@@ -1,5 +1,7 @@
 -- The rules are lower bounds: what breaks no rule after a history breaks none after one of the same commands, none of them later.
 -- Assumes nothing.
+use Rattle.std.specs.Prelude.{Some, None}
+use Rattle.rules.specs.Types.{Stamp}
 use Prim.Native.Nat.{ℕ, zero, suc, ◌+◌, ◌≤◌}
 use native.Mathlib.Omega.{arith}
 use mathlib.Core.Path.{◌≡◌, refl, sym, ap, ◌∙◌}
@@ -12,9 +14,6 @@ use Rattle.records.specs.declared.table.Table.{Table}
 use Rattle.records.specs.declared.command.Kind.{Kind}
 use Rattle.records.specs.declared.command.Kind.TheVariants.{Act, Rd, Rda, Wr, Wra, Ref, Other}
 use Rattle.records.specs.declared.command.Command.{Command}
-use Rattle.rules.specs.declared.state.Stamp.{Stamp}
-use Rattle.rules.specs.declared.state.Stamp.TheVariants.{Never, At}
-use Rattle.rules.specs.declared.verdict.Found.TheVariants.{Fine}
 use Rattle.rules.specs.Kinds.{is_act, is_rd, is_wr, is_ref}
 use Rattle.rules.specs.Square.{group_of, rrd_of, from_rd, from_wr, write_tail}
 use Rattle.rules.specs.State.{past}
@@ -28,24 +27,24 @@ use Rattle.shortest.specs.Lifting.{Lower}
 -- ---- stamps
 
 abbrev StampLower : Stamp → Stamp → Type 0
-StampLower Never s = Unit {0}
-StampLower (At a) Never = ⊥
-StampLower (At a) (At b) = a ≤ b
+StampLower None s = Unit {0}
+StampLower (Some a) None = ⊥
+StampLower (Some a) (Some b) = a ≤ b
 
 past_lower : (s s' : Stamp) (d t : ℕ) → StampLower s s' → past s' d t ≡ true → past s d t ≡ true
-past_lower Never s' d t q e = refl
-past_lower (At a) Never d t q e = absurd q
-past_lower (At a) (At b) d t q e = le-leb (a + d) t (omega (arith, leb-true (b + d) t e))
+past_lower None s' d t q e = refl
+past_lower (Some a) None d t q e = absurd q
+past_lower (Some a) (Some b) d t q e = le-leb (a + d) t (omega (arith, leb-true (b + d) t e))
 
 pick_lower : (e : Bool) (x x' y y' : Stamp) → StampLower x x' → StampLower y y' → StampLower (pick e x y) (pick e x' y')
 pick_lower true x x' y y' p q = p
 pick_lower false x x' y y' p q = q
 
 greater_lower : (n n' : ℕ) (s s' : Stamp) → n ≤ n' → StampLower s s' → StampLower (greater n s) (greater n' s')
-greater_lower n n' Never Never l q = l
-greater_lower n n' Never (At b) l q = omega arith
-greater_lower n n' (At a) Never l q = absurd q
-greater_lower n n' (At a) (At b) l q = omega arith
+greater_lower n n' None None l q = l
+greater_lower n n' None (Some b) l q = omega arith
+greater_lower n n' (Some a) None l q = absurd q
+greater_lower n n' (Some a) (Some b) l q = omega arith
 
 -- ---- what the rules read
 
@@ -65,7 +64,7 @@ act_lower b [] h' q = tt
 act_lower b (x ∷ h) [] q = absurd q
 act_lower b (x ∷ h) (r ∷ h') q =
     rw (q.0.0, q.0.1)
-    (pick_lower (eqb r.bank b && is_act r.kind) (At x.cycle) (At r.cycle) (act_in b h) (act_in b h') q.0.2 (act_lower b h h' q.1))
+    (pick_lower (eqb r.bank b && is_act r.kind) (Some x.cycle) (Some r.cycle) (act_in b h) (act_in b h') q.0.2 (act_lower b h h' q.1))
 
 after_lower : (τ : Table) (k : Kind) (c c' : ℕ) (s s' : Stamp) → c ≤ c' → StampLower s s' → StampLower (precharge_after τ c k s) (precharge_after τ c' k s')
 after_lower τ Act c c' s s' l q = omega arith
@@ -90,7 +89,7 @@ back_lower : (n : ℕ) (h h' : List Command) → Lower h h' → StampLower (act_
 back_lower n [] h' q = tt
 back_lower n (x ∷ h) [] q = absurd q
 back_lower zero (x ∷ h) (r ∷ h') q =
-    rw q.0.0 (pick_lower (is_act r.kind) (At x.cycle) (At r.cycle) (act_back 0 h) (act_back 0 h') q.0.2 (back_lower 0 h h' q.1))
+    rw q.0.0 (pick_lower (is_act r.kind) (Some x.cycle) (Some r.cycle) (act_back 0 h) (act_back 0 h') q.0.2 (back_lower 0 h h' q.1))
 back_lower (suc n) (x ∷ h) (r ∷ h') q =
     rw q.0.0
     (pick_lower (is_act r.kind) (act_back n h) (act_back n h') (act_back (suc n) h) (act_back (suc n) h') (back_lower n h h' q.1) (back_lower (suc n) h h' q.1))
@@ -226,7 +225,7 @@ module _ (τ : Table) (t b : ℕ) (h h' : List Command) (q : Lower h h') where
   rules_implied (Other n) = tt
 
 -- the law that everything rests on
-pub fine_lower : (τ : Table) (r : Command) (h h' : List Command) → Lower h h' → broken τ r h' ≡ Fine → broken τ r h ≡ Fine
+pub fine_lower : (τ : Table) (r : Command) (h h' : List Command) → Lower h h' → broken τ r h' ≡ None → broken τ r h ≡ None
 fine_lower τ r h h' q e =
     is_fine_lem (broken τ r h)
     (fine_rules τ r h

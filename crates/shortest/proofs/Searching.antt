@@ -1,5 +1,6 @@
 -- One turn of the loop over the choices of a cycle, over plain values.
 -- Assumes nothing.
+use Rattle.std.specs.Prelude.{Option, Some, None}
 use Prim.Native.Nat.{ℕ, suc, ◌+◌, ◌-◌, ◌*◌, ◌/◌, ◌%◌, ◌≤◌, ◌<◌}
 use native.Mathlib.Omega.{arith}
 use mathlib.Core.Path.{◌≡◌, refl, sym, ap, ◌∙◌, subst}
@@ -8,6 +9,7 @@ use mathlib.Core.List.{List}
 use lib.Dec.{leb, ltb, eqb}
 use lib.ListN.{length, set, take}
 use borrow.Author.Tests.{lt-ltb, le-leb, eq-eqb, ltb-true, leb-true, eqb-true}
+use Rattle.records.specs.Tests.{pick}
 use Rattle.records.specs.declared.table.Table.{Table}
 use Rattle.records.specs.declared.command.Kind.{Kind}
 use Rattle.records.specs.declared.command.Command.{Command}
@@ -111,48 +113,45 @@ module _ {τ : Table} {w : Bool} {bi bc L left k : ℕ} {x : List Command} {m : 
       turn_hopeless g =
           next (tried_hopeless τ w bi bc L q.few k x t q.low q.room m (m / 3) (m % 3) em lb q.tried (subst (Hopeless τ w bi bc L (k + 1) (k + 1)) is g))
 
-      module _ {ok : Bool} {u : List Command} (s : Searched τ w bi bc L (k + 1) z (L - (left - 1)) ok u) where
-        pub turn_nothing : ok ≡ false → Choosing τ w bi bc L left k x (m + 1)
-        turn_nothing f =
-            next (tried_nothing τ w bi bc L q.few k x t q.low q.room m (m / 3) (m % 3) em lb q.tried
-            (subst (λ (h : List Command). Nothing τ w bi bc L (k + 1) h (t + 1)) is (subst (Nothing τ w bi bc L (k + 1) z) step_is (s.none f))))
+      pub turn_nothing : Nothing τ w bi bc L (k + 1) z (L - (left - 1)) → Choosing τ w bi bc L left k x (m + 1)
+      turn_nothing g =
+          next (tried_nothing τ w bi bc L q.few k x t q.low q.room m (m / 3) (m % 3) em lb q.tried
+          (subst (λ (h : List Command). Nothing τ w bi bc L (k + 1) h (t + 1)) is (subst (Nothing τ w bi bc L (k + 1) z) step_is g)))
 
-        pub turn_found : ok ≡ true → Searched τ w bi bc L k x t ok u
-        turn_found f =
-            record {
-              found = λ g.
-                  best_here τ w bi bc L q.few k x t q.low q.room m (m / 3) (m % 3) em lb q.tried (take (bi * suc bc) u) kind_class
-                  (subst (λ (h : List Command). Best τ w bi bc L (k + 1) h (t + 1) (take (bi * suc bc) u)) is
-                  (subst (λ (h : ℕ). Best τ w bi bc L (k + 1) z h (take (bi * suc bc) u)) step_is (s.found g)));
-              none = λ g. true_false ok f g;
-            }
+      pub turn_found : (u : List Command) → Best τ w bi bc L (k + 1) z (L - (left - 1)) (take (bi * suc bc) u) → Best τ w bi bc L k x t (take (bi * suc bc) u)
+      turn_found u g =
+          best_here τ w bi bc L q.few k x t q.low q.room m (m / 3) (m % 3) em lb q.tried (take (bi * suc bc) u) kind_class
+          (subst (λ (h : List Command). Best τ w bi bc L (k + 1) h (t + 1) (take (bi * suc bc) u)) is
+          (subst (λ (h : ℕ). Best τ w bi bc L (k + 1) z h (take (bi * suc bc) u)) step_is g))
 
   -- every choice was tried
-  pub turn_end : 9 ≤ m → {ok : Bool} {u : List Command} → Searched τ w bi bc L k x (L - (left - 1)) ok u → Searched τ w bi bc L k x t ok u
-  turn_end l {ok} {u} s =
-      let e : m ≡ 9 = omega (arith, q.upto) in
-      let all : Tried τ w bi bc L k x t 9 = subst (Tried τ w bi bc L k x t) e q.tried in
-      record {
-        found = λ g.
-            best_later τ w bi bc L q.few k x t q.low q.room all (take (bi * suc bc) u)
-            (subst (λ (h : ℕ). Best τ w bi bc L k x h (take (bi * suc bc) u)) step_is (s.found g));
-        none = λ g. nothing_now τ w bi bc L q.few k x t q.low q.room all (subst (Nothing τ w bi bc L k x) step_is (s.none g));
-      }
+  all_tried : 9 ≤ m → Tried τ w bi bc L k x t 9
+  all_tried l = let e : m ≡ 9 = omega (arith, q.upto) in subst (Tried τ w bi bc L k x t) e q.tried
+
+  pub turn_end : 9 ≤ m → (o : Option (List Command)) → Searched τ w bi bc L k x (L - (left - 1)) o → Searched τ w bi bc L k x t o
+  turn_end l (Some u) s =
+      best_later τ w bi bc L q.few k x t q.low q.room (all_tried l) (take (bi * suc bc) u)
+      (subst (λ (h : ℕ). Best τ w bi bc L k x h (take (bi * suc bc) u)) step_is s)
+  turn_end l None s = nothing_now τ w bi bc L q.few k x t q.low q.room (all_tried l) (subst (Nothing τ w bi bc L k x) step_is s)
 
 -- no cycle is left
-pub turn_none : (τ : Table) (w : Bool) (bi bc L left k : ℕ) (x : List Command) → bi ≤ 3 → k < bi * suc bc → k < length x → left ≡ 0 → (u : List Command)
-    → Searched τ w bi bc L k x (L - left) false u
-turn_none τ w bi bc L left k x few low room e u =
-    record { found = λ g. true_false false g refl; none = λ g. nothing_left τ w bi bc L few k x (L - left) low room (omega arith) }
+pub turn_none : (τ : Table) (w : Bool) (bi bc L left k : ℕ) (x : List Command) → bi ≤ 3 → k < bi * suc bc → k < length x → left ≡ 0
+    → Nothing τ w bi bc L k x (L - left)
+turn_none τ w bi bc L left k x few low room e = nothing_left τ w bi bc L few k x (L - left) low room (omega arith)
 
 -- all records are placed
-pub search_leaf : {τ : Table} {w : Bool} {bi bc L k n : ℕ} {x : List Command} (t : ℕ) (ok : Bool) → k ≡ n → n ≡ bi * suc bc → 0 < k → Shaped w bi bc L k x
+module _ {τ : Table} {w : Bool} {bi bc L k n : ℕ} {x : List Command} (t : ℕ) (e : k ≡ n) (f : n ≡ bi * suc bc) (more : 0 < k) (q : Shaped w bi bc L k x) where
+  pub leaf_found : EveryNumberLegal τ L (take n x) → Best τ w bi bc L k x t (take (bi * suc bc) x)
+  leaf_found g =
+      subst (λ (m : ℕ). Best τ w bi bc L k x t (take m x)) (e ∙ f)
+      (leaf_best q τ t (e ∙ f) more (subst (λ (m : ℕ). EveryNumberLegal τ L (take m x)) (sym e) g))
+
+  pub leaf_none : (EveryNumberLegal τ L (take n x) → ⊥) → Nothing τ w bi bc L k x t
+  leaf_none g = leaf_nothing q τ t (e ∙ f) (λ v. g (subst (λ (m : ℕ). EveryNumberLegal τ L (take m x)) e v))
+
+-- the same of what is answered there: the records where they are legal, nothing where they are not
+pub search_leaf : (τ : Table) (w : Bool) (bi bc L k n : ℕ) (x : List Command) (t : ℕ) (ok : Bool) → k ≡ n → n ≡ bi * suc bc → 0 < k → Shaped w bi bc L k x
     → (ok ≡ true → EveryNumberLegal τ L (take n x)) × (ok ≡ false → EveryNumberLegal τ L (take n x) → ⊥)
-    → Searched τ w bi bc L k x t ok x
-search_leaf {τ} {w} {bi} {bc} {L} {k} {n} {x} t ok e f more q g =
-    record {
-      found = λ h.
-          subst (λ (m : ℕ). Best τ w bi bc L k x t (take m x)) (e ∙ f)
-          (leaf_best q τ t (e ∙ f) more (subst (λ (m : ℕ). EveryNumberLegal τ L (take m x)) (sym e) (g.0 h)));
-      none = λ h. leaf_nothing q τ t (e ∙ f) (λ v. g.1 h (subst (λ (m : ℕ). EveryNumberLegal τ L (take m x)) e v));
-    }
+    → Searched τ w bi bc L k x t (pick ok (Some x) None)
+search_leaf τ w bi bc L k n x t true e f more q g = leaf_found t e f more q (g.0 refl)
+search_leaf τ w bi bc L k n x t false e f more q g = leaf_none t e f more q (g.1 refl)

@@ -1,5 +1,7 @@
 -- One answer and one content of the buffer: the shortest pattern is one.
 -- Assumes nothing.
+use Rattle.std.specs.Prelude.{Result, Ok, Err}
+use Rattle.records.specs.declared.refusal.Refusal.{Refusal}
 use Prim.Native.Nat.{ℕ, ◌<◌}
 use native.Mathlib.Omega.{arith}
 use mathlib.Core.Path.{◌≡◌, refl, sym, ap, ◌∙◌, subst}
@@ -15,8 +17,6 @@ use Rattle.records.specs.declared.command.Kind.{Kind}
 use Rattle.records.specs.declared.command.Command.{Command}
 use Rattle.records.specs.Command.{command, kind_number, bytes_of_all}
 use Rattle.rules.proofs.laws.TestLaws.{and_fst, and_snd, either}
-use Rattle.shortest.specs.declared.answer.ShortestAnswer.{ShortestAnswer}
-use Rattle.shortest.specs.declared.answer.ShortestAnswer.TheVariants.{Pattern, Refused}
 use Rattle.shortest.specs.Shortest.{earlier, Alike, NoLater, IsPattern, Shortest}
 use Rattle.shortest.specs.Answer.{Cause, LeavesShortest}
 
@@ -107,25 +107,25 @@ module _ {τ : Table} {w : Bool} {bi bc most L M : ℕ} {p q : List Command} (a 
       (b.first p (subst (λ (N : ℕ). IsPattern τ w bi bc N p) one_length a.is))
 
 -- one answer and one content of the buffer
-pub shortest_only : (τ : Table) (type bi bc most : ℕ) (b₀ b b' : List ℕ) (x y : ShortestAnswer)
+pub shortest_only : (τ : Table) (type bi bc most : ℕ) (b₀ b b' : List ℕ) (x y : Result (ℕ × ℕ × ℕ) Refusal)
     → LeavesShortest τ type bi bc most b₀ b x → LeavesShortest τ type bi bc most b₀ b' y → (x ≡ y) × (b ≡ b')
-shortest_only τ type bi bc most b₀ b b' (Pattern e L n) (Pattern f M m) p q =
+shortest_only τ type bi bc most b₀ b b' (Ok (e, L, n)) (Ok (f, M, m)) p q =
     let s = p.2 in
     let u = q.2 in
     let z : L ≡ M = one_length s.shortest u.shortest in
     let v : s.pattern ≡ u.pattern = one_pattern s.shortest u.shortest in
     (rw (p.1, q.1, z, s.count, u.count, v), s.buffer ∙ (ap (λ (l : List Command). over (bytes_of_all l) b₀) v ∙ sym u.buffer))
-shortest_only τ type bi bc most b₀ b b' (Pattern e L n) (Refused y) p q = on q.0
+shortest_only τ type bi bc most b₀ b b' (Ok (e, L, n)) (Err y) p q = on q.0
   where
-    on : Cause τ type bi bc most b₀ y → (Pattern e L n ≡ Refused y) × (b ≡ b')
+    on : Cause τ type bi bc most b₀ y → (◌≡◌ {A = Result (ℕ × ℕ × ℕ) Refusal} (Ok (e, L, n)) (Err y)) × (b ≡ b')
     on (inl c) = absurd (c.0 p.0)
     on (inr c) = absurd (c.1 L p.2.shortest.inside p.2.pattern p.2.shortest.is)
-shortest_only τ type bi bc most b₀ b b' (Refused x) (Pattern e L n) p q = on p.0
+shortest_only τ type bi bc most b₀ b b' (Err x) (Ok (e, L, n)) p q = on p.0
   where
-    on : Cause τ type bi bc most b₀ x → (Refused x ≡ Pattern e L n) × (b ≡ b')
+    on : Cause τ type bi bc most b₀ x → (◌≡◌ {A = Result (ℕ × ℕ × ℕ) Refusal} (Err x) (Ok (e, L, n))) × (b ≡ b')
     on (inl c) = absurd (c.0 q.0)
     on (inr c) = absurd (c.1 L q.2.shortest.inside q.2.pattern q.2.shortest.is)
-shortest_only τ type bi bc most b₀ b b' (Refused x) (Refused y) p q = (ap Refused (on p.0 q.0), p.1 ∙ sym q.1)
+shortest_only τ type bi bc most b₀ b b' (Err x) (Err y) p q = (ap Err (on p.0 q.0), p.1 ∙ sym q.1)
   where
     on : Cause τ type bi bc most b₀ x → Cause τ type bi bc most b₀ y → x ≡ y
     on (inl c) (inl d) = c.1 ∙ sym d.1

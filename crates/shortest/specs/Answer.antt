@@ -1,13 +1,11 @@
 -- Document 02, request 11: what the call answers and leaves, and what it refuses.
-use Rattle.std.specs.Prelude.{ℕ, suc, ◌*◌, Bool, not, ◌&&◌, ◌≡◌, ◌⊎◌, List, [], ◌∷◌, leb, ltb, eqb, length}
+use Rattle.std.specs.Prelude.{ℕ, suc, ◌*◌, Bool, not, ◌&&◌, ◌≡◌, ◌⊎◌, List, [], ◌∷◌, leb, ltb, eqb, length, Result, Ok, Err}
 use Rattle.records.specs.Tests.{within}
 use Rattle.records.specs.Told.{refusal, first_failed, over}
 use Rattle.records.specs.declared.table.Table.{Table}
 use Rattle.records.specs.declared.refusal.Refusal.{Refusal}
 use Rattle.records.specs.declared.command.Command.{Command}
 use Rattle.records.specs.Command.{bytes_of_all}
-use Rattle.shortest.specs.declared.answer.ShortestAnswer.{ShortestAnswer}
-use Rattle.shortest.specs.declared.answer.ShortestAnswer.TheVariants.{Pattern, Refused}
 use Rattle.shortest.specs.Shortest.{Shortest, NoneUpTo}
 
 -- "For a type, BI and BC from 1 with BI × (1 + BC) at most 6, and a greatest length of 1 to 128"; not "a type not read or write, or BI above banks"
@@ -38,6 +36,6 @@ module _ (τ : Table) (type bi bc most : ℕ) (b₀ : List ℕ) where
       ⊎ ((limits ≡ 0) × NoneUpTo τ (eqb type 1) bi bc most × (x ≡ refusal 13 0 τ.edition))
 
   -- what the call answers, and leaves in a buffer that held b₀: the table's edition, the least length and the pattern, or a refusal and no change
-  abbrev pub LeavesShortest : List ℕ → ShortestAnswer → Type 0
-  LeavesShortest b (Pattern e L n) = (limits ≡ 0) × (e ≡ τ.edition) × Stands τ (eqb type 1) bi bc most b₀ b L n
-  LeavesShortest b (Refused x) = Cause x × (b ≡ b₀)
+  abbrev pub LeavesShortest : List ℕ → Result (ℕ × ℕ × ℕ) Refusal → Type 0
+  LeavesShortest b (Ok (e, L, n)) = (limits ≡ 0) × (e ≡ τ.edition) × Stands τ (eqb type 1) bi bc most b₀ b L n
+  LeavesShortest b (Err x) = Cause x × (b ≡ b₀)

@@ -1,15 +1,14 @@
 -- Lower bounds of a pattern's cycles for one order of its commands, and what is set out at them, copy after copy.
-use Rattle.std.specs.Prelude.{ℕ, suc, ◌+◌, ◌*◌, ◌≤◌, ◌<◌, Bool, true, false, ◌≡◌, List, [], ◌∷◌, eqb, take}
+use Rattle.std.specs.Prelude.{ℕ, suc, ◌+◌, ◌*◌, ◌≤◌, ◌<◌, Bool, true, false, ◌≡◌, List, [], ◌∷◌, eqb, take, None}
+use Rattle.rules.specs.Types.{Stamp}
+use Rattle.rules.specs.Types.{Found}
 use Rattle.records.specs.Tests.{pick}
 use Rattle.records.specs.declared.table.Table.{Table}
 use Rattle.records.specs.declared.command.Kind.{Kind}
 use Rattle.records.specs.declared.command.Command.{Command}
-use Rattle.rules.specs.declared.state.Stamp.{Stamp}
 use Rattle.rules.specs.declared.state.Bank.{Bank}
 use Rattle.rules.specs.declared.state.Group.{Group}
 use Rattle.rules.specs.declared.state.State.{State}
-use Rattle.rules.specs.declared.verdict.Found.{Found}
-use Rattle.rules.specs.declared.verdict.Found.TheVariants.{Fine}
 use Rattle.rules.specs.Pattern.{moved, onto}
 use Rattle.rules.proofs.history.JudgeState.{Judging}
 use Rattle.rules.proofs.patterns.Copies.{after_copies}
@@ -35,8 +34,8 @@ found_at τ cycle k gs own a4 refresh kind c = found_on τ cycle k (groups_far �
 -- r is the first cycle from `from` on at which f finds no rule broken, or it is above lim
 pub record Scanned (f : ℕ → Found) (from lim r : ℕ) : Type 0 where
   pub low : from ≤ r
-  pub before : (c : ℕ) → from ≤ c → c < r → f c ≡ Fine → ⊥
-  pub fine : r ≤ lim → f r ≡ Fine
+  pub before : (c : ℕ) → from ≤ c → c < r → f c ≡ None → ⊥
+  pub fine : r ≤ lim → f r ≡ None
 
 -- up to where a record may go in a copy that is `off` cycles later: a placed one not past its bound, the others to the last cycle of the copy
 pub record Limit (placed : Bool) (bound L off lim : ℕ) : Type 0 where

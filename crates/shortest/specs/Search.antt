@@ -1,5 +1,5 @@
 -- What the functions of the search say of each other. A list x holds the records that are placed so far, by their number from 0.
-use Rattle.std.specs.Prelude.{ℕ, zero, suc, ◌+◌, ◌*◌, ◌≤◌, ◌<◌, Bool, true, false, ◌≡◌, List, eqb, length, get_or, take}
+use Rattle.std.specs.Prelude.{ℕ, zero, suc, ◌+◌, ◌*◌, ◌≤◌, ◌<◌, Bool, true, false, ◌≡◌, List, eqb, length, get_or, take, Option, Some, None}
 use Rattle.records.specs.Tests.{every}
 use Rattle.records.specs.declared.table.Table.{Table}
 use Rattle.records.specs.declared.command.Kind.{Kind}
@@ -108,15 +108,15 @@ module _ (τ : Table) (w : Bool) (bi bc L : ℕ) where
   HopelessTo k m x b = (p : List Command) → IsPattern τ w bi bc L p → Under m x p → Capped k x p → (nth p m).bank < b → ⊥
 
   -- what a search answers: the pattern that comes first, or that there is none
-  pub record Searched (k : ℕ) (x : List Command) (t : ℕ) (ok : Bool) (y : List Command) : Type 0 where
-    pub found : ok ≡ true → Best k x t (take (bi * suc bc) y)
-    pub none : ok ≡ false → Nothing k x t
+  abbrev pub Searched : ℕ → List Command → ℕ → Option (List Command) → Type 0
+  Searched k x t (Some y) = Best k x t (take (bi * suc bc) y)
+  Searched k x t None = Nothing k x t
 
 abbrev pub all_passed : PatternVerdict → Bool
 all_passed Accepted = true
 all_passed (Refused x c i) = false
 
--- what the search over lengths answers
-pub record FoundLeast (τ : Table) (w : Bool) (bi bc most : ℕ) (ok : Bool) (L : ℕ) (y : List Command) : Type 0 where
-  pub found : ok ≡ true → Shortest τ w bi bc most L (take (bi * suc bc) y)
-  pub none : ok ≡ false → NoneUpTo τ w bi bc most
+-- what the search over lengths answers: the least length and its pattern, or that there is none
+abbrev pub FoundLeast : Table → Bool → ℕ → ℕ → ℕ → Option (ℕ × List Command) → Type 0
+FoundLeast τ w bi bc most (Some (L, y)) = Shortest τ w bi bc most L (take (bi * suc bc) y)
+FoundLeast τ w bi bc most None = NoneUpTo τ w bi bc most

@@ -9,20 +9,23 @@ use distances::kinds::data_kind;
 use records::command::{Command, Kind};
 
 // BI × (1 + BC).
+#[tactic(auto, using(crate::proofs::Turns::few_records))]
 pub fn records_of(bi: u8, bc: u8) -> usize
     ensures { (result ≡ bi * suc bc) × (result ≤ 65280) }
 {
-    bi as usize * (bc as usize + 1)
+    usize::from(bi) * (usize::from(bc) + 1)
 }
 
 // What a bank gets after `step` commands: its ACT, then data commands, the BC-th of which closes it.
+#[tactic(auto, using(crate::proofs::Turns::kind_later))]
 pub fn kind_at(write: bool, bc: u8, step: u8) -> Kind
     ensures { result ≡ kind_at write bc step }
 {
     if step == 0 {
-        return Kind::Act;
+        Kind::Act
+    } else {
+        data_kind(write, step == bc)
     }
-    data_kind(write, step == bc)
 }
 
 // A pattern's kinds in the order of their numbers.
@@ -31,12 +34,9 @@ pub fn class_of(k: Kind) -> u8
 {
     match k {
         Kind::Act => 0,
-        Kind::Rd => 1,
-        Kind::Rda => 2,
-        Kind::Wr => 1,
-        Kind::Wra => 2,
-        Kind::Ref => 3,
-        Kind::Other(_) => 3,
+        Kind::Rd | Kind::Wr => 1,
+        Kind::Rda | Kind::Wra => 2,
+        _ => 3,
     }
 }
 
@@ -48,16 +48,14 @@ pub fn add_if(one: bool, n: u8) -> u8
 }
 
 // How many of the first k records are to bank b.
+#[tactic(auto, using(crate::proofs::Turns::tally_few))]
 pub fn count(items: [Command; 6], k: usize, b: u8) -> u8
     requires { k ≤ 6 }
     ensures { result ≡ tally b items k }
 {
-    let mut n: u8 = 0;
-    let mut i: usize = 0;
-    while i < k {
-        let r = items[i];
-        n = add_if(r.bank == b, n);
-        i = i + 1;
+    let mut n = 0;
+    for i in 0..k {
+        n = add_if(items[i].bank == b, n);
     }
     n
 }
@@ -69,9 +67,9 @@ pub fn put(items: [Command; 6], k: usize, cycle: u32, kind: Kind, bank: u8) -> [
 {
     let mut now = items;
     now[k] = Command {
-        cycle: cycle,
-        kind: kind,
-        bank: bank,
+        cycle,
+        kind,
+        bank,
         number: 0,
     };
     now

@@ -14,25 +14,20 @@ use records::table::Table;
 use rules::verdict::PatternVerdict;
 
 // The first n records, from the buffer's start on.
+#[tactic(auto, using(crate::proofs::Written::wrote_more, crate::proofs::Written::wrote_length))]
 pub fn write_records(items: [Command; 6], n: usize, out: &mut [u8])
     requires { (n ≤ 6) × (8 * n ≤ length_of out.old) }
     ensures { out.new ≡ over (bytes_of_all (take n items)) out.old }
 {
-    let mut i: usize = 0;
-    while i < n {
-        let r = items[i];
-        put_command(r, out, 8 * i);
-        i = i + 1;
+    for i in 0..n {
+        put_command(items[i], out, 8 * i);
     }
 }
 
 pub fn all_passed(v: PatternVerdict) -> bool
     ensures { result ≡ all_passed v }
 {
-    match v {
-        PatternVerdict::Accepted => true,
-        PatternVerdict::Refused(_, _, _) => false,
-    }
+    matches!(v, PatternVerdict::Accepted)
 }
 
 // The pattern judge on the first n records.

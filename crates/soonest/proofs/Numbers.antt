@@ -11,8 +11,8 @@ use lib.Dec.{eqb}
 use lib.ListN.{get_or, get_or-map}
 use borrow.Author.Tests.{eq-eqb}
 use Rattle.records.specs.Tests.{pick}
+use Rattle.rules.specs.Types.{Stamp}
 use Rattle.records.specs.declared.table.Table.{Table}
-use Rattle.rules.specs.declared.state.Stamp.{Stamp}
 use Rattle.rules.specs.declared.state.Group.{Group}
 use Rattle.rules.specs.Square.{rrd_of, square}
 use Rattle.rules.specs.State.{bank_of, quiet}

@@ -1,8 +1,8 @@
 -- What a turn of the second engine computes of the two heads, by plain numbers.
 use Rattle.std.specs.Prelude.{ℕ, max, Bool, List, ltb, eqb, get_or}
+use Rattle.rules.specs.Types.{Stamp}
 use Rattle.records.specs.Tests.{pick}
 use Rattle.records.specs.declared.table.Table.{Table}
-use Rattle.rules.specs.declared.state.Stamp.{Stamp}
 use Rattle.rules.specs.declared.state.Bank.{Bank}
 use Rattle.rules.specs.State.{is_open}
 use Rattle.heads.specs.declared.head.Head.{Head}

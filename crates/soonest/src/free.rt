@@ -7,34 +7,23 @@ ghost use Rattle.earliest.specs.Earliest.{limit, since, gate, charged_from, far_
 ghost use Rattle.earliest.specs.Jump.{left_of};
 ghost use Rattle.soonest.specs.Earlier.{ready_from, opens_from};
 
-use distances::square::{cell_of, side_of, sum_2, sum_4, wide};
+use distances::square::{cell_of, side_of, sum_2, sum_4};
 use heads::head::Head;
 use records::table::Table;
-use records::tests::not_of;
 use timing::kept::{KeptBank, kept_open};
 
+// Every run ends at this cycle.
 pub const LIMIT: u64 = 100000000;
-
-pub fn later_of(a: u64, b: u64) -> u64
-    ensures { result ≡ max a b }
-{
-    if a < b { b } else { a }
-}
-
-pub fn sooner_of(a: u64, b: u64) -> u64
-    ensures { result ≡ min a b }
-{
-    if a < b { a } else { b }
-}
 
 // The first cycle that is d past a stamp. Nothing wraps, whatever the stamp.
 pub fn since_of(s: u64, d: u32) -> u64
     ensures { result ≡ since (stamp_of s) d }
 {
     if s == 0 {
-        return 0;
+        0
+    } else {
+        LIMIT.min(s - 1) + d as u64
     }
-    sooner_of(LIMIT, s - 1) + d as u64
 }
 
 // What no idle cycle changes.
@@ -51,15 +40,14 @@ pub fn charged_from(t: Table, k: KeptBank) -> u64
     let from_act = since_of(k.act, sum_2(t.ras, t.rp));
     let from_rd = since_of(k.rd, sum_2(t.rtp, t.rp));
     let from_wr = since_of(k.wr, sum_4(t.wl, t.b, t.wr, t.rp));
-    later_of(from_act, later_of(from_rd, from_wr))
+    from_act.max(from_rd.max(from_wr))
 }
 
 // Rule 11, of one bank.
 pub fn rest_from(t: Table, k: KeptBank) -> u64
     ensures { result ≡ rest_from t (told_bank k) }
 {
-    let closed = gate_of(not_of(kept_open(k)));
-    later_of(closed, charged_from(t, k))
+    gate_of(!kept_open(k)).max(charged_from(t, k))
 }
 
 // Rule 9 by the latest RD and WR of one group.
@@ -69,22 +57,19 @@ pub fn far_from(q: [[u32; 2]; 2], rd: u64, wr: u64, write: bool) -> u64
     let w = side_of(write);
     let from_rd = since_of(rd, cell_of(q, 0, w));
     let from_wr = since_of(wr, cell_of(q, 1, w));
-    later_of(from_rd, from_wr)
+    from_rd.max(from_wr)
 }
 
 // Rules 3 to 12 for an ACT to bank k; from `six` on rule 6 is kept, a4 is the fourth ACT before it, `refresh` the last REF.
 pub fn act_from(t: Table, k: KeptBank, six: u64, a4: u64, refresh: u64) -> u64
     ensures { result ≡ act_from t (told_bank k) six (since (stamp_of a4) t.faw) (since (stamp_of refresh) t.rfc) }
 {
-    let closed = gate_of(not_of(kept_open(k)));
+    let closed = gate_of(!kept_open(k));
     let four = charged_from(t, k);
-    let five = since_of(k.act, wide(t.rc));
-    let seven = since_of(a4, wide(t.faw));
-    let twelve = since_of(refresh, wide(t.rfc));
-    later_of(
-        closed,
-        later_of(four, later_of(five, later_of(six, later_of(seven, twelve)))),
-    )
+    let five = since_of(k.act, t.rc as u32);
+    let seven = since_of(a4, t.faw as u32);
+    let twelve = since_of(refresh, t.rfc as u32);
+    closed.max(four.max(five.max(six.max(seven.max(twelve)))))
 }
 
 // The head of a queue, if one stands there: it is seen from its arrival on, and free from `free` on.
@@ -92,25 +77,25 @@ pub fn head_from(there: bool, arrival: u32, free: u64) -> u64
     ensures { result ≡ pick there (max arrival free) limit }
 {
     if there {
-        return later_of(arrival as u64, free);
+        (arrival as u64).max(free)
+    } else {
+        LIMIT
     }
-    LIMIT
 }
 
 // The ACT queue's head, an ACT to bank k.
 pub fn act_head_from(t: Table, h: Head, k: KeptBank, six: u64, a4: u64, refresh: u64) -> u64
     ensures { result ≡ opens_from t h (told_bank k) six (stamp_of a4) (stamp_of refresh) }
 {
-    let free = act_from(t, k, six, a4, refresh);
-    head_from(h.there, h.arrival, free)
+    head_from(h.there, h.arrival, act_from(t, k, six, a4, refresh))
 }
 
 // The ACT queue's head, a REF; from `eleven` on rule 11 is kept.
 pub fn ref_head_from(t: Table, h: Head, eleven: u64, refresh: u64) -> u64
     ensures { result ≡ pick h.there (max h.arrival (max eleven (since (stamp_of refresh) t.rfc))) limit }
 {
-    let free = later_of(eleven, since_of(refresh, wide(t.rfc)));
-    head_from(h.there, h.arrival, free)
+    let twelve = since_of(refresh, t.rfc as u32);
+    head_from(h.there, h.arrival, eleven.max(twelve))
 }
 
 // The data queue's head, to bank k, by all but rule 9, when `acts` commands have left the ACT queue.
@@ -119,19 +104,17 @@ pub fn data_head_from(t: Table, h: Head, k: KeptBank, acts: u32) -> u64
 {
     let had = gate_of(h.act < acts);
     let opened = gate_of(kept_open(k));
-    let eight = since_of(k.act, wide(t.rcd));
-    head_from(h.there, h.arrival, later_of(had, later_of(opened, eight)))
+    let eight = since_of(k.act, t.rcd as u32);
+    head_from(h.there, h.arrival, had.max(opened.max(eight)))
 }
 
 // Where a run that has `left` cycles to go ends, if nothing goes before.
 pub fn end_of(cycle: u64, served: bool, left: u32) -> u64
     ensures { result ≡ max cycle (min limit (cycle + left_of served left)) }
 {
-    if served {
-        return cycle;
+    if served || LIMIT <= cycle {
+        cycle
+    } else {
+        LIMIT.min(cycle + left as u64)
     }
-    if LIMIT <= cycle {
-        return cycle;
-    }
-    sooner_of(LIMIT, cycle + left as u64)
 }

@@ -17,10 +17,7 @@ pub fn data_from(t: Table, list: &[u8], n: usize, from: Place) -> Queue
 {
     let place = seek(t, list, n, true, from);
     let head = head_at(t, list, n, true, place);
-    Queue {
-        place: place,
-        head: head,
-    }
+    Queue { place, head }
 }
 
 // That `count` commands have left.
@@ -49,39 +46,26 @@ pub fn data_after(t: Table, list: &[u8], n: usize, q: Queue) -> Queue
     let k = h.act - p.before;
     let ends = (k + 1) * bc;
     let offset = p.offset + 1;
-    let place = Place {
-        number: p.number,
-        offset: offset,
-        before: p.before,
-    };
+    let place = Place { offset, ..p };
     if offset < ends {
         let kind = data_kind(write, offset + 1 == ends);
-        return Queue {
-            place: place,
-            head: Head {
-                there: true,
-                kind: kind,
-                bank: h.bank,
-                number: h.number,
-                act: h.act,
-                arrival: h.arrival,
-            },
+        let head = Head {
+            there: true,
+            kind,
+            ..h
         };
-    }
-    if offset < x.bi as u32 * bc {
-        let kind = data_kind(write, bc == 1);
+        Queue { place, head }
+    } else if offset < x.bi as u32 * bc {
         let bank = bank_at(t, x, k + 1);
-        return Queue {
-            place: place,
-            head: Head {
-                there: true,
-                kind: kind,
-                bank: bank,
-                number: h.number,
-                act: h.act + 1,
-                arrival: h.arrival,
-            },
+        let head = Head {
+            there: true,
+            kind: data_kind(write, bc == 1),
+            bank,
+            act: h.act + 1,
+            ..h
         };
+        Queue { place, head }
+    } else {
+        data_from(t, list, n, place)
     }
-    data_from(t, list, n, place)
 }

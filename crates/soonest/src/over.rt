@@ -5,8 +5,7 @@ ghost use Rattle.timing.specs.Kept.{stamp_of, told_bank, told};
 ghost use Rattle.earliest.specs.Earliest.{limit, rests_from};
 ghost use Rattle.soonest.specs.Earlier.{latest_of, six_from, nine_from, ready_from, opens_from};
 
-use crate::free::{LIMIT, act_head_from, data_head_from, far_from, later_of, rest_from, since_of};
-use distances::square::wide;
+use crate::free::{LIMIT, act_head_from, data_head_from, far_from, rest_from, since_of};
 use heads::head::Head;
 use records::table::Table;
 use timing::kept::{Kept, KeptBank, KeptGroup};
@@ -16,22 +15,16 @@ pub fn latest_of(n: usize, groups: [KeptGroup; 8]) -> KeptGroup
     requires { n ≤ 8 }
     ensures { result ≡ latest_of n groups }
 {
-    let mut act: u64 = 0;
-    let mut rd: u64 = 0;
-    let mut wr: u64 = 0;
-    let mut g: usize = 0;
-    while g < n {
+    let mut act = 0;
+    let mut rd = 0;
+    let mut wr = 0;
+    for g in 0..n {
         let k = groups[g];
-        act = later_of(k.act, act);
-        rd = later_of(k.rd, rd);
-        wr = later_of(k.wr, wr);
-        g = g + 1;
+        act = k.act.max(act);
+        rd = k.rd.max(rd);
+        wr = k.wr.max(wr);
     }
-    KeptGroup {
-        act: act,
-        rd: rd,
-        wr: wr,
-    }
+    KeptGroup { act, rd, wr }
 }
 
 // Rule 6, for an ACT to a bank of a group whose latest ACT is `own`; `latest` is that of all groups. A table of one group asks for that alone.
@@ -39,10 +32,10 @@ pub fn six_from(t: Table, own: u64, latest: u64) -> u64
     ensures { result ≡ six_from t own latest }
 {
     if t.groups == 1 {
-        return since_of(latest, wide(t.rrdl));
+        since_of(latest, t.rrdl as u32)
+    } else {
+        since_of(own, t.rrdl as u32).max(since_of(latest, t.rrd as u32))
     }
-    let near = since_of(own, wide(t.rrdl));
-    later_of(near, since_of(latest, wide(t.rrd)))
 }
 
 // Rule 9, for a data command, a write or not, to a bank of a group whose latest RD and WR are `rd` and `wr`.
@@ -57,13 +50,12 @@ pub fn nine_from(
 ) -> u64
     ensures { result ≡ nine_from groups near away rd wr latest write }
 {
-    let all_rd = latest.rd;
-    let all_wr = latest.wr;
     if groups == 1 {
-        return far_from(near, all_rd, all_wr, write);
+        far_from(near, latest.rd, latest.wr, write)
+    } else {
+        let own = far_from(near, rd, wr, write);
+        own.max(far_from(away, latest.rd, latest.wr, write))
     }
-    let own = far_from(near, rd, wr, write);
-    later_of(own, far_from(away, all_rd, all_wr, write))
 }
 
 // Rule 11, asked of a REF alone.
@@ -71,13 +63,9 @@ pub fn rests_from(t: Table, s: Kept) -> u64
     requires { t.banks ≤ 16 }
     ensures { result ≡ rests_from t (told s) }
 {
-    let n = t.banks as usize;
-    let mut from: u64 = 0;
-    let mut b: usize = 0;
-    while b < n {
-        let k = s.banks[b];
-        from = later_of(rest_from(t, k), from);
-        b = b + 1;
+    let mut from = 0;
+    for b in 0..t.banks as usize {
+        from = rest_from(t, s.banks[b]).max(from);
     }
     from
 }
@@ -87,9 +75,10 @@ pub fn ready_from(known: bool, before: u64, t: Table, h: Head, k: KeptBank, acts
     ensures { result ≡ pick known before (ready_from t h (told_bank k) acts) }
 {
     if known {
-        return before;
+        before
+    } else {
+        data_head_from(t, h, k, acts)
     }
-    data_head_from(t, h, k, acts)
 }
 
 // The ACT queue's head, an ACT, where that is not known from before. A REF is asked for by itself.
@@ -108,11 +97,11 @@ pub fn opens_from(
     ensures { result ≡ pick refreshes limit (pick known before (opens_from t h (told_bank k) (six_from t own latest) (stamp_of a4) (stamp_of refresh))) }
 {
     if refreshes {
-        return LIMIT;
+        LIMIT
+    } else if known {
+        before
+    } else {
+        let six = six_from(t, own, latest);
+        act_head_from(t, h, k, six, a4, refresh)
     }
-    if known {
-        return before;
-    }
-    let six = six_from(t, own, latest);
-    act_head_from(t, h, k, six, a4, refresh)
 }

@@ -1,14 +1,14 @@
 -- What the proofs of the functions cite: an array filled from another, and a test of each of its first places.
 -- Assumes nothing.
-use Prim.Native.Nat.{ℕ, ◌+◌, ◌≤◌, ◌<◌}
-use mathlib.Core.Bool.{Bool, true, false, ◌&&◌, and-true}
+use Prim.Native.Nat.{ℕ, zero, suc, ◌+◌, ◌≤◌, ◌<◌}
+use mathlib.Core.Bool.{Bool, ◌&&◌}
 use mathlib.Core.Path.{◌≡◌, refl, sym, ap, ◌∙◌}
-use mathlib.Core.List.{List, [], ◌∷◌, ◌++◌, map}
+use mathlib.Core.List.{List, [], ◌∷◌, map}
 use native.Mathlib.Omega.{arith}
-use native.Mathlib.Numerals.{add-one}
 use lib.ListN.{length, get_or, set, take, length-set, length-map, get_or-map}
-use lib.Seq.{ext_get_or, get_or-set_same, get_or-set_other, take-suc}
+use lib.Seq.{ext_get_or, get_or-set_same, get_or-set_other}
 use borrow.Author.Count.{below_more}
+use Rattle.std.specs.List.{list_all}
 use Rattle.records.specs.Tests.{every}
 
 -- the first k places of an array of N hold f of the source's
@@ -36,24 +36,8 @@ module _ {A B : Type 0} (N : ℕ) (f : A → B) (x : A) (src : List A) where
       ext_get_or (f x) dst (map f src) (h.size ∙ sym (length-map src f ∙ e))
       (λ i q. h.done i (omega (arith, h.size)) ∙ sym (get_or-map f src i x))
 
-module _ {A : Type 0} (f : A → Bool) where
-  pub every_append : (a b : List A) → every f (a ++ b) ≡ (every f a && every f b)
-  every_append [] b = refl
-  every_append (x ∷ a) b = ap (λ (t : Bool). f x && t) (every_append a b) ∙ on (f x)
-    where
-      on : (t : Bool) → (t && (every f a && every f b)) ≡ ((t && every f a) && every f b)
-      on true = refl
-      on false = refl
-
-  -- one place more
-  pub every_more : (l : List A) (k : ℕ) (x : A) → k < length l → every f (take (k + 1) l) ≡ (every f (take k l) && f (get_or l k x))
-  every_more l k x h =
-      rw (add-one k, take-suc l k x h, every_append (take k l) (get_or l k x ∷ []))
-      (ap (λ (t : Bool). every f (take k l) && t) (and-true (f (get_or l k x))))
-
--- of what is told of each
-pub every_told : {A B : Type 0} (f : B → Bool) (g : A → B) (l : List A) (k : ℕ) (x : A) → k < length l
-    → every f (take (k + 1) (map g l)) ≡ (every f (take k (map g l)) && f (g (get_or l k x)))
-every_told f g l k x h =
-    every_more f (map g l) k (g x) (omega (arith, length-map l g))
-    ∙ ap (λ (y : _). every f (take k (map g l)) && f y) (get_or-map g l k x)
+-- a test of the first n of what is told of each
+pub every_told : {A B : Type 0} (f : B → Bool) (g : A → B) (n : ℕ) (l : List A) → list_all (λ x. f (g x)) (take n l) ≡ every f (take n (map g l))
+every_told f g zero l = refl
+every_told f g (suc n) [] = refl
+every_told f g (suc n) (x ∷ l) = ap (λ (b : Bool). f (g x) && b) (every_told f g n l)

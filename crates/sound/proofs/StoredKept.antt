@@ -1,5 +1,7 @@
 -- What a run keeps of the command cycles that a state stores: each stays before the state's own cycle.
 -- Assumes nothing.
+use Rattle.std.specs.Prelude.{Some, None}
+use Rattle.rules.specs.Types.{Stamp}
 use Prim.Native.Nat.{ℕ, zero, suc, ◌+◌, ◌≤◌, ◌<◌}
 use native.Mathlib.Omega.{arith}
 use mathlib.Core.Bool.{Bool, true, false}
@@ -14,8 +16,6 @@ use Rattle.records.specs.declared.transaction.Transaction.{Transaction}
 use Rattle.records.specs.declared.command.Kind.{Kind}
 use Rattle.records.specs.declared.command.Kind.TheVariants.{Act, Rd, Rda, Wr, Wra, Ref, Other}
 use Rattle.records.specs.declared.command.Command.{Command}
-use Rattle.rules.specs.declared.state.Stamp.{Stamp}
-use Rattle.rules.specs.declared.state.Stamp.TheVariants.{Never, At}
 use Rattle.rules.specs.declared.state.Bank.{Bank}
 use Rattle.rules.specs.declared.state.Group.{Group}
 use Rattle.rules.specs.declared.state.State.{State}
@@ -57,8 +57,8 @@ every_map f g h (x ∷ l) e = and_both (g x) (every g l) (h x (and_fst (f x) (ev
 
 -- before a cycle is before a later one
 before_later : (t u : ℕ) → t ≤ u → (s : Stamp) → before t s ≡ true → before u s ≡ true
-before_later t u h Never e = refl
-before_later t u h (At c) e = le-leb (c + 1) u (omega (arith, leb-true (c + 1) t e))
+before_later t u h None e = refl
+before_later t u h (Some c) e = le-leb (c + 1) u (omega (arith, leb-true (c + 1) t e))
 
 pub stored_later : (t u n m : ℕ) → t ≤ u → (s : State) → Stored t n m s → Stored u n m s
 stored_later t u n m h s q =
@@ -69,7 +69,7 @@ stored_later t u n m h s q =
     }
 
 module _ (t c : ℕ) (h : c < t) where
-  now : before t (At c) ≡ true
+  now : before t (Some c) ≡ true
   now = le-leb (c + 1) t (omega arith)
 
   either : (b : Bool) (x y : Stamp) → before t x ≡ true → before t y ≡ true → before t (pick b x y) ≡ true
@@ -86,18 +86,18 @@ module _ (t c : ℕ) (h : c < t) where
       at i = every_at (before t) (bank_stamps b) i e
 
       on : (k : Kind) → bank_before t (bank_after k c b) ≡ true
-      on Act = three (At c) Never Never now refl refl
-      on Rd = three b.act (At c) b.wr (at 0) now (at 2)
-      on Rda = three b.act (At c) b.wr (at 0) now (at 2)
-      on Wr = three b.act b.rd (At c) (at 0) (at 1) now
-      on Wra = three b.act b.rd (At c) (at 0) (at 1) now
+      on Act = three (Some c) None None now refl refl
+      on Rd = three b.act (Some c) b.wr (at 0) now (at 2)
+      on Rda = three b.act (Some c) b.wr (at 0) now (at 2)
+      on Wr = three b.act b.rd (Some c) (at 0) (at 1) now
+      on Wra = three b.act b.rd (Some c) (at 0) (at 1) now
       on Ref = e
       on (Other n) = e
 
   group_noted : (k : Kind) (g : Group) → group_before t g ≡ true → group_before t (group_after k c g) ≡ true
   group_noted k g e =
-      three (pick (is_act k) (At c) g.act) (pick (is_rd k) (At c) g.rd) (pick (is_wr k) (At c) g.wr)
-      (either (is_act k) (At c) g.act now (at 0)) (either (is_rd k) (At c) g.rd now (at 1)) (either (is_wr k) (At c) g.wr now (at 2))
+      three (pick (is_act k) (Some c) g.act) (pick (is_rd k) (Some c) g.rd) (pick (is_wr k) (Some c) g.wr)
+      (either (is_act k) (Some c) g.act now (at 0)) (either (is_rd k) (Some c) g.rd now (at 1)) (either (is_wr k) (Some c) g.wr now (at 2))
     where
       at : (i : ℕ) → OnSome (λ x. before t x ≡ true) (get_elem? (group_stamps g) i)
       at i = every_at (before t) (group_stamps g) i e
@@ -105,11 +105,11 @@ module _ (t c : ℕ) (h : c < t) where
   last_noted : (τ : Table) (s : State) (k : Kind) (b : ℕ) → last_before t s ≡ true → last_before t (note τ s c k b) ≡ true
   last_noted τ s k b e =
       rw (
-        either (is_act k) (At c) s.a1 now (at 0),
+        either (is_act k) (Some c) s.a1 now (at 0),
         either (is_act k) s.a1 s.a2 (at 0) (at 1),
         either (is_act k) s.a2 s.a3 (at 1) (at 2),
         either (is_act k) s.a3 s.a4 (at 2) (at 3),
-        either (is_ref k) (At c) s.refresh now (at 4),
+        either (is_ref k) (Some c) s.refresh now (at 4),
       )
     where
       at : (i : ℕ) → OnSome (λ x. before t x ≡ true) (get_elem? (last_stamps s) i)

@@ -1,10 +1,10 @@
 -- Document 01, "What the caller is told", and document 02, request 9: numbers 5, 9 and 12 of a run.
 use Rattle.std.specs.Prelude.{ℕ, ◌*◌, min, Bool, not, ◌&&◌, List, [], ◌∷◌, leb, ltb, eqb, length, take}
+use Rattle.rules.specs.Types.{Stamp}
 use Rattle.records.specs.Tests.{all_of, every}
 use Rattle.records.specs.Told.{first_failed}
 use Rattle.records.specs.declared.table.Table.{Table}
 use Rattle.records.specs.declared.transaction.Transaction.{Transaction}
-use Rattle.rules.specs.declared.state.Stamp.{Stamp}
 use Rattle.rules.specs.declared.state.Bank.{Bank}
 use Rattle.rules.specs.declared.state.Group.{Group}
 use Rattle.rules.specs.declared.state.State.{State}
@@ -22,15 +22,15 @@ abbrev pub before : ℕ → Stamp → Bool
 before t s = past s 1 t
 
 -- the command cycles that a bank stores
-abbrev pub bank_stamps : Bank → List Stamp
+abbrev pub bank_stamps : Bank → List (Stamp)
 bank_stamps k = k.act ∷ k.rd ∷ k.wr ∷ []
 
 -- those that a group stores
-abbrev pub group_stamps : Group → List Stamp
+abbrev pub group_stamps : Group → List (Stamp)
 group_stamps g = g.act ∷ g.rd ∷ g.wr ∷ []
 
 -- the last four ACTs and the last REF
-abbrev pub last_stamps : State → List Stamp
+abbrev pub last_stamps : State → List (Stamp)
 last_stamps s = s.a1 ∷ s.a2 ∷ s.a3 ∷ s.a4 ∷ s.refresh ∷ []
 
 abbrev pub bank_before : ℕ → Bank → Bool

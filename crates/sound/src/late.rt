@@ -19,10 +19,5 @@ pub fn is_late(list: &[u8], n: usize, lent: u32, cycle: u64) -> bool
     ensures { result ≡ first_below (get_elem? (later_from list.now n 0) lent) cycle }
 {
     let k = lent as usize;
-    if k < n {
-        let x = later_at(list, 8 * k);
-        let arrival = x.arrival;
-        return (arrival as u64) < cycle;
-    }
-    false
+    k < n && (later_at(list, 8 * k).arrival as u64) < cycle
 }

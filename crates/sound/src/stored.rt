@@ -4,16 +4,12 @@ ghost use Rattle.records.specs.Tests.{every};
 ghost use Rattle.timing.specs.Kept.{stamp_of, told_bank, told_group};
 ghost use Rattle.sound.specs.Refused.{before, bank_before, banks_before, group_before, groups_before};
 
-use records::tests::both_of;
 use timing::kept::{KeptBank, KeptGroup, since};
 
 pub fn bank_before(k: KeptBank, t: u64) -> bool
     ensures { result ≡ bank_before t (told_bank k) }
 {
-    both_of(
-        since(k.act, 1, t),
-        both_of(since(k.rd, 1, t), since(k.wr, 1, t)),
-    )
+    since(k.act, 1, t) && since(k.rd, 1, t) && since(k.wr, 1, t)
 }
 
 // Of the first n banks.
@@ -21,23 +17,13 @@ pub fn banks_before(ks: [KeptBank; 16], n: u16, t: u64) -> bool
     requires { n ≤ 16 }
     ensures { result ≡ banks_before t n (map told_bank ks) }
 {
-    let end = n as usize;
-    let mut before = true;
-    let mut k: usize = 0;
-    while k < end {
-        before = both_of(before, bank_before(ks[k], t));
-        k += 1;
-    }
-    before
+    ks[..n as usize].iter().all(|k| bank_before(*k, t))
 }
 
 pub fn group_before(g: KeptGroup, t: u64) -> bool
     ensures { result ≡ group_before t (told_group g) }
 {
-    both_of(
-        since(g.act, 1, t),
-        both_of(since(g.rd, 1, t), since(g.wr, 1, t)),
-    )
+    since(g.act, 1, t) && since(g.rd, 1, t) && since(g.wr, 1, t)
 }
 
 // Of the first n groups.
@@ -45,21 +31,12 @@ pub fn groups_before(ks: [KeptGroup; 8], n: u16, t: u64) -> bool
     requires { n ≤ 8 }
     ensures { result ≡ groups_before t n (map told_group ks) }
 {
-    let end = n as usize;
-    let mut before = true;
-    let mut k: usize = 0;
-    while k < end {
-        before = both_of(before, group_before(ks[k], t));
-        k += 1;
-    }
-    before
+    ks[..n as usize].iter().all(|g| group_before(*g, t))
 }
 
 // Of the four ACTs and the last REF.
 pub fn last_before(a1: u64, a2: u64, a3: u64, a4: u64, refresh: u64, t: u64) -> bool
     ensures { result ≡ every (before t) (stamp_of a1 ∷ stamp_of a2 ∷ stamp_of a3 ∷ stamp_of a4 ∷ stamp_of refresh ∷ []) }
 {
-    let oldest = both_of(since(a4, 1, t), since(refresh, 1, t));
-    let older = both_of(since(a3, 1, t), oldest);
-    both_of(since(a1, 1, t), both_of(since(a2, 1, t), older))
+    since(a1, 1, t) && since(a2, 1, t) && since(a3, 1, t) && since(a4, 1, t) && since(refresh, 1, t)
 }

@@ -1,13 +1,14 @@
 // The table: sixteen 16-bit numbers in 32 bytes, or twenty in 40.
-ghost use Rattle.std.specs.Prelude.{◌≡◌, ◌≤◌, length};
+ghost use Rattle.std.specs.Prelude.{◌≡◌, ◌*◌, ◌≤◌, length};
 ghost use Rattle.records.specs.Told.{over, Leaves};
 ghost use Rattle.records.specs.Little.{bytes16};
 ghost use Rattle.records.specs.Table.{table_of, with_groups, plain_table_at, group_table_at, table_at, read_table, write_table};
 
-use ranges::range::{table_refusal, table_size};
+use ranges::range::{check_table, in_range, table_size};
 use records::little::{num_at, put_16};
-use records::refusal::{Written, refuse};
-use records::table::{Table, TableRead};
+use records::refusal::{Refusal, refuse};
+use records::table::Table;
+use std::array;
 
 // The table of sixteen numbers: one group, each long number equal to its short one.
 pub fn table_of(n: [u16; 16]) -> Table
@@ -42,26 +43,11 @@ pub fn with_groups(t: Table, groups: u16, ccdl: u16, rrdl: u16, wtrl: u16) -> Ta
     ensures { result ≡ with_groups t groups ccdl rrdl wtrl }
 {
     Table {
-        edition: t.edition,
-        banks: t.banks,
-        b: t.b,
-        ccd: t.ccd,
-        rcd: t.rcd,
-        rp: t.rp,
-        ras: t.ras,
-        rc: t.rc,
-        rrd: t.rrd,
-        faw: t.faw,
-        rl: t.rl,
-        wl: t.wl,
-        rtp: t.rtp,
-        wr: t.wr,
-        wtr: t.wtr,
-        rfc: t.rfc,
-        groups: groups,
-        ccdl: ccdl,
-        rrdl: rrdl,
-        wtrl: wtrl,
+        groups,
+        ccdl,
+        rrdl,
+        wtrl,
+        ..t
     }
 }
 
@@ -70,28 +56,7 @@ pub fn plain_table_at(s: &[u8]) -> Table
     requires { 32 ≤ length s.now }
     ensures { result ≡ plain_table_at s.now }
 {
-    Table {
-        edition: num_at(s, 0),
-        banks: num_at(s, 2),
-        b: num_at(s, 4),
-        ccd: num_at(s, 6),
-        rcd: num_at(s, 8),
-        rp: num_at(s, 10),
-        ras: num_at(s, 12),
-        rc: num_at(s, 14),
-        rrd: num_at(s, 16),
-        faw: num_at(s, 18),
-        rl: num_at(s, 20),
-        wl: num_at(s, 22),
-        rtp: num_at(s, 24),
-        wr: num_at(s, 26),
-        wtr: num_at(s, 28),
-        rfc: num_at(s, 30),
-        groups: 1,
-        ccdl: num_at(s, 6),
-        rrdl: num_at(s, 16),
-        wtrl: num_at(s, 28),
-    }
+    table_of(array::from_fn(|i| num_at(s, 2 * i)))
 }
 
 // The table of 40 bytes.
@@ -99,9 +64,8 @@ pub fn group_table_at(s: &[u8]) -> Table
     requires { 40 ≤ length s.now }
     ensures { result ≡ group_table_at s.now }
 {
-    let t = plain_table_at(s);
     with_groups(
-        t,
+        plain_table_at(s),
         num_at(s, 32),
         num_at(s, 34),
         num_at(s, 36),
@@ -115,46 +79,43 @@ pub fn table_at(s: &[u8]) -> Table
     ensures { result ≡ table_at s.now }
 {
     if s.len() == 40 {
-        return group_table_at(s);
+        group_table_at(s)
+    } else {
+        plain_table_at(s)
     }
-    plain_table_at(s)
 }
 
-pub fn read_table(s: &[u8]) -> TableRead
+#[tactic(auto, unfolding(records::specs::Table::read_table))]
+pub fn read_table(s: &[u8]) -> Result<Table, Refusal>
     ensures { result ≡ read_table s.now }
 {
-    let right = table_size(s.len());
-    if !right {
-        return TableRead::Refused(refuse(1, 0, 0));
+    if !table_size(s.len()) {
+        return Err(refuse(1, 0, 0));
     }
     let t = table_at(s);
-    let z = table_refusal(right, t);
-    if z != 0 {
-        return TableRead::Refused(refuse(z, 0, 0));
+    if !in_range(t) {
+        return Err(refuse(2, 0, 0));
     }
-    TableRead::Read(t)
+    Ok(t)
 }
 
-// Writes sixteen numbers from the buffer's start.
-pub fn put_numbers(n: [u16; 16], s: &mut [u8])
-    requires { 32 ≤ length s.old }
-    ensures { s.new ≡ over (bytes16 n) s.old }
+// Writes numbers from the buffer's start.
+#[tactic(auto, using(records::proofs::Bytes::number_more))]
+pub fn put_numbers(n: &[u16], s: &mut [u8])
+    requires { 2 * length n.now ≤ length s.old }
+    ensures { s.new ≡ over (bytes16 n.now) s.old }
 {
-    let mut i = 0;
-    while i < 16 {
-        put_16(s, 2 * i, n[i]);
-        i += 1;
+    for (i, &x) in n.iter().enumerate() {
+        put_16(s, 2 * i, x);
     }
 }
 
-pub fn write_table(n: [u16; 16], s: &mut [u8]) -> Written
+#[tactic(auto, unfolding(records::specs::Table::write_table))]
+pub fn write_table(n: [u16; 16], s: &mut [u8]) -> Result<u16, Refusal>
     ensures { Leaves (write_table n s.old) result s.new }
 {
     let t = table_of(n);
-    let z = table_refusal(s.len() == 32, t);
-    if z != 0 {
-        return Written::Refused(refuse(z, 0, 0));
-    }
-    put_numbers(n, s);
-    Written::Done(t.edition)
+    check_table(s.len() == 32, t)?;
+    put_numbers(&n, s);
+    Ok(t.edition)
 }

@@ -18,12 +18,9 @@ pub fn put_word(out: &mut [u8], at: usize, word: &[u8]) -> usize
     requires { at + length word.now ≤ length out.old }
     ensures { Puts word.now at result out.old out.new }
 {
-    let mut i = 0;
-    while i < word.len() {
-        out[at + i] = word[i];
-        i += 1;
-    }
-    at + i
+    let end = at + word.len();
+    out[at..end].copy_from_slice(word);
+    end
 }
 
 // The last digit goes behind the digits of the tenth part.
@@ -32,10 +29,11 @@ pub fn put_number(out: &mut [u8], at: usize, n: u64) -> usize
     ensures { Puts (decimal n) at result out.old out.new }
 {
     if n < 10 {
-        return put_byte(out, at, digit(n));
+        put_byte(out, at, digit(n))
+    } else {
+        let next = put_number(out, at, n / 10);
+        put_byte(out, next, digit(n % 10))
     }
-    let next = put_number(out, at, n / 10);
-    put_byte(out, next, digit(n % 10))
 }
 
 // A number and the byte that ends it.

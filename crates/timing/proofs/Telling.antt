@@ -1,32 +1,34 @@
 -- What a state in plain numbers tells, as code changes it.
 -- Assumes nothing.
-use Prim.Native.Nat.{ℕ, zero, suc, ◌+◌, ◌-◌}
+use Rattle.std.specs.Prelude.{Some}
+use Prim.Native.Nat.{ℕ, zero, suc, ◌+◌, ◌-◌, ◌≤◌}
 use native.Mathlib.Numerals.{add-one}
 use native.Mathlib.Omega.{arith}
-use mathlib.Core.Path.{◌≡◌, refl, sym, ap}
-use mathlib.Core.Bool.{Bool, true, false, not, ◌&&◌, and-true}
+use mathlib.Core.Path.{◌≡◌, refl, sym, ap, ◌∙◌}
+use mathlib.Core.Bool.{Bool, true, false, ◌&&◌}
 use mathlib.Core.List.{List, [], ◌∷◌, map}
 use lib.Seq.{set-get_or}
-use lib.ListN.{get_or, set, get_or-map}
+use lib.ListN.{length, get_or, set, take, get_or-map}
+use Rattle.std.specs.List.{list_all}
+use Rattle.std.proofs.Math.Bool.{and_comm}
+use Rattle.std.proofs.lemmas.List.Folds.{list_all_more}
 use Rattle.records.specs.declared.table.Table.{Table}
 use Rattle.records.specs.declared.command.Kind.{Kind}
 use Rattle.records.specs.declared.command.Kind.TheVariants.{Act, Rd, Rda, Wr, Wra, Ref, Other}
-use Rattle.rules.specs.declared.state.Stamp.TheVariants.{At}
-use Rattle.rules.specs.declared.state.Bank.{Bank}
 use Rattle.rules.specs.Kinds.{is_act, is_wr, is_ref, is_known}
-use Rattle.rules.specs.Square.{group_of, write_tail}
-use Rattle.rules.specs.State.{past, is_open, shut, bank_of, quiet, group_at, charged, at_rest, rule11, act_tests_of, data_tests_of, fresh, note}
+use Rattle.rules.specs.Square.{group_of}
+use Rattle.rules.specs.State.{shut, bank_of, quiet, group_at, at_rest, rule11, fresh, note}
 use Rattle.rules.proofs.laws.TestLaws.{true_false}
 use Rattle.rules.proofs.laws.Below.{below_same}
 use Rattle.timing.specs.declared.kept.Kept.{Kept}
 use Rattle.rules.specs.Kinds.{is_closing}
 use Rattle.timing.specs.Kept.{stamp_of, told_bank, told_group, told, shut_kept, quiet_kept, kept_fresh, kept_opened, kept_after, group_opened, group_moved}
-use Rattle.records.specs.Tests.{all_of, every_below}
+use Rattle.records.specs.Tests.{every_below}
 
 -- a number that is not 0
-pub stamp_some : (s : ℕ) → (s ≡ 0 → ⊥) → stamp_of s ≡ At (s - 1)
+pub stamp_some : (s : ℕ) → (s ≡ 0 → ⊥) → stamp_of s ≡ Some (s - 1)
 stamp_some zero ne = absurd (ne refl)
-stamp_some (suc c) ne = let z : c ≡ suc c - 1 = omega arith in ap At z
+stamp_some (suc c) ne = let z : c ≡ suc c - 1 = omega arith in ap Some z
 
 pub map_set : {A B : Type 0} (f : A → B) (l : List A) (i : ℕ) (y : A) → map f (set l i y) ≡ set (map f l) i (f y)
 map_set f [] i y = refl
@@ -132,96 +134,22 @@ told_ref τ s Wra c b e = true_false false e refl
 told_ref τ s Ref c b e = rw (set-get_or (map told_bank s.banks) b shut, set-get_or (map told_group s.groups) (group_of τ b) quiet, add-one c)
 told_ref τ s (Other n) c b e = true_false false e refl
 
+-- a test of each of the first n is the test of each below n
+pub below_take : {A : Type 0} (f : A → Bool) (l : List A) (d : A) (n : ℕ) → n ≤ length l → list_all f (take n l) ≡ every_below n (λ i. f (get_or l i d))
+below_take f l d zero h = refl
+below_take f l d (suc n) h =
+    ap (λ (m : ℕ). list_all f (take m l)) (sym (add-one n))
+    ∙ list_all_more f l n d (omega arith)
+    ∙ ap (λ (b : Bool). b && f (get_or l n d)) (below_take f l d n (omega arith))
+    ∙ and_comm (every_below n (λ i. f (get_or l i d))) (f (get_or l n d))
+
 -- rule 11, bank by bank
 module _ (τ : Table) (s : Kept) (t : ℕ) where
-  abbrev pub rests_at : ℕ → Bool
+  abbrev rests_at : ℕ → Bool
   rests_at b = at_rest τ (told_bank (get_or s.banks b shut_kept)) t
 
-  pub told_rests : every_below τ.banks rests_at ≡ rule11 τ (told s) t
+  told_rests : every_below τ.banks rests_at ≡ rule11 τ (told s) t
   told_rests = below_same τ.banks rests_at (λ b. at_rest τ (bank_of (told s) b) t) (λ b l. rw (told_at s b))
 
--- tests that stop at the first that fails: of three, of an ACT's (open, precharge, RC, RRD, FAW, RFC), of a data command's (open, RCD, rule 9)
-three_yes : (x y z : Bool) → y ≡ true → z ≡ true → x ≡ (x && (y && z))
-three_yes true y z p q = rw (p, q)
-three_yes false y z p q = refl
-
-three_second : (x y z : Bool) → y ≡ false → false ≡ (x && (y && z))
-three_second true y z p = rw p
-three_second false y z p = refl
-
-three_third : (x y z : Bool) → z ≡ false → false ≡ (x && (y && z))
-three_third true true z p = rw p
-three_third true false z p = refl
-three_third false y z p = refl
-
-act_charge : (o h c d f g : Bool) → h ≡ false → false ≡ all_of (not o ∷ h ∷ c ∷ d ∷ f ∷ true ∷ true ∷ true ∷ g ∷ [])
-act_charge true h c d f g p = refl
-act_charge false h c d f g p = rw p
-
-act_rc : (o h c d f g : Bool) → c ≡ false → false ≡ all_of (not o ∷ h ∷ c ∷ d ∷ f ∷ true ∷ true ∷ true ∷ g ∷ [])
-act_rc true h c d f g p = refl
-act_rc false false c d f g p = refl
-act_rc false true c d f g p = rw p
-
-act_rrd : (o h c d f g : Bool) → d ≡ false → false ≡ all_of (not o ∷ h ∷ c ∷ d ∷ f ∷ true ∷ true ∷ true ∷ g ∷ [])
-act_rrd true h c d f g p = refl
-act_rrd false false c d f g p = refl
-act_rrd false true false d f g p = refl
-act_rrd false true true d f g p = rw p
-
-act_faw : (o h c d f g : Bool) → f ≡ false → false ≡ all_of (not o ∷ h ∷ c ∷ d ∷ f ∷ true ∷ true ∷ true ∷ g ∷ [])
-act_faw true h c d f g p = refl
-act_faw false false c d f g p = refl
-act_faw false true false d f g p = refl
-act_faw false true true false f g p = refl
-act_faw false true true true f g p = rw p
-
-act_yes : (o h c d f g : Bool) → o ≡ false → f ≡ true → d ≡ true → h ≡ true → c ≡ true → g ≡ all_of (not o ∷ h ∷ c ∷ d ∷ f ∷ true ∷ true ∷ true ∷ g ∷ [])
-act_yes o h c d f g p q r s u = rw (p, q, r, s, u) (sym (and-true g))
-
-data_near : (o c f : Bool) → f ≡ false → false ≡ all_of (o ∷ true ∷ true ∷ true ∷ true ∷ c ∷ f ∷ [])
-data_near false c f p = refl
-data_near true false f p = refl
-data_near true true f p = rw p
-
-data_yes : (o c f : Bool) → f ≡ true → o ≡ true → c ≡ all_of (o ∷ true ∷ true ∷ true ∷ true ∷ c ∷ f ∷ [])
-data_yes o c f p q = rw (p, q) (sym (and-true c))
-
-module _ (τ : Table) (k : Bank) (t : ℕ) where
-  pub charged_yes : past k.rd (τ.rtp + τ.rp) t ≡ true → past k.wr (write_tail τ + τ.rp) t ≡ true → past k.act (τ.ras + τ.rp) t ≡ charged τ k t
-  charged_yes = three_yes (past k.act (τ.ras + τ.rp) t) (past k.rd (τ.rtp + τ.rp) t) (past k.wr (write_tail τ + τ.rp) t)
-
-  pub charged_rd : past k.rd (τ.rtp + τ.rp) t ≡ false → false ≡ charged τ k t
-  charged_rd = three_second (past k.act (τ.ras + τ.rp) t) (past k.rd (τ.rtp + τ.rp) t) (past k.wr (write_tail τ + τ.rp) t)
-
-  pub charged_wr : past k.wr (write_tail τ + τ.rp) t ≡ false → false ≡ charged τ k t
-  charged_wr = three_third (past k.act (τ.ras + τ.rp) t) (past k.rd (τ.rtp + τ.rp) t) (past k.wr (write_tail τ + τ.rp) t)
-
-  module _ (d f g : Bool) where
-    pub free_open : is_open k ≡ true → false ≡ all_of (act_tests_of τ k d f g t)
-    free_open p = rw p
-
-    pub free_yes : is_open k ≡ false → f ≡ true → d ≡ true → charged τ k t ≡ true → past k.act τ.rc t ≡ true → g ≡ all_of (act_tests_of τ k d f g t)
-    free_yes = act_yes (is_open k) (charged τ k t) (past k.act τ.rc t) d f g
-
-    pub free_charge : charged τ k t ≡ false → false ≡ all_of (act_tests_of τ k d f g t)
-    free_charge = act_charge (is_open k) (charged τ k t) (past k.act τ.rc t) d f g
-
-    pub free_rc : past k.act τ.rc t ≡ false → false ≡ all_of (act_tests_of τ k d f g t)
-    free_rc = act_rc (is_open k) (charged τ k t) (past k.act τ.rc t) d f g
-
-    pub free_rrd : d ≡ false → false ≡ all_of (act_tests_of τ k d f g t)
-    free_rrd = act_rrd (is_open k) (charged τ k t) (past k.act τ.rc t) d f g
-
-    pub free_faw : f ≡ false → false ≡ all_of (act_tests_of τ k d f g t)
-    free_faw = act_faw (is_open k) (charged τ k t) (past k.act τ.rc t) d f g
-
-  module _ (f : Bool) where
-    pub free_data : f ≡ true → is_open k ≡ true → past k.act τ.rcd t ≡ all_of (data_tests_of τ k f t)
-    free_data = data_yes (is_open k) (past k.act τ.rcd t) f
-
-    pub free_shut : is_open k ≡ false → false ≡ all_of (data_tests_of τ k f t)
-    free_shut p = rw p
-
-    pub free_near : f ≡ false → false ≡ all_of (data_tests_of τ k f t)
-    free_near = data_near (is_open k) (past k.act τ.rcd t) f
+  pub rests_of : τ.banks ≤ length s.banks → list_all (λ k. at_rest τ (told_bank k) t) (take τ.banks s.banks) ≡ rule11 τ (told s) t
+  rests_of h = below_take (λ k. at_rest τ (told_bank k) t) s.banks shut_kept τ.banks h ∙ told_rests

@@ -1,8 +1,7 @@
 -- The running state in plain numbers, and what it tells.
-use Rattle.std.specs.Prelude.{ℕ, zero, suc, Bool, map, replicate}
+use Rattle.std.specs.Prelude.{ℕ, zero, suc, Bool, map, replicate, Some, None}
+use Rattle.rules.specs.Types.{Stamp}
 use Rattle.records.specs.Tests.{pick}
-use Rattle.rules.specs.declared.state.Stamp.{Stamp}
-use Rattle.rules.specs.declared.state.Stamp.TheVariants.{Never, At}
 use Rattle.rules.specs.declared.state.Bank.{Bank}
 use Rattle.rules.specs.declared.state.Group.{Group}
 use Rattle.rules.specs.declared.state.State.{State}
@@ -12,8 +11,8 @@ use Rattle.timing.specs.declared.kept.Kept.{Kept}
 
 -- 0 is "never", and every other number is one more than the cycle
 abbrev pub stamp_of : ℕ → Stamp
-stamp_of zero = Never
-stamp_of (suc c) = At c
+stamp_of zero = None
+stamp_of (suc c) = Some c
 
 abbrev pub told_bank : KeptBank → Bank
 told_bank k = record { opened = k.opened; act = stamp_of k.act; rd = stamp_of k.rd; wr = stamp_of k.wr }

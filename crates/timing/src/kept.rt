@@ -1,13 +1,13 @@
 // The running state in plain numbers, for a loop that keeps it in a local and changes it in place: numbers and elements are stored to, and the
 // tests are handed numbers and one bank. What it tells is `told`, of which a loop's invariant speaks.
 ghost use Rattle.std.specs.Prelude.{◌≡◌, ◌+◌, ◌≤◌, ◌<◌};
+ghost use Rattle.std.specs.List.{list_all};
 ghost use Rattle.records.specs.Tests.{pick, all_of};
 ghost use Rattle.rules.specs.State.{past, is_open, charged, at_rest, rule11, far_by, act_tests_of, data_tests_of};
 ghost use Rattle.timing.specs.Kept.{stamp_of, told_bank, told, kept_fresh, kept_after};
 
-use distances::square::{cell_of, side_of, sum_2, sum_4, wide};
+use distances::square::{cell_of, side_of, sum_2, sum_4};
 use records::table::Table;
-use records::tests::not_of;
 
 // A bank. A stamp is 0 for "never", and else the cycle after it.
 #[derive(Clone, Copy)]
@@ -57,7 +57,7 @@ pub fn kept_fresh(edition: u16) -> Kept
         wr: 0,
     };
     Kept {
-        edition: edition as u32,
+        edition: u32::from(edition),
         cycle: 0,
         acts: 0,
         datas: 0,
@@ -76,16 +76,10 @@ pub fn kept_fresh(edition: u16) -> Kept
 pub fn since(s: u64, d: u32, t: u64) -> bool
     ensures { result ≡ past (stamp_of s) d t }
 {
-    if s == 0 {
-        return true;
-    }
-    let c = s - 1;
-    if t < c {
-        return false;
-    }
-    d as u64 <= t - c
+    s == 0 || (s - 1 <= t && u64::from(d) <= t - (s - 1))
 }
 
+// The tests are functions and no methods: some read a bank, others two stamps of a group, and methods would read no plainer.
 pub fn kept_open(k: KeptBank) -> bool
     ensures { result ≡ is_open (told_bank k) }
 {
@@ -96,23 +90,23 @@ pub fn kept_open(k: KeptBank) -> bool
 pub fn kept_charged(t: Table, k: KeptBank, c: u64) -> bool
     ensures { result ≡ charged t (told_bank k) c }
 {
-    if since(k.wr, sum_4(t.wl, t.b, t.wr, t.rp), c) {
-        if since(k.rd, sum_2(t.rtp, t.rp), c) {
-            return since(k.act, sum_2(t.ras, t.rp), c);
-        }
-        return false;
-    }
-    false
+    since(k.wr, sum_4(t.wl, t.b, t.wr, t.rp), c)
+        && since(k.rd, sum_2(t.rtp, t.rp), c)
+        && since(k.act, sum_2(t.ras, t.rp), c)
 }
 
 // A bank that lets a REF go at cycle c: it is closed and charged.
 pub fn kept_at_rest(t: Table, k: KeptBank, c: u64) -> bool
     ensures { result ≡ at_rest t (told_bank k) c }
 {
-    if kept_open(k) {
-        return false;
-    }
-    kept_charged(t, k, c)
+    !kept_open(k) && kept_charged(t, k, c)
+}
+
+// Each of these banks lets a REF go at cycle c.
+pub fn all_at_rest(t: Table, banks: &[KeptBank], c: u64) -> bool
+    ensures { result ≡ list_all (λ k. at_rest t (told_bank k) c) banks.now }
+{
+    banks.iter().all(|&k| kept_at_rest(t, k, c))
 }
 
 // Rule 11: every bank of the table lets a REF go at cycle c. It goes over the banks, so it is asked of a REF alone.
@@ -120,16 +114,7 @@ pub fn kept_rests(t: Table, s: Kept, c: u64) -> bool
     requires { t.banks ≤ 16 }
     ensures { result ≡ rule11 t (told s) c }
 {
-    let n = t.banks as usize;
-    let mut b: usize = 0;
-    while b < n {
-        let k = s.banks[b];
-        if not_of(kept_at_rest(t, k, c)) {
-            return false;
-        }
-        b = b + 1;
-    }
-    true
+    all_at_rest(t, &s.banks[..usize::from(t.banks)], c)
 }
 
 // Rule 9 by the latest RD and WR of one group.
@@ -137,10 +122,7 @@ pub fn kept_far(q: [[u32; 2]; 2], rd: u64, wr: u64, write: bool, c: u64) -> bool
     ensures { result ≡ far_by q (stamp_of rd) (stamp_of wr) write c }
 {
     let w = side_of(write);
-    if since(rd, cell_of(q, 0, w), c) {
-        return since(wr, cell_of(q, 1, w), c);
-    }
-    false
+    since(rd, cell_of(q, 0, w), c) && since(wr, cell_of(q, 1, w), c)
 }
 
 // An ACT to bank k at cycle c breaks none of rules 3 to 12, where rule 6 is asked of its own group alone: `act` is that group's latest ACT, a4
@@ -148,22 +130,12 @@ pub fn kept_far(q: [[u32; 2]; 2], rd: u64, wr: u64, write: bool, c: u64) -> bool
 pub fn kept_act_free(t: Table, k: KeptBank, act: u64, a4: u64, refresh: u64, c: u64) -> bool
     ensures { result ≡ all_of (act_tests_of t (told_bank k) (past (stamp_of act) t.rrdl c) (past (stamp_of a4) t.faw c) (past (stamp_of refresh) t.rfc c) c) }
 {
-    if kept_open(k) {
-        return false;
-    }
-    if since(a4, wide(t.faw), c) {
-        if since(act, wide(t.rrdl), c) {
-            if kept_charged(t, k, c) {
-                if since(k.act, wide(t.rc), c) {
-                    return since(refresh, wide(t.rfc), c);
-                }
-                return false;
-            }
-            return false;
-        }
-        return false;
-    }
-    false
+    !kept_open(k)
+        && since(a4, u32::from(t.faw), c)
+        && since(act, u32::from(t.rrdl), c)
+        && kept_charged(t, k, c)
+        && since(k.act, u32::from(t.rc), c)
+        && since(refresh, u32::from(t.rfc), c)
 }
 
 // A data command to bank k at cycle c, a write or not, breaks none of rules 3 to 9, where rule 9 is asked of one group alone.
@@ -178,13 +150,7 @@ pub fn kept_data_free(
 ) -> bool
     ensures { result ≡ all_of (data_tests_of t (told_bank k) (far_by q (stamp_of rd) (stamp_of wr) write c) c) }
 {
-    if kept_far(q, rd, wr, write, c) {
-        if kept_open(k) {
-            return since(k.act, wide(t.rcd), c);
-        }
-        return false;
-    }
-    false
+    kept_far(q, rd, wr, write, c) && kept_open(k) && since(k.act, u32::from(t.rcd), c)
 }
 
 // One of two numbers.
@@ -194,23 +160,14 @@ pub fn either_64(first: bool, a: u64, b: u64) -> u64
     if first { a } else { b }
 }
 
-pub fn open_unless(closes: bool) -> u32
-    ensures { result ≡ pick closes 0 1 }
-{
-    if closes { 0 } else { 1 }
-}
-
 // A bank after a data command, a write or not, with auto precharge or not; `next` is the cycle after it.
 pub fn kept_after(k: KeptBank, write: bool, closes: bool, next: u64) -> KeptBank
     ensures { result ≡ kept_after k write closes next }
 {
-    let opened = open_unless(closes);
-    let rd = either_64(write, k.rd, next);
-    let wr = either_64(write, next, k.wr);
     KeptBank {
-        opened: opened,
-        act: k.act,
-        rd: rd,
-        wr: wr,
+        opened: u32::from(!closes),
+        rd: if write { k.rd } else { next },
+        wr: if write { next } else { k.wr },
+        ..k
     }
 }

@@ -9,12 +9,8 @@ use traced::{input_buffer, text_buffer, trace_of};
 
 fn main(rt: HostRuntime) -> io::Result<()> {
     let mut input = input_buffer();
-    let n = read_full(&mut rt.stdin(), &mut input)?;
-    trace(&mut rt.stdout(), &input[..n])
-}
-
-fn trace<W: Write>(out: &mut W, input: &[u8]) -> io::Result<()> {
+    let read = read_full(&mut rt.stdin(), &mut input)?;
     let mut text = text_buffer();
-    let n = trace_of(input, &mut text);
-    out.write_all(&text[..n])
+    let written = trace_of(&input[..read], &mut text);
+    rt.stdout().write_all(&text[..written])
 }

@@ -1,5 +1,7 @@
 -- A trace shows the table's refusal, number 7 or 11 of the capture, or its commands and the judge's verdict on them.
 -- Assumes nothing.
+use Rattle.std.specs.Prelude.{Result, Ok, Err}
+use Rattle.records.specs.declared.refusal.Refusal.{Refusal}
 use Prim.Native.Nat.{ℕ, ◌*◌, ◌≤◌}
 use mathlib.Core.Path.{◌≡◌, refl, ap, sym}
 use mathlib.Core.Bool.{Bool, true, false}
@@ -12,12 +14,9 @@ use borrow.Author.Tests.{ltb-true, ltb-false}
 use Rattle.records.specs.Tests.{pick}
 use Rattle.records.specs.Told.{refusal, first_failed, over}
 use Rattle.records.specs.declared.table.Table.{Table}
-use Rattle.records.specs.declared.table.TableRead.{TableRead}
-use Rattle.records.specs.declared.table.TableRead.TheVariants.{Read, Refused as NoTable}
 use Rattle.records.specs.declared.command.Command.{Command}
 use Rattle.records.specs.Command.{bytes_of_all}
 use Rattle.rules.specs.Verdict.{judge}
-use Rattle.capture.specs.declared.answer.CaptureJudged.TheVariants.{Verdict as Says, Refused}
 use Rattle.stamps.specs.Capture.{timed_in, lowest}
 use Rattle.capture.specs.Answer.{not_a_capture, capture_count, commands_seen, capture_refusal, position_of, Captured, captured}
 use Rattle.capture.proofs.Refusals.{few_records, few_commands, at_most, stand_seen}
@@ -39,10 +38,10 @@ module _ (τ : Table) (s b : List ℕ) (room : 557056 ≤ length b) where
   left z =
       pick (eqb z 0)
       (record {
-        answer = Says τ.edition (length (commands_seen s)) (judge τ (commands_seen s));
+        answer = Ok (τ.edition, length (commands_seen s), judge τ (commands_seen s));
         buffer = over (bytes_of_all (commands_seen s)) b;
       })
-      (record { answer = Refused (refusal z (position_of z s) τ.edition); buffer = b })
+      (record { answer = Err (refusal z (position_of z s) τ.edition); buffer = b })
 
   abbrev Told : List ℕ → Type 0
   Told text = Shows7 τ s text ⊎ (Shows11 τ s text ⊎ ShowsVerdict τ s text)
@@ -70,6 +69,6 @@ pub shows : (expected : ℕ) (table capture : List ℕ) → Shows expected table
 unfolding call_text capturing answer_text
 shows expected table capture = on (admitted expected table) refl
   where
-    on : (a : TableRead) → admitted expected table ≡ a → Shows expected table capture (left_text (capturing a capture empty_room))
-    on (Read τ) e = inr (τ, e, told τ capture empty_room (enough (length empty_room) (sym (room_size empty_room refl))))
-    on (NoTable x) e = inl (x, e, refl)
+    on : (a : Result Table Refusal) → admitted expected table ≡ a → Shows expected table capture (left_text (capturing a capture empty_room))
+    on (Ok τ) e = inr (τ, e, told τ capture empty_room (enough (length empty_room) (sym (room_size empty_room refl))))
+    on (Err x) e = inl (x, e, refl)

@@ -1,5 +1,7 @@
 -- The call's answer is what is told, and its text has room.
 -- Assumes nothing.
+use Rattle.std.specs.Prelude.{Result, Ok, Err}
+use Rattle.records.specs.declared.table.Table.{Table}
 use Prim.Native.Nat.{ℕ, ◌+◌, ◌-◌, ◌*◌, ◌≤◌, ◌<◌}
 use mathlib.Core.Bool.{Bool}
 use mathlib.Core.Path.{◌≡◌, sym, ap, ◌∙◌, subst, refl}
@@ -13,8 +15,6 @@ use Rattle.records.specs.Tests.{pick}
 use Rattle.records.specs.Told.{refusal, over}
 use Rattle.records.specs.Little.{num}
 use Rattle.records.specs.declared.refusal.Refusal.{Refusal}
-use Rattle.records.specs.declared.table.TableRead.{TableRead}
-use Rattle.records.specs.declared.table.TableRead.TheVariants.{Read, Refused as NoTable}
 use Rattle.records.specs.declared.command.Command.{Command}
 use Rattle.records.specs.Command.{commands_from, bytes_of_all}
 use Rattle.records.proofs.Laws.{answered}
@@ -22,8 +22,6 @@ use Rattle.rules.specs.declared.verdict.Verdict.{Verdict}
 use Rattle.rules.specs.declared.verdict.Verdict.TheVariants.{Accepted, Refused as Broken}
 use Rattle.rules.specs.declared.verdict.Rule.{Rule}
 use Rattle.rules.specs.Verdict.{judge}
-use Rattle.capture.specs.declared.answer.CaptureJudged.{CaptureJudged}
-use Rattle.capture.specs.declared.answer.CaptureJudged.TheVariants.{Verdict as Says, Refused}
 use Rattle.capture.specs.Answer.{position_of, commands_seen, capture_refusal, Captured, captured, LeavesCapture}
 use Rattle.capture.proofs.Refusals.{taken}
 use Rattle.promises.specs.Admit.{admitted}
@@ -65,18 +63,17 @@ trace_put e commands v q r b t u x y = puts_then x y
 -- ---- the call
 
 -- what is judged had room in a buffer that held b
-fits : (a : TableRead) (s b : List ℕ) (e n : ℕ) (v : Verdict) → Says e n v ≡ (capturing a s b).answer → 8 * n ≤ length b
+fits : (a : Result Table Refusal) (s b : List ℕ) (e n : ℕ) (v : Verdict) → Ok (e, n, v) ≡ (capturing a s b).answer → 8 * n ≤ length b
 unfolding capturing captured
-fits (Read τ) s b e n v h =
+fits (Ok τ) s b e n v h =
     let z = capture_refusal s (length b) in
     let k = answered (λ (w : Captured). w.answer) z
-    (record { answer = Says τ.edition (length (commands_seen s)) (judge τ (commands_seen s)); buffer = over (bytes_of_all (commands_seen s)) b })
-    (record { answer = Refused (refusal z (position_of z s) τ.edition); buffer = b })
-    (Says e n v) (sym h) (λ g. let y : ◌≡◌ {A = ℕ} 0 1 = cc in omega arith) in
-    let g = k.1 in
-    let same : length (commands_seen s) ≡ n = cc in
+    (record { answer = Ok (τ.edition, length (commands_seen s), judge τ (commands_seen s)); buffer = over (bytes_of_all (commands_seen s)) b })
+    (record { answer = Err (refusal z (position_of z s) τ.edition); buffer = b })
+    (Ok (e, n, v)) (sym h) (λ g. let y : ◌≡◌ {A = ℕ} 0 1 = cc in omega arith) in
+    let same : length (commands_seen s) ≡ n = ap (λ (r : Result (ℕ × ℕ × Verdict) Refusal). elim r [ Ok p ↦ p.1 | Err y ↦ n ]) k.1 in
     omega (arith, same, (taken s (length b) k.0).fits)
-fits (NoTable x) s b e n v h = let y : ◌≡◌ {A = ℕ} 0 1 = cc in absurd (omega arith)
+fits (Err x) s b e n v h = let y : ◌≡◌ {A = ℕ} 0 1 = cc in absurd (omega arith)
 
 zeros_size : (n : ℕ) (b : List ℕ) → b ≡ replicate n 0 → n ≡ length b
 zeros_size n b e = sym (ap length e ∙ length-replicate {A = ℕ} n 0)
@@ -86,26 +83,26 @@ pub room_size : (b : List ℕ) → b ≡ empty_room → 557056 ≡ length b
 unfolding empty_room
 room_size b e = let s = zeros_size _ b e in s
 
-module _ (expected : ℕ) (table capture room b : List ℕ) (r : CaptureJudged) (blank : b ≡ empty_room) (g : LeavesCapture (capturing (admitted expected table) capture b) r room) where
+module _ (expected : ℕ) (table capture room b : List ℕ) (r : Result (ℕ × ℕ × Verdict) Refusal) (blank : b ≡ empty_room) (g : LeavesCapture (capturing (admitted expected table) capture b) r room) where
   h : LeavesCapture (capturing (admitted expected table) capture empty_room) r room
   h = subst (λ (x : List ℕ). LeavesCapture (capturing (admitted expected table) capture x) r room) blank g
 
   text : call_text expected table capture ≡ answer_text r room
   unfolding call_text
   text =
-      sym (ap (λ (a : CaptureJudged). answer_text a room) h.0
+      sym (ap (λ (a : Result (ℕ × ℕ × Verdict) Refusal). answer_text a room) h.0
       ∙ ap (answer_text (capturing (admitted expected table) capture empty_room).answer) h.1)
 
-  pub call_judged : (e n : ℕ) (v : Verdict) → r ≡ Says e n v → call_text expected table capture ≡ trace_text e (commands_from room n 0) v
+  pub call_judged : (e n : ℕ) (v : Verdict) → r ≡ Ok (e, n, v) → call_text expected table capture ≡ trace_text e (commands_from room n 0) v
   unfolding answer_text
-  call_judged e n v p = text ∙ ap (λ (a : CaptureJudged). answer_text a room) p
+  call_judged e n v p = text ∙ ap (λ (a : Result (ℕ × ℕ × Verdict) Refusal). answer_text a room) p
 
-  pub call_refused : (x : Refusal) → r ≡ Refused x → call_text expected table capture ≡ refused_line x
+  pub call_refused : (x : Refusal) → r ≡ Err x → call_text expected table capture ≡ refused_line x
   unfolding answer_text
-  call_refused x p = text ∙ ap (λ (a : CaptureJudged). answer_text a room) p
+  call_refused x p = text ∙ ap (λ (a : Result (ℕ × ℕ × Verdict) Refusal). answer_text a room) p
 
   -- 69,632 commands, the first line, the verdict's
-  pub call_room : (e n : ℕ) (v : Verdict) (size : ℕ) → r ≡ Says e n v → length room ≡ length b → 1741000 ≤ size → (8 * n ≤ length room) × (85 + 25 * n ≤ size)
+  pub call_room : (e n : ℕ) (v : Verdict) (size : ℕ) → r ≡ Ok (e, n, v) → length room ≡ length b → 1741000 ≤ size → (8 * n ≤ length room) × (85 + 25 * n ≤ size)
   call_room e n v size p a c =
       let z = room_size b blank in
       let k : 8 * n ≤ 557056 = subst (λ (m : ℕ). 8 * n ≤ m) (sym (room_size empty_room refl)) (fits (admitted expected table) capture empty_room e n v (sym p ∙ h.0)) in

@@ -1,9 +1,8 @@
 -- What a trace shows, in document 02's words and without bytes or buffers: the table's refusal; number 7 or 11 of the capture; or its commands and the
 -- judge's verdict on them. Number 5 is never told, since there is room for every command.
-use Rattle.std.specs.Prelude.{ℕ, ◌<◌, ◌≡◌, true, false, ◌⊎◌, List, length}
+use Rattle.std.specs.Prelude.{ℕ, ◌<◌, ◌≡◌, true, false, ◌⊎◌, List, length, Ok, Err}
 use Rattle.records.specs.Told.{refusal}
 use Rattle.records.specs.declared.table.Table.{Table}
-use Rattle.records.specs.declared.table.TableRead.TheVariants.{Read, Refused}
 use Rattle.records.specs.declared.refusal.Refusal.{Refusal}
 use Rattle.rules.specs.Verdict.{judge}
 use Rattle.stamps.specs.Capture.{timed_in, lowest}
@@ -32,5 +31,5 @@ pub record ShowsVerdict (τ : Table) (capture text : List ℕ) : Type 0 where
 -- numbers 1, 2 and 10; or what is told under the table that was admitted
 abbrev pub Shows : ℕ → List ℕ → List ℕ → List ℕ → Type 0
 Shows expected table capture text =
-    ((x : Refusal) × (admitted expected table ≡ Refused x) × (text ≡ refused_line x))
-    ⊎ ((τ : Table) × (admitted expected table ≡ Read τ) × (Shows7 τ capture text ⊎ (Shows11 τ capture text ⊎ ShowsVerdict τ capture text)))
+    ((x : Refusal) × (admitted expected table ≡ Err x) × (text ≡ refused_line x))
+    ⊎ ((τ : Table) × (admitted expected table ≡ Ok τ) × (Shows7 τ capture text ⊎ (Shows11 τ capture text ⊎ ShowsVerdict τ capture text)))

@@ -1,6 +1,7 @@
 -- What the program `trace` prints of a capture (document 02, request 6). It reads standard input as the listing does: the expected edition "as two
 -- bytes before the table; fewer than two get number 1", the table, and then the capture.
-use Rattle.std.specs.Prelude.{ℕ, ◌≡◌, List, ◌++◌, ltb, length, take, drop, replicate}
+use Rattle.std.specs.Prelude.{ℕ, ◌≡◌, List, ◌++◌, ltb, length, take, drop, replicate, Result, Ok, Err}
+use Rattle.records.specs.declared.refusal.Refusal.{Refusal}
 use Rattle.records.specs.Tests.{pick}
 use Rattle.records.specs.Told.{refusal, over}
 use Rattle.records.specs.Little.{num}
@@ -8,8 +9,6 @@ use Rattle.records.specs.declared.command.Command.{Command}
 use Rattle.records.specs.Command.{commands_from}
 use Rattle.rules.specs.declared.verdict.Verdict.{Verdict}
 use Rattle.rules.specs.declared.verdict.Verdict.TheVariants.{Accepted, Refused as Broken}
-use Rattle.capture.specs.declared.answer.CaptureJudged.{CaptureJudged}
-use Rattle.capture.specs.declared.answer.CaptureJudged.TheVariants.{Verdict as Says, Refused}
 use Rattle.capture.specs.Answer.{Captured}
 use Rattle.promises.specs.Admit.{admitted}
 use Rattle.promises.specs.Numbers.{rule_number}
@@ -26,9 +25,9 @@ unfoldable pub trace_text : ℕ → List Command → Verdict → List ℕ
 trace_text e commands v = commands_text e commands ++ verdict_line v
 
 -- what is printed for an answer of the desk's call: the commands stand in the room
-unfoldable pub answer_text : CaptureJudged → List ℕ → List ℕ
-answer_text (Says e n v) room = trace_text e (commands_from room n 0) v
-answer_text (Refused x) room = refused_line x
+unfoldable pub answer_text : Result (ℕ × ℕ × Verdict) Refusal → List ℕ → List ℕ
+answer_text (Ok (e, n, v)) room = trace_text e (commands_from room n 0) v
+answer_text (Err x) room = refused_line x
 
 abbrev pub left_text : Captured → List ℕ
 left_text w = answer_text w.answer w.buffer

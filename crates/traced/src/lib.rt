@@ -7,7 +7,6 @@ pub mod verdict;
 ghost use Rattle.std.specs.Prelude.{◌≡◌, ◌≤◌, length};
 ghost use Rattle.traced.specs.Trace.{empty_room, call_text, behind_text, trace_of, Writes};
 
-use capture::answer::CaptureJudged;
 use desk::judge_capture;
 use printed::answer::put_refusal;
 use records::little::num_at;
@@ -23,10 +22,8 @@ fn trace_call(expected: u16, table: &[u8], capture: &[u8], out: &mut [u8]) -> us
     let commands = &mut room[..];
     let answer = judge_capture(expected, table, capture, commands);
     match answer {
-        CaptureJudged::Verdict(edition, written, v) => {
-            put_trace(out, edition, commands, written, v)
-        }
-        CaptureJudged::Refused(x) => put_refusal(out, x),
+        Ok((edition, written, v)) => { put_trace(out, edition, commands, written, v) }
+        Err(x) => put_refusal(out, x),
     }
 }
 

@@ -1,25 +1,19 @@
 // The transaction of 8 bytes, which "adds a 32-bit arrival" (document 02, request 9).
 ghost use Rattle.std.specs.Prelude.{◌≡◌, ◌+◌, ◌≤◌, length};
-ghost use Rattle.records.specs.Told.{over, Leaves};
+ghost use Rattle.records.specs.Told.{checked, over, Leaves};
 ghost use Rattle.records.specs.Transaction.{arriving, later_at, later_bytes, later_refusal, read_later, write_later};
 
 use crate::transaction::{put_transaction, transaction_at};
-use ranges::fitting::refusal_by;
+use ranges::fitting::check_by;
 use records::little::{num_32_at, put_32};
-use records::refusal::{Written, refuse};
-use records::transaction::{Transaction, TransactionRead};
+use records::refusal::{Refusal, refuse};
+use records::transaction::Transaction;
 
 // A transaction that arrives at a cycle.
 pub fn arriving(x: Transaction, arrival: u32) -> Transaction
     ensures { result ≡ arriving x arrival }
 {
-    Transaction {
-        kind: x.kind,
-        start: x.start,
-        bi: x.bi,
-        bc: x.bc,
-        arrival: arrival,
-    }
+    Transaction { arrival, ..x }
 }
 
 // The transaction of the eight bytes from a place on.
@@ -27,29 +21,26 @@ pub fn later_at(s: &[u8], at: usize) -> Transaction
     requires { at + 8 ≤ length s.now }
     ensures { result ≡ later_at s.now at }
 {
-    let x = transaction_at(s, at);
-    arriving(x, num_32_at(s, at + 4))
+    arriving(transaction_at(s, at), num_32_at(s, at + 4))
 }
 
-// 0, or the number by which a transaction of so many bytes is refused.
-pub fn later_refusal(size: usize, x: Transaction) -> u8
-    ensures { result ≡ later_refusal size x }
+// Numbers 3 and 4.
+pub fn check_later(size: usize, x: Transaction) -> Result<(), Refusal>
+    ensures { result ≡ checked (later_refusal size x) 0 0 }
 {
-    refusal_by(8, 20000000, size, x)
+    check_by(8, 20000000, size, x)
 }
 
-pub fn read_later(s: &[u8]) -> TransactionRead
+#[tactic(auto, unfolding(records::specs::Transaction::read_later))]
+pub fn read_later(s: &[u8]) -> Result<Transaction, Refusal>
     ensures { result ≡ read_later s.now }
 {
     if s.len() != 8 {
-        return TransactionRead::Refused(refuse(3, 0, 0));
+        return Err(refuse(3, 0, 0));
     }
     let x = later_at(s, 0);
-    let z = later_refusal(s.len(), x);
-    if z != 0 {
-        return TransactionRead::Refused(refuse(z, 0, 0));
-    }
-    TransactionRead::Read(x)
+    check_later(s.len(), x)?;
+    Ok(x)
 }
 
 // Writes the eight bytes from the buffer's start.
@@ -57,18 +48,15 @@ pub fn put_later(x: Transaction, s: &mut [u8])
     requires { 8 ≤ length s.old }
     ensures { s.new ≡ over (later_bytes x) s.old }
 {
-    let arrival = x.arrival;
     put_transaction(x, s);
-    put_32(s, 4, arrival);
+    put_32(s, 4, x.arrival);
 }
 
-pub fn write_later(x: Transaction, s: &mut [u8]) -> Written
+#[tactic(auto, unfolding(records::specs::Transaction::write_later))]
+pub fn write_later(x: Transaction, s: &mut [u8]) -> Result<u16, Refusal>
     ensures { Leaves (write_later x s.old) result s.new }
 {
-    let z = later_refusal(s.len(), x);
-    if z != 0 {
-        return Written::Refused(refuse(z, 0, 0));
-    }
+    check_later(s.len(), x)?;
     put_later(x, s);
-    Written::Done(0)
+    Ok(0)
 }

@@ -1,11 +1,11 @@
 // The transaction, 4 bytes, which arrives at cycle 0. Module `later` has the one of 8 bytes.
 ghost use Rattle.std.specs.Prelude.{◌≡◌, ◌+◌, ◌≤◌, length};
-ghost use Rattle.records.specs.Told.{over, Leaves};
+ghost use Rattle.records.specs.Told.{checked, over, Leaves};
 ghost use Rattle.records.specs.Transaction.{transaction, transaction_at, bytes_of, transaction_refusal, read_transaction, write_transaction};
 
-use ranges::fitting::refusal_by;
-use records::refusal::{Written, refuse};
-use records::transaction::{Transaction, TransactionRead};
+use ranges::fitting::check_by;
+use records::refusal::{Refusal, refuse};
+use records::transaction::Transaction;
 
 // The transaction of the four bytes from a place on.
 pub fn transaction_at(s: &[u8], at: usize) -> Transaction
@@ -21,24 +21,23 @@ pub fn transaction_at(s: &[u8], at: usize) -> Transaction
     }
 }
 
-pub fn transaction_refusal(size: usize, x: Transaction) -> u8
-    ensures { result ≡ transaction_refusal size x }
+// Numbers 3 and 4.
+pub fn check_transaction(size: usize, x: Transaction) -> Result<(), Refusal>
+    ensures { result ≡ checked (transaction_refusal size x) 0 0 }
 {
-    refusal_by(4, 0, size, x)
+    check_by(4, 0, size, x)
 }
 
-pub fn read_transaction(s: &[u8]) -> TransactionRead
+#[tactic(auto, unfolding(records::specs::Transaction::read_transaction))]
+pub fn read_transaction(s: &[u8]) -> Result<Transaction, Refusal>
     ensures { result ≡ read_transaction s.now }
 {
     if s.len() != 4 {
-        return TransactionRead::Refused(refuse(3, 0, 0));
+        return Err(refuse(3, 0, 0));
     }
     let x = transaction_at(s, 0);
-    let z = transaction_refusal(s.len(), x);
-    if z != 0 {
-        return TransactionRead::Refused(refuse(z, 0, 0));
-    }
-    TransactionRead::Read(x)
+    check_transaction(s.len(), x)?;
+    Ok(x)
 }
 
 // Writes the four bytes from the buffer's start.
@@ -52,13 +51,11 @@ pub fn put_transaction(x: Transaction, s: &mut [u8])
     s[3] = x.bc;
 }
 
-pub fn write_transaction(x: Transaction, s: &mut [u8]) -> Written
+#[tactic(auto, unfolding(records::specs::Transaction::write_transaction))]
+pub fn write_transaction(x: Transaction, s: &mut [u8]) -> Result<u16, Refusal>
     ensures { Leaves (write_transaction x s.old) result s.new }
 {
-    let z = transaction_refusal(s.len(), x);
-    if z != 0 {
-        return Written::Refused(refuse(z, 0, 0));
-    }
+    check_transaction(s.len(), x)?;
     put_transaction(x, s);
-    Written::Done(0)
+    Ok(0)
 }

@@ -4,8 +4,6 @@ ghost use Rattle.verdict_answers.specs.Verdicts.{saying, not_saying, verdict_sai
 ghost use Rattle.promises.specs.Numbers.{telling};
 
 use answers::answer::{from_16, refused};
-use capture::answer::CaptureJudged;
-use judge::answer::{Judged, PatternJudged};
 use promises::numbers::rule_number;
 use records::refusal::Refusal;
 use rules::verdict::{PatternVerdict, Verdict};
@@ -56,8 +54,8 @@ pub fn said(edition: u16, rule: u32, copy: u32, place: u32) -> VerdictAnswer
         refused: 0,
         position: 0,
         edition: from_16(edition),
-        rule: rule,
-        copy: copy,
+        rule,
+        copy,
         record: place,
     }
 }
@@ -85,12 +83,12 @@ pub fn verdict_said(edition: u16, v: Verdict) -> VerdictAnswer
     }
 }
 
-pub fn verdict_of(j: Judged) -> VerdictAnswer
+pub fn verdict_of(j: Result<(u16, Verdict), Refusal>) -> VerdictAnswer
     ensures { result ≡ verdict_of j }
 {
     match j {
-        Judged::Verdict(e, v) => verdict_said(e, v),
-        Judged::Refused(x) => not_said(x),
+        Ok((e, v)) => verdict_said(e, v),
+        Err(x) => not_said(x),
     }
 }
 
@@ -103,12 +101,12 @@ pub fn pattern_said(edition: u16, v: PatternVerdict) -> VerdictAnswer
     }
 }
 
-pub fn pattern_of(j: PatternJudged) -> VerdictAnswer
+pub fn pattern_of(j: Result<(u16, PatternVerdict), Refusal>) -> VerdictAnswer
     ensures { result ≡ pattern_of j }
 {
     match j {
-        PatternJudged::Verdict(e, v) => pattern_said(e, v),
-        PatternJudged::Refused(x) => not_said(x),
+        Ok((e, v)) => pattern_said(e, v),
+        Err(x) => not_said(x),
     }
 }
 
@@ -120,20 +118,20 @@ pub fn capture_said(edition: u16, count: u32, v: Verdict) -> CaptureAnswer
         refused: a.refused,
         position: a.position,
         edition: a.edition,
-        count: count,
+        count,
         rule: a.rule,
         record: a.record,
     }
 }
 
 // A capture's commands are counted in 32 bits: there are at most 69,632.
-pub fn capture_of(j: CaptureJudged) -> CaptureAnswer
+pub fn capture_of(j: Result<(u16, usize, Verdict), Refusal>) -> CaptureAnswer
     requires { commands_written j < 4294967296 }
     ensures { result ≡ capture_of j }
 {
     match j {
-        CaptureJudged::Verdict(e, n, v) => capture_said(e, n as u32, v),
-        CaptureJudged::Refused(x) => {
+        Ok((e, n, v)) => capture_said(e, n as u32, v),
+        Err(x) => {
             let r = refused(x);
             CaptureAnswer {
                 refused: r.refused,
@@ -160,10 +158,10 @@ pub fn serves_told(
         refused: 0,
         position: 0,
         edition: from_16(edition),
-        serves: serves,
-        rule: rule,
+        serves,
+        rule,
         record: place,
-        transaction: transaction,
+        transaction,
     }
 }
 
@@ -177,12 +175,12 @@ pub fn served_said(edition: u16, a: Served) -> ServesAnswer
     }
 }
 
-pub fn serves_of(s: serves::answer::ServesAnswer) -> ServesAnswer
+pub fn serves_of(s: Result<(u16, Served), Refusal>) -> ServesAnswer
     ensures { result ≡ serves_of s }
 {
     match s {
-        serves::answer::ServesAnswer::Told(e, a) => served_said(e, a),
-        serves::answer::ServesAnswer::Refused(x) => {
+        Ok((e, a)) => served_said(e, a),
+        Err(x) => {
             let r = refused(x);
             ServesAnswer {
                 refused: r.refused,

@@ -5,16 +5,16 @@
 // length. The line is `case` for any other call, and for a case that the input cuts short, which is the last.
 #![tactic(auto)]
 
-ghost use Rattle.std.specs.Prelude.{◌+◌, ◌≤◌, ◌<◌, length};
+mod cases;
 
+use cases::{Case, Cases};
 use desk::{judge, judge_pattern};
-use judge::answer::{Judged, PatternJudged};
-use prints::{long, number, refused, text};
+use prints::Refused;
 use promises::numbers::rule_number;
+use reads::bytes::Bytes;
 use reads::read_full;
-use records::little::{from_le32, num_at};
 use records::refusal::Refusal;
-use rules::verdict::{PatternVerdict, Rule, Verdict};
+use rules::verdict::{PatternVerdict, Verdict};
 use std::io;
 use std::io::Write;
 
@@ -24,134 +24,61 @@ fn main(rt: HostRuntime) -> io::Result<()> {
     all_cases(&mut rt.stdout(), &input[..n])
 }
 
-fn all_cases<W: Write>(out: &mut W, s: &[u8]) -> io::Result<()> {
-    let mut at = 0;
-    while 10 <= s.len() - at {
-        let table = at + 10;
-        let from = table + table_size(s[at + 7]);
-        let end = from + size(num_at(s, at + 8));
-        if s.len() < end {
-            break;
-        }
-        one_case(
+fn all_cases<W: Write>(out: &mut W, input: &[u8]) -> io::Result<()> {
+    let mut cases = Cases {
+        bytes: Bytes { left: input },
+    };
+    for case in cases.by_ref() {
+        one_case(out, case)?;
+    }
+    if cases.bytes.left.is_empty() {
+        Ok(())
+    } else {
+        no_case(out)
+    }
+}
+
+fn one_case<W: Write>(out: &mut W, c: Case<'_>) -> io::Result<()> {
+    match c.call {
+        1 => judged(out, judge(c.expected, c.table, c.schedule)),
+        2 => pattern_judged(
             out,
-            s[at],
-            num_at(s, at + 1),
-            &s[table..from],
-            long_at(s, at + 3),
-            &s[from..end],
-        )?;
-        at = end;
-    }
-    if at < s.len() {
-        no_case(out)?;
-    }
-    Ok(())
-}
-
-fn size(n: u16) -> usize
-    ensures { result < 65536 }
-{
-    n as usize
-}
-
-fn table_size(n: u8) -> usize
-    ensures { result < 256 }
-{
-    n as usize
-}
-
-// The 32-bit number at a place.
-fn long_at(s: &[u8], at: usize) -> u32
-    requires { at + 4 ≤ length s.now }
-{
-    from_le32(s[at], s[at + 1], s[at + 2], s[at + 3])
-}
-
-fn one_case<W: Write>(
-    out: &mut W,
-    call: u8,
-    expected: u16,
-    table: &[u8],
-    length: u32,
-    s: &[u8],
-) -> io::Result<()> {
-    match call {
-        1 => schedule_line(out, expected, table, s),
-        2 => pattern_line(out, expected, table, s, length),
+            judge_pattern(c.expected, c.table, c.schedule, c.length),
+        ),
         _ => no_case(out),
     }
 }
 
 fn no_case<W: Write>(out: &mut W) -> io::Result<()> {
-    text(out, b"case\n")
+    out.write_all(b"case\n")
 }
 
-fn schedule_line<W: Write>(out: &mut W, expected: u16, table: &[u8], s: &[u8]) -> io::Result<()> {
-    text(out, b"judge")?;
-    judged(out, judge(expected, table, s))?;
-    text(out, b"\n")
+fn judged<W: Write>(out: &mut W, answer: Result<(u16, Verdict), Refusal>) -> io::Result<()> {
+    match answer {
+        Ok((edition, Verdict::Accepted)) => { writeln!(out, "judge edition {edition} accepted") }
+        Ok((edition, Verdict::Refused(x, record))) => {
+            let rule = rule_number(x);
+            writeln!(out, "judge edition {edition} rule {rule} record {record}")
+        }
+        Err(r) => writeln!(out, "judge {}", Refused(r)),
+    }
 }
 
-fn pattern_line<W: Write>(
+fn pattern_judged<W: Write>(
     out: &mut W,
-    expected: u16,
-    table: &[u8],
-    s: &[u8],
-    length: u32,
+    answer: Result<(u16, PatternVerdict), Refusal>,
 ) -> io::Result<()> {
-    text(out, b"pattern")?;
-    pattern_judged(out, judge_pattern(expected, table, s, length))?;
-    text(out, b"\n")
-}
-
-fn judged<W: Write>(out: &mut W, answer: Judged) -> io::Result<()> {
     match answer {
-        Judged::Verdict(edition, v) => {
-            text(out, b" edition")?;
-            number(out, edition)?;
-            verdict(out, v)
+        Ok((edition, PatternVerdict::Accepted)) => {
+            writeln!(out, "pattern edition {edition} accepted")
         }
-        Judged::Refused(r) => refused(out, r),
-    }
-}
-
-fn pattern_judged<W: Write>(out: &mut W, answer: PatternJudged) -> io::Result<()> {
-    match answer {
-        PatternJudged::Verdict(edition, v) => {
-            text(out, b" edition")?;
-            number(out, edition)?;
-            pattern_verdict(out, v)
+        Ok((edition, PatternVerdict::Refused(x, copy, record))) => {
+            let rule = rule_number(x);
+            writeln!(
+                out,
+                "pattern edition {edition} rule {rule} copy {copy} record {record}"
+            )
         }
-        PatternJudged::Refused(r) => refused(out, r),
+        Err(r) => writeln!(out, "pattern {}", Refused(r)),
     }
-}
-
-fn verdict<W: Write>(out: &mut W, v: Verdict) -> io::Result<()> {
-    match v {
-        Verdict::Accepted => text(out, b" accepted"),
-        Verdict::Refused(x, record) => {
-            rule(out, x)?;
-            text(out, b" record")?;
-            long(out, record)
-        }
-    }
-}
-
-fn pattern_verdict<W: Write>(out: &mut W, v: PatternVerdict) -> io::Result<()> {
-    match v {
-        PatternVerdict::Accepted => text(out, b" accepted"),
-        PatternVerdict::Refused(x, copy, record) => {
-            rule(out, x)?;
-            text(out, b" copy")?;
-            long(out, copy)?;
-            text(out, b" record")?;
-            long(out, record)
-        }
-    }
-}
-
-fn rule<W: Write>(out: &mut W, x: Rule) -> io::Result<()> {
-    text(out, b" rule")?;
-    long(out, rule_number(x))
 }

@@ -1,5 +1,6 @@
 -- Transactions added at the end move no command of the earlier ones.
 -- Assumes nothing.
+use Rattle.std.specs.Prelude.{Some}
 use Prim.Native.Nat.{ℕ, zero, suc, ◌+◌, ◌%◌, ◌≤◌, ◌<◌}
 use native.Mathlib.Omega.{arith}
 use mathlib.Core.Path.{◌≡◌, refl, sym, ap, ◌∙◌, subst}
@@ -15,7 +16,6 @@ use Rattle.records.specs.declared.table.Table.{Table}
 use Rattle.records.specs.declared.transaction.Transaction.{Transaction}
 use Rattle.records.specs.declared.command.Kind.TheVariants.{Act, Ref}
 use Rattle.records.specs.declared.command.Command.{Command}
-use Rattle.rules.specs.declared.state.Stamp.TheVariants.{At}
 use Rattle.rules.specs.declared.state.State.{State}
 use Rattle.records.specs.Tests.{pick, all_of}
 use Rattle.records.specs.Transaction.{is_write, is_refresh}
@@ -104,7 +104,7 @@ module _ (τ : Table) (rng : Ranges τ) (xs ys : List Transaction) (v : AllFit �
           group_size = rw (length-set s.groups, length-set u.groups) q.group_size;
           group = set_pair SameData s.groups u.groups (group_of τ c.bank) (group_after c.kind c.cycle (group_at s (group_of τ c.bank)))
               (group_after c.kind c.cycle (group_at u (group_of τ c.bank))) q.group_size q.group
-              (ap (pick (is_rd c.kind) (At c.cycle)) (q.group (group_of τ c.bank)).0, ap (pick (is_wr c.kind) (At c.cycle)) (q.group (group_of τ c.bank)).1);
+              (ap (pick (is_rd c.kind) (Some c.cycle)) (q.group (group_of τ c.bank)).0, ap (pick (is_wr c.kind) (Some c.cycle)) (q.group (group_of τ c.bank)).1);
           bank = λ n a b. agree n a b (same? (act_bank τ xs (act_of xs n)) c.bank);
         })
       where

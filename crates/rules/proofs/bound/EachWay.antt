@@ -1,5 +1,6 @@
 -- Each way a cycle can go keeps the phase, or ends it.
 -- Assumes nothing.
+use Rattle.std.specs.Prelude.{Some}
 use Prim.Native.Nat.{ℕ, zero, suc, ◌+◌, ◌*◌, ◌≤◌, ◌<◌}
 use native.Mathlib.Omega.{arith}
 use mathlib.Core.Path.{◌≡◌, refl, sym, ap, ◌∙◌, subst}
@@ -11,7 +12,6 @@ use borrow.Author.Tests.{ltb-true, leb-true, not-true}
 use Rattle.records.specs.declared.table.Table.{Table}
 use Rattle.records.specs.declared.transaction.Transaction.{Transaction}
 use Rattle.records.specs.declared.command.Kind.TheVariants.{Act}
-use Rattle.rules.specs.declared.state.Stamp.TheVariants.{At}
 use Rattle.rules.specs.declared.state.State.{State}
 use Rattle.records.specs.Transaction.{is_write}
 use Rattle.rules.specs.State.{past, is_open, bank_of, rule9, act_tests, data_tests, note, idle}
@@ -132,7 +132,7 @@ module _ (τ : Table) (rng : Ranges τ) (l : List Transaction) (A0 M0 : ℕ) (x 
 
     rule8 : ta (A0 + j) + τ.rcd ≤ s.cycle
     rule8 =
-        let a : (bank_of s (bank_at τ x j)).act ≡ At (ta (A0 + j)) = rw (sp.bank_k j q.jIn) at (q.base.acted_at (A0 + j) (omega arith) gone) in
+        let a : (bank_of s (bank_at τ x j)).act ≡ Some (ta (A0 + j)) = rw (sp.bank_k j q.jIn) at (q.base.acted_at (A0 + j) (omega arith) gone) in
         leb-true (ta (A0 + j) + τ.rcd) s.cycle (rw a at (test_at (data_tests τ s (is_write x) s.cycle (bank_at τ x j)) 5 rules))
 
     noted : DataNote τ s s'' s.cycle (act_bank τ l (A0 + j)) z

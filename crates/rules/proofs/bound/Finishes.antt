@@ -1,5 +1,6 @@
 -- Where the transactions that are done ended, and where their counts started.
 -- Assumes nothing.
+use Rattle.std.specs.Prelude.{Some}
 use Prim.Native.Nat.{ℕ, ◌+◌, ◌≤◌, ◌<◌}
 use native.Mathlib.Omega.{arith}
 use mathlib.Core.Path.{◌≡◌, refl, sym, ap, ◌∙◌}
@@ -13,7 +14,6 @@ use borrow.Author.Tests.{eq-eqb, ne_eqb}
 use Rattle.records.specs.declared.table.Table.{Table}
 use Rattle.records.specs.declared.transaction.Transaction.{Transaction}
 use Rattle.records.specs.declared.command.Command.{Command}
-use Rattle.rules.specs.declared.state.Stamp.TheVariants.{At}
 use Rattle.records.specs.Tests.{pick}
 use Rattle.records.specs.Transaction.{transaction}
 use Rattle.rules.specs.Kinds.{can_end}
@@ -36,7 +36,7 @@ nth l k = get_or l k no_transaction
 pub record Finishes (τ : Table) (l : List Transaction) (K : ℕ) (last start : ℕ → ℕ) (h : List Command) : Type 0 where
   pub zeroth : start 0 ≡ 0
   pub next : (k : ℕ) → k < K → start (k + 1) ≡ count_from τ (nth l k) (last k)
-  pub got : (k : ℕ) → k < K → last_command_in k h ≡ At (last k)
+  pub got : (k : ℕ) → k < K → last_command_in k h ≡ Some (last k)
   pub near : (k : ℕ) → k < K → last k ≤ start_at (nth l k) (start k) + span τ (nth l k)
 
 -- a command of transaction K leaves those before it
@@ -44,7 +44,7 @@ last_kept : (k K : ℕ) → k ≢ K → (o : Option Command) (h : List Command) 
 last_kept k K n none h u = refl
 last_kept k K n (some c) h u = on (can_end c.kind) refl
   where
-    on : (b : Bool) → can_end c.kind ≡ b → pick (eqb c.number k && can_end c.kind) (At c.cycle) (last_command_in k h) ≡ last_command_in k h
+    on : (b : Bool) → can_end c.kind ≡ b → pick (eqb c.number k && can_end c.kind) (Some c.cycle) (last_command_in k h) ≡ last_command_in k h
     on true e = rw (ne_eqb c.number k (λ z. n (sym z ∙ u e)))
     on false e = rw (e, and-false (eqb c.number k))
 
@@ -76,10 +76,10 @@ module _ (τ : Table) (l : List Transaction) (K : ℕ) (last start : ℕ → ℕ
         next' k z (inr n) =
             rw (ext_other start (K + 1) (count_from τ (nth l K) t) (k + 1) (λ g. n (omega arith)), ext_other last K t k n) (q.next k (omega (arith, n)))
 
-        got' : (k : ℕ) → k < K + 1 → (k ≡ K) ⊎ (k ≢ K) → last_command_in k (c ∷ h) ≡ At (ext last K t k)
+        got' : (k : ℕ) → k < K + 1 → (k ≡ K) ⊎ (k ≢ K) → last_command_in k (c ∷ h) ≡ Some (ext last K t k)
         got' k z (inl e) = rw (eq-eqb c.number k (u.1 ∙ sym e), u.0, u.2, ext_eq last K t k e)
         got' k z (inr n) =
-            last_kept k K n (some c) h (λ y. u.1) ∙ (q.got k (omega (arith, n)) ∙ ap At (sym (ext_other last K t k n)))
+            last_kept k K n (some c) h (λ y. u.1) ∙ (q.got k (omega (arith, n)) ∙ ap Some (sym (ext_other last K t k n)))
 
         near' : (k : ℕ) → k < K + 1 → (k ≡ K) ⊎ (k ≢ K) → ext last K t k ≤ start_at (nth l k) (ext start (K + 1) (count_from τ (nth l K) t) k) + span τ (nth l k)
         near' k z (inl e) = rw (ext_eq last K t k e, ext_other start (K + 1) (count_from τ (nth l K) t) k (λ g. omega arith), e) b

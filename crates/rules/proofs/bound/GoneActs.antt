@@ -1,6 +1,7 @@
 -- What the state says of the commands of the ACT queue that have gone, by their numbers in it. `ta i` is the cycle of the i-th, v the number of
 -- those that are done with, an ACT once its data commands have all gone, and c a cycle that no stamp is past.
 -- Assumes nothing.
+use Rattle.std.specs.Prelude.{Some}
 use Prim.Native.Nat.{ℕ, zero, suc, ◌+◌, ◌≤◌, ◌<◌}
 use native.Mathlib.Omega.{arith}
 use mathlib.Core.Path.{◌≡◌, refl, sym, ap, ◌∙◌, subst}
@@ -12,7 +13,6 @@ use lib.Seq.{get_or-set_same, get_or-set_other, set-get_or}
 use Rattle.records.specs.declared.table.Table.{Table}
 use Rattle.records.specs.declared.transaction.Transaction.{Transaction}
 use Rattle.records.specs.declared.command.Kind.TheVariants.{Act, Ref}
-use Rattle.rules.specs.declared.state.Stamp.TheVariants.{At}
 use Rattle.rules.specs.declared.state.Bank.{Bank}
 use Rattle.rules.specs.declared.state.State.{State}
 use Rattle.rules.specs.State.{is_open, shut, bank_of, fresh, bank_after, note, idle}
@@ -44,7 +44,7 @@ pub record Base (τ : Table) (l : List Transaction) (v : ℕ) (ta : ℕ → ℕ)
   -- those from number v on are ACTs that have data commands due: their banks are open, and differ
   pub all_acts : (i : ℕ) → v ≤ i → i < s.acts → is_act_at l i ≡ true
   pub opened : (i : ℕ) → v ≤ i → i < s.acts → is_open (bank_of s (act_bank τ l i)) ≡ true
-  pub acted_at : (i : ℕ) → v ≤ i → i < s.acts → (bank_of s (act_bank τ l i)).act ≡ At (ta i)
+  pub acted_at : (i : ℕ) → v ≤ i → i < s.acts → (bank_of s (act_bank τ l i)).act ≡ Some (ta i)
   pub apart : (i i' : ℕ) → v ≤ i → i < i' → i' < s.acts → act_bank τ l i ≢ act_bank τ l i'
   -- every other bank is closed, and its ACT is RCD back at least
   pub cold : (b : ℕ) → b < τ.banks
@@ -237,7 +237,7 @@ module _ (τ : Table) (l : List Transaction) (v : ℕ) (ta : ℕ → ℕ) (c : �
   pub miss : (b : ℕ) → b ≢ act_bank τ l v → bank_of s' b ≡ bank_of s b
   miss b h = rw n.now_banks (get_or-set_other s.banks (act_bank τ l v) b n.now_bank shut h)
 
-  act_v : n.now_bank.act ≡ At (ta v)
+  act_v : n.now_bank.act ≡ Some (ta v)
   act_v = n.now_act ∙ q.acted_at v (omega arith) gone
 
   other : (i : ℕ) → v ≤ i → i < s.acts → i ≢ v → act_bank τ l i ≢ act_bank τ l v

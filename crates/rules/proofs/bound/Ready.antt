@@ -1,5 +1,7 @@
 -- When an ACT and the data command at the head may go: at the latest when they are due.
 -- Assumes nothing.
+use Rattle.std.specs.Prelude.{Some, None}
+use Rattle.rules.specs.Types.{Stamp}
 use Prim.Native.Nat.{ℕ, ◌+◌, ◌*◌, ◌≤◌, ◌<◌}
 use native.Mathlib.Omega.{arith}
 use native.Mathlib.Nat.{mul-le-mul_right}
@@ -10,8 +12,6 @@ use mathlib.Core.List.{List}
 use borrow.Author.Tests.{lt-ltb, not-true}
 use Rattle.records.specs.declared.table.Table.{Table}
 use Rattle.records.specs.declared.transaction.Transaction.{Transaction}
-use Rattle.rules.specs.declared.state.Stamp.{Stamp}
-use Rattle.rules.specs.declared.state.Stamp.TheVariants.{Never, At}
 use Rattle.rules.specs.declared.state.State.{State}
 use Rattle.records.specs.Transaction.{is_write}
 use Rattle.rules.specs.Square.{write_tail}
@@ -34,8 +34,8 @@ module _ (τ : Table) (rng : Ranges τ) (l : List Transaction) (A0 M0 : ℕ) (x 
   -- the ACT k may go once the predecessor is far enough back and its own ACTs are
   module _ (k : ℕ) (ek : s.acts ≡ A0 + k) (kl : k < x.bi) (h0 : F + bound_s τ ≤ s.cycle) (h1 : by_act τ F k ≤ s.cycle + 1) where
     near : (d : ℕ) (st : Stamp) (n : ℕ) → n + 1 ≤ 4 → d ≤ τ.rcd + bound_s τ → d ≤ (n + 1) * bound_d τ → Back (Went l ta) s.acts n st → Upto d s.cycle st
-    near d Never n h g g' b = tt
-    near d (At y) n h g g' b = ⊎_elim (λ z. omega (arith, b.2.0, (q.old b.0 z b.2.1).0)) (λ z. own_case z) (from? b.0 A0)
+    near d None n h g g' b = tt
+    near d (Some y) n h g g' b = ⊎_elim (λ z. omega (arith, b.2.0, (q.old b.0 z b.2.1).0)) (λ z. own_case z) (from? b.0 A0)
       where
         own_case : ((e : ℕ) × (b.0 ≡ A0 + e)) → y + d ≤ s.cycle
         own_case z =
@@ -87,13 +87,13 @@ module _ (τ : Table) (rng : Ranges τ) (l : List Transaction) (A0 M0 : ℕ) (x 
     data_ready =
         let t = s.cycle in
         let o : is_open (bank_of s (bank_at τ x j)) ≡ true = rw (sp.bank_k j q.jIn) at (q.base.opened (A0 + j) (omega arith) head_gone) in
-        let a : (bank_of s (bank_at τ x j)).act ≡ At (ta (A0 + j)) = rw (sp.bank_k j q.jIn) at (q.base.acted_at (A0 + j) (omega arith) head_gone) in
+        let a : (bank_of s (bank_at τ x j)).act ≡ Some (ta (A0 + j)) = rw (sp.bank_k j q.jIn) at (q.base.acted_at (A0 + j) (omega arith) head_gone) in
         let m : ta (A0 + j) + τ.rcd ≤ t = omega (arith, q.own j q.jIn head_gone, due_act τ x.bc j r) in
         rw (
           lt-ltb (A0 + j) s.acts head_gone,
           o,
           a,
-          upto_past τ.rcd t (At (ta (A0 + j))) m,
+          upto_past τ.rcd t (Some (ta (A0 + j))) m,
           nine,
         )
 

@@ -1,5 +1,7 @@
 -- Stamps, and what the state says of the latest commands of the groups: rules 6, 7 and 9 are read off it.
 -- Assumes nothing.
+use Rattle.std.specs.Prelude.{Some, None}
+use Rattle.rules.specs.Types.{Stamp}
 use Prim.Native.Nat.{ℕ, ◌+◌, ◌≤◌, ◌<◌}
 use native.Mathlib.Nat.{mod-lt}
 use native.Mathlib.Omega.{arith}
@@ -13,8 +15,6 @@ use borrow.Author.Tests.{le-leb, lt-leb, leb-true, eq-eqb, ne_eqb}
 use Rattle.records.specs.declared.table.Table.{Table}
 use Rattle.records.specs.declared.command.Kind.{Kind}
 use Rattle.records.specs.declared.command.Kind.TheVariants.{Act, Ref}
-use Rattle.rules.specs.declared.state.Stamp.{Stamp}
-use Rattle.rules.specs.declared.state.Stamp.TheVariants.{Never, At}
 use Rattle.rules.specs.declared.state.Group.{Group}
 use Rattle.rules.specs.declared.state.State.{State}
 use Rattle.records.specs.Tests.{pick}
@@ -31,28 +31,28 @@ use Rattle.rules.proofs.laws.DataKinds.{no_act}
 
 -- a stamp with d added is at most c
 abbrev pub Upto : ℕ → ℕ → Stamp → Type 0
-Upto d c Never = Unit {0}
-Upto d c (At x) = x + d ≤ c
+Upto d c None = Unit {0}
+Upto d c (Some x) = x + d ≤ c
 
 pub upto_map : (d c d' c' : ℕ) (s : Stamp) → ((x : ℕ) → x + d ≤ c → x + d' ≤ c') → Upto d c s → Upto d' c' s
-upto_map d c d' c' Never f q = tt
-upto_map d c d' c' (At x) f q = f x q
+upto_map d c d' c' None f q = tt
+upto_map d c d' c' (Some x) f q = f x q
 
 pub upto_up : (d c c' : ℕ) (s : Stamp) → c ≤ c' → Upto d c s → Upto d c' s
 upto_up d c c' s h q = upto_map d c d c' s (λ x k. omega arith) q
 
 pub past_upto : (d t : ℕ) (s : Stamp) → past s d t ≡ true → Upto d t s
-past_upto d t Never e = tt
-past_upto d t (At x) e = leb-true (x + d) t e
+past_upto d t None e = tt
+past_upto d t (Some x) e = leb-true (x + d) t e
 
 pub upto_past : (d t : ℕ) (s : Stamp) → Upto d t s → past s d t ≡ true
-upto_past d t Never q = refl
-upto_past d t (At x) q = le-leb (x + d) t q
+upto_past d t None q = refl
+upto_past d t (Some x) q = le-leb (x + d) t q
 
 -- the stamp is the cycle of an ACT at least j back from number a; `A i x` says that number i went as an ACT at cycle x
 abbrev pub Back : (ℕ → ℕ → Type 0) → ℕ → ℕ → Stamp → Type 0
-Back A a j Never = Unit {0}
-Back A a j (At x) = (i : ℕ) × (i + j + 1 ≤ a) × A i x
+Back A a j None = Unit {0}
+Back A a j (Some x) = (i : ℕ) × (i + j + 1 ≤ a) × A i x
 
 -- ta, with t at n
 abbrev pub ext : (ℕ → ℕ) → ℕ → ℕ → ℕ → ℕ
@@ -68,12 +68,12 @@ pub ext_other : (ta : ℕ → ℕ) (n t i : ℕ) → i ≢ n → ext ta n t i �
 ext_other ta n t i h = rw (ne_eqb i n h)
 
 back_next : (A A' : ℕ → ℕ → Type 0) (a j : ℕ) (s : Stamp) → ((i x : ℕ) → i < a → A i x → A' i x) → Back A a j s → Back A' (a + 1) (j + 1) s
-back_next A A' a j Never f q = tt
-back_next A A' a j (At x) f q = (q.0, omega (arith, q.1), f q.0 x (omega (arith, q.1)) q.2)
+back_next A A' a j None f q = tt
+back_next A A' a j (Some x) f q = (q.0, omega (arith, q.1), f q.0 x (omega (arith, q.1)) q.2)
 
 back_still : (A A' : ℕ → ℕ → Type 0) (a j : ℕ) (s : Stamp) → ((i x : ℕ) → i < a → A i x → A' i x) → Back A a j s → Back A' (a + 1) j s
-back_still A A' a j Never f q = tt
-back_still A A' a j (At x) f q = (q.0, omega (arith, q.1), f q.0 x (omega (arith, q.1)) q.2)
+back_still A A' a j None f q = tt
+back_still A A' a j (Some x) f q = (q.0, omega (arith, q.1), f q.0 x (omega (arith, q.1)) q.2)
 
 -- every RD kept (every WR kept), with d added, is at most c
 abbrev pub RdUp : ℕ → ℕ → State → Type 0

@@ -1,5 +1,8 @@
 -- With one group and each long number equal to its short one, every answer is that of before there were groups.
 -- Assumes nothing.
+use Rattle.std.specs.Prelude.{Some, None}
+use Rattle.rules.specs.Types.{Stamp}
+use Rattle.rules.specs.Types.{Found}
 use Prim.Native.Nat.{ℕ, zero, suc, ◌%◌, ◌≤◌}
 use native.Mathlib.Nat.{mod-one}
 use native.Mathlib.Omega.{arith}
@@ -16,12 +19,8 @@ use Rattle.records.specs.declared.transaction.Transaction.{Transaction}
 use Rattle.records.specs.declared.command.Kind.{Kind}
 use Rattle.records.specs.declared.command.Kind.TheVariants.{Act, Rd, Rda, Wr, Wra, Ref, Other}
 use Rattle.records.specs.declared.command.Command.{Command}
-use Rattle.rules.specs.declared.state.Stamp.{Stamp}
-use Rattle.rules.specs.declared.state.Stamp.TheVariants.{At}
 use Rattle.rules.specs.declared.state.Group.{Group}
 use Rattle.rules.specs.declared.state.State.{State}
-use Rattle.rules.specs.declared.verdict.Found.{Found}
-use Rattle.rules.specs.declared.verdict.Found.TheVariants.{Fine, Broken}
 use Rattle.rules.specs.declared.verdict.Verdict.{Verdict}
 use Rattle.rules.specs.declared.verdict.Verdict.TheVariants.{Accepted as Legally, Refused as Not}
 use Rattle.rules.specs.declared.verdict.PatternVerdict.{PatternVerdict}
@@ -82,14 +81,14 @@ module _ (τ : Table) (q : OneGroup τ) where
   pub judge_before : (rs : List Command) (n : ℕ) (h : List Command) → judge_from τ rs n h ≡ Before.judge_from τ rs n h
   judge_before [] n h = refl
   judge_before (r ∷ rs) n h =
-      ap (λ (f : Found). elim f [ Fine ↦ judge_from τ rs (suc n) (r ∷ h) | Broken x ↦ Not x n ]) (broken_before r h)
+      ap (λ (f : Found). elim f [ None ↦ judge_from τ rs (suc n) (r ∷ h) | Some x ↦ Not x n ]) (broken_before r h)
       ∙ on (Before.broken τ r h) (judge_before rs (suc n) (r ∷ h))
     where
       on : (f : Found) → judge_from τ rs (suc n) (r ∷ h) ≡ Before.judge_from τ rs (suc n) (r ∷ h)
-          → ◌≡◌ {A = Verdict} (elim f [ Fine ↦ judge_from τ rs (suc n) (r ∷ h) | Broken x ↦ Not x n ])
-          (elim f [ Fine ↦ Before.judge_from τ rs (suc n) (r ∷ h) | Broken x ↦ Not x n ])
-      on Fine ih = ih
-      on (Broken x) ih = refl
+          → ◌≡◌ {A = Verdict} (elim f [ None ↦ judge_from τ rs (suc n) (r ∷ h) | Some x ↦ Not x n ])
+          (elim f [ None ↦ Before.judge_from τ rs (suc n) (r ∷ h) | Some x ↦ Not x n ])
+      on None ih = ih
+      on (Some x) ih = refl
 
   pub copies_before : (L : ℕ) (p : List Command) (n k : ℕ) (h : List Command) → copies_from τ L p n k h ≡ Before.copies_from τ L p n k h
   copies_before L p zero k h = refl
@@ -169,7 +168,7 @@ module _ (τ : Table) (q : OneGroup τ) where
   first_kept s a (some c) =
       record {
         place = rw (length-set s.groups) a.place;
-        first = ap (λ (x : Group). x.act) (group_after_lem s a.place c) ∙ ap (pick (is_act c.kind) (At c.cycle)) a.first;
+        first = ap (λ (x : Group). x.act) (group_after_lem s a.place c) ∙ ap (pick (is_act c.kind) (Some c.cycle)) a.first;
       }
 
   -- a run, from such a state

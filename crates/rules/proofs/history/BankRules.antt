@@ -1,5 +1,7 @@
 -- Where cycles rise a summary of each bank decides rules 3, 4, 5, 8 and 11.
 -- Assumes nothing.
+use Rattle.std.specs.Prelude.{Some, None}
+use Rattle.rules.specs.Types.{Stamp}
 use Prim.Native.Nat.{ℕ, ◌+◌, ◌≤◌, max}
 use native.Mathlib.Nat.{add_assoc}
 use native.Mathlib.Omega.{arith}
@@ -13,8 +15,6 @@ use Rattle.records.specs.declared.table.Table.{Table}
 use Rattle.records.specs.declared.command.Kind.{Kind}
 use Rattle.records.specs.declared.command.Kind.TheVariants.{Act, Rd, Rda, Wr, Wra, Ref, Other}
 use Rattle.records.specs.declared.command.Command.{Command}
-use Rattle.rules.specs.declared.state.Stamp.{Stamp}
-use Rattle.rules.specs.declared.state.Stamp.TheVariants.{Never, At}
 use Rattle.rules.specs.declared.state.Bank.{Bank}
 use Rattle.rules.specs.Kinds.{is_act}
 use Rattle.rules.specs.Square.{write_tail}
@@ -45,7 +45,7 @@ act_same b [] = refl
 act_same b (r ∷ h) = on (eqb r.bank b) r.kind (act_same b h)
   where
     on : (e : Bool) (k : Kind) → act_in b h ≡ (bank_in b h).act
-        → pick (e && is_act k) (At r.cycle) (act_in b h) ≡ (pick e (bank_after k r.cycle (bank_in b h)) (bank_in b h)).act
+        → pick (e && is_act k) (Some r.cycle) (act_in b h) ≡ (pick e (bank_after k r.cycle (bank_in b h)) (bank_in b h)).act
     on false k ih = ih
     on true Act ih = refl
     on true Rd ih = ih
@@ -75,8 +75,8 @@ bank_below c b (r ∷ h) q = on (eqb r.bank b) r.kind (bank_below c b h q.1)
     on true (Other n) ih = ih
 
 past_greater : (n d t : ℕ) (s : Stamp) → past (greater n s) d t ≡ (leb (n + d) t && past s d t)
-past_greater n d t Never = sym (and-true (leb (n + d) t))
-past_greater n d t (At c) =
+past_greater n d t None = sym (and-true (leb (n + d) t))
+past_greater n d t (Some c) =
     bool_eq (leb (max n c + d) t) (leb (n + d) t && leb (c + d) t)
     (λ e. let l : max n c + d ≤ t = leb-true _ _ e in and_both _ _ (le-leb (n + d) t (omega arith)) (le-leb (c + d) t (omega arith)))
     (λ e.

@@ -1,5 +1,6 @@
 -- A judge may keep a state in place of the records: it tells of the next record what all before it tell.
 -- Assumes nothing.
+use Rattle.std.specs.Prelude.{None}
 use Prim.Native.Nat.{ℕ, ◌<◌}
 use native.Mathlib.Numerals.{add-one}
 use mathlib.Core.Path.{◌≡◌, sym, ap, ◌∙◌}
@@ -9,7 +10,6 @@ use borrow.Author.Tests.{leb-true}
 use Rattle.records.specs.declared.table.Table.{Table}
 use Rattle.records.specs.declared.command.Command.{Command}
 use Rattle.rules.specs.declared.state.State.{State}
-use Rattle.rules.specs.declared.verdict.Found.TheVariants.{Fine}
 use Rattle.rules.specs.Kinds.{first_broken, rules_in_order}
 use Rattle.rules.specs.State.{is_open, bank_of, tests_by, fresh, note, Held}
 use Rattle.rules.specs.History.{in_table, later, open_in, broken}
@@ -31,7 +31,7 @@ module _ (τ : Table) (fit : Held τ) (h : List Command) (s : State) (q : Judgin
       ≡ first_broken (in_table τ r.kind r.bank ∷ leb s.cycle r.cycle ∷ tests_by τ s r.kind r.cycle r.bank) rules_in_order
   judging_broken = broken_same τ fit h s q.sums r (leb s.cycle r.cycle) (q.order r.cycle)
 
-  pub judging_note : broken τ r h ≡ Fine → Judging τ (r ∷ h) (note τ s r.cycle r.kind r.bank)
+  pub judging_note : broken τ r h ≡ None → Judging τ (r ∷ h) (note τ s r.cycle r.kind r.bank)
   judging_note e =
       record {
         sums = sums_note τ fit h s q.sums r (leb-true s.cycle r.cycle (sym (q.order r.cycle) ∙ holds τ r h e 1)) (below τ fit r (holds τ r h e 0));

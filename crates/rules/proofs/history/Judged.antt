@@ -1,5 +1,7 @@
 -- The judge accepts exactly the records of which none breaks a rule against those before it, and which leave no bank open.
 -- Assumes nothing.
+use Rattle.std.specs.Prelude.{Some, None}
+use Rattle.rules.specs.Types.{Found}
 use Prim.Native.Nat.{ℕ, suc, ◌≤◌, ◌<◌}
 use native.Mathlib.Omega.{arith}
 use mathlib.Core.Path.{◌≡◌, refl, sym, ap, ◌∙◌}
@@ -15,8 +17,6 @@ use Rattle.records.specs.declared.command.Kind.TheVariants.{Act, Rd, Rda, Wr, Wr
 use Rattle.records.specs.declared.command.Command.{Command}
 use Rattle.rules.specs.declared.verdict.Rule.{Rule}
 use Rattle.rules.specs.declared.verdict.Rule.TheVariants.{End}
-use Rattle.rules.specs.declared.verdict.Found.{Found}
-use Rattle.rules.specs.declared.verdict.Found.TheVariants.{Fine, Broken}
 use Rattle.rules.specs.declared.verdict.Verdict.TheVariants.{Accepted, Refused}
 use Rattle.rules.specs.Kinds.{is_ref, is_known, first_broken, rules_in_order}
 use Rattle.rules.specs.History.{in_table, later, rules_by, rules, broken, is_fine}
@@ -32,9 +32,9 @@ fine_all (t ∷ ts) [] l = absurd (omega arith)
 fine_all (true ∷ ts) (r ∷ rs) l = fine_all ts rs (omega arith)
 fine_all (false ∷ ts) (r ∷ rs) l = refl
 
-pub is_fine_lem : (f : Found) → is_fine f ≡ true → f ≡ Fine
-is_fine_lem Fine e = refl
-is_fine_lem (Broken r) e = true_false false e refl
+pub is_fine_lem : (f : Found) → is_fine f ≡ true → f ≡ None
+is_fine_lem None e = refl
+is_fine_lem (Some r) e = true_false false e refl
 
 module _ (τ : Table) (r : Command) (h : List Command) where
   few : (k : Kind) (t b : ℕ) → length (rules_by τ k t b h) ≤ 9
@@ -50,7 +50,7 @@ module _ (τ : Table) (r : Command) (h : List Command) where
   fine_rules = fine_all (rules τ r h) rules_in_order (omega (arith, few r.kind r.cycle r.bank))
 
   -- of a record that breaks no rule: 0 rule 1, 1 rule 2, 2 the others
-  pub holds : broken τ r h ≡ Fine → (i : ℕ) → get_or (in_table τ r.kind r.bank ∷ later r.cycle h ∷ []) i (all_of (rules_by τ r.kind r.cycle r.bank h)) ≡ true
+  pub holds : broken τ r h ≡ None → (i : ℕ) → get_or (in_table τ r.kind r.bank ∷ later r.cycle h ∷ []) i (all_of (rules_by τ r.kind r.cycle r.bank h)) ≡ true
   holds e i =
       and_at (in_table τ r.kind r.bank ∷ later r.cycle h ∷ []) (all_of (rules_by τ r.kind r.cycle r.bank h)) i
       (sym fine_rules ∙ ap is_fine e)
@@ -66,7 +66,7 @@ in_bank τ k b e =
 -- each record breaks no rule against those before it
 abbrev pub LegalHistory : Table → List Command → Type 0
 LegalHistory τ [] = Unit {0}
-LegalHistory τ (r ∷ h) = (broken τ r h ≡ Fine) × LegalHistory τ h
+LegalHistory τ (r ∷ h) = (broken τ r h ≡ None) × LegalHistory τ h
 
 pub legal_rising : (τ : Table) (h : List Command) → LegalHistory τ h → Rising h
 legal_rising τ [] k = tt
@@ -90,8 +90,8 @@ accepted_legal τ [] n h k e = (k, on (all_shut τ.banks h) e)
     on false e = cc
 accepted_legal τ (r ∷ rs) n h k e = on (broken τ r h) refl e (accepted_legal τ rs (suc n) (r ∷ h))
   where
-    on : (b : Found) → broken τ r h ≡ b → (elim b [ Fine ↦ judge_from τ rs (suc n) (r ∷ h) | Broken x ↦ Refused x n ]) ≡ Accepted
+    on : (b : Found) → broken τ r h ≡ b → (elim b [ None ↦ judge_from τ rs (suc n) (r ∷ h) | Some x ↦ Refused x n ]) ≡ Accepted
         → (LegalHistory τ (r ∷ h) → judge_from τ rs (suc n) (r ∷ h) ≡ Accepted → LegalHistory τ (onto rs (r ∷ h)) × (all_shut τ.banks (onto rs (r ∷ h)) ≡ true))
         → LegalHistory τ (onto rs (r ∷ h)) × (all_shut τ.banks (onto rs (r ∷ h)) ≡ true)
-    on Fine b e ih = ih (b, k) e
-    on (Broken x) b e ih = let z : ◌≡◌ {A = ℕ} 0 1 = cc in absurd (omega arith)
+    on None b e ih = ih (b, k) e
+    on (Some x) b e ih = let z : ◌≡◌ {A = ℕ} 0 1 = cc in absurd (omega arith)

@@ -1,5 +1,6 @@
 -- What goes breaks no rule against what has gone before it.
 -- Assumes nothing.
+use Rattle.std.specs.Prelude.{None}
 use Prim.Native.Nat.{ℕ, zero, suc, ◌<◌}
 use native.Mathlib.Omega.{arith}
 use mathlib.Core.Path.{◌≡◌, refl, sym, ap, ◌∙◌, subst}
@@ -12,7 +13,6 @@ use Rattle.records.specs.declared.table.Table.{Table}
 use Rattle.records.specs.declared.transaction.Transaction.{Transaction}
 use Rattle.records.specs.declared.command.Command.{Command}
 use Rattle.rules.specs.declared.state.State.{State}
-use Rattle.rules.specs.declared.verdict.Found.TheVariants.{Fine}
 use Rattle.rules.specs.Kinds.{first_broken, rules_in_order}
 use Rattle.rules.specs.State.{tests_by, breaks_none, after, Held}
 use Rattle.rules.specs.History.{in_table, later, rules_by, broken, is_fine}
@@ -147,7 +147,7 @@ module _ (τ : Table) (fit : Held τ) (h : List Command) (s : State) (q : Sums �
 
     -- what goes: at the state's cycle, in the table, breaking no rule
     abbrev Good : Command → Type 0
-    Good c = (c.cycle ≡ s.cycle) × (in_table τ c.kind c.bank ≡ true) × (broken τ c h ≡ Fine)
+    Good c = (c.cycle ≡ s.cycle) × (in_table τ c.kind c.bank ≡ true) × (broken τ c h ≡ None)
 
     goes_good : OnSome Good (goes τ l s)
     goes_good =

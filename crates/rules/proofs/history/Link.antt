@@ -1,5 +1,7 @@
 -- The state sums up the history: read off it, each of rules 3 to 9, 11 and 12 says what it says against all records before.
 -- Assumes nothing.
+use Rattle.std.specs.Prelude.{Some}
+use Rattle.rules.specs.Types.{Stamp}
 use Prim.Native.Nat.{ℕ, suc, ◌+◌, ◌≤◌, ◌<◌}
 use native.Mathlib.Nat.{mod-lt}
 use native.Mathlib.Omega.{arith}
@@ -15,8 +17,6 @@ use Rattle.records.specs.declared.table.Table.{Table}
 use Rattle.records.specs.declared.command.Kind.{Kind}
 use Rattle.records.specs.declared.command.Kind.TheVariants.{Act, Rd, Rda, Wr, Wra, Ref, Other}
 use Rattle.records.specs.declared.command.Command.{Command}
-use Rattle.rules.specs.declared.state.Stamp.{Stamp}
-use Rattle.rules.specs.declared.state.Stamp.TheVariants.{At}
 use Rattle.rules.specs.declared.state.Group.{Group}
 use Rattle.rules.specs.declared.state.State.{State}
 use Rattle.rules.specs.Kinds.{is_act, is_rd, is_wr, is_ref, is_data, in_act_queue}
@@ -111,7 +111,7 @@ module _ (τ : Table) (fit : Held τ) (h : List Command) (s : State) (q : Sums �
   group_in_lem g = on (eqb (group_of τ r.bank) g) r.kind r.cycle (group_in τ g h)
     where
       on : (e : Bool) (k : Kind) (c : ℕ) (x : Group)
-          → record { act = pick (is_act k && e) (At c) x.act; rd = pick (is_rd k && e) (At c) x.rd; wr = pick (is_wr k && e) (At c) x.wr }
+          → record { act = pick (is_act k && e) (Some c) x.act; rd = pick (is_rd k && e) (Some c) x.rd; wr = pick (is_wr k && e) (Some c) x.wr }
           ≡ pick e (group_after k c x) x
       on true k c x = rw (and-true (is_act k), and-true (is_rd k), and-true (is_wr k))
       on false k c x = rw (and-false (is_act k), and-false (is_rd k), and-false (is_wr k))
@@ -139,13 +139,13 @@ module _ (τ : Table) (fit : Held τ) (h : List Command) (s : State) (q : Sums �
         bank = bank_note;
         acts = ap (add_if (in_act_queue r.kind)) q.acts;
         datas = ap (add_if (is_data r.kind)) q.datas;
-        a1 = ap (pick (is_act r.kind) (At r.cycle)) q.a1;
+        a1 = ap (pick (is_act r.kind) (Some r.cycle)) q.a1;
         a2 = back (is_act r.kind) 0 s.a1 s.a2 q.a1 q.a2;
         a3 = back (is_act r.kind) 1 s.a2 s.a3 q.a2 q.a3;
         a4 = back (is_act r.kind) 2 s.a3 s.a4 q.a3 q.a4;
         group_size = length-set s.groups (group_of τ r.bank) _ ∙ q.group_size;
         group = group_note;
-        refresh = ap (pick (is_ref r.kind) (At r.cycle)) q.refresh;
+        refresh = ap (pick (is_ref r.kind) (Some r.cycle)) q.refresh;
       }
     where
       back : (e : Bool) (n : ℕ) (x y : Stamp) → x ≡ act_back n h → y ≡ act_back (suc n) h → pick e x y ≡ pick e (act_back n h) (act_back (suc n) h)

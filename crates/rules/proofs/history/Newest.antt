@@ -1,5 +1,7 @@
 -- Where cycles rise only the newest record of a class counts, so a few stamps decide rules 6, 7, 9 and 12.
 -- Assumes nothing.
+use Rattle.std.specs.Prelude.{Some, None}
+use Rattle.rules.specs.Types.{Stamp}
 use Prim.Native.Nat.{ℕ, zero, suc, ◌+◌, ◌≤◌, ◌<◌}
 use native.Mathlib.Nat.{mod-lt}
 use native.Mathlib.Omega.{arith}
@@ -12,8 +14,6 @@ use Rattle.records.specs.Tests.{pick, every, every_below}
 use Rattle.records.specs.declared.table.Table.{Table}
 use Rattle.records.specs.declared.command.Kind.{Kind}
 use Rattle.records.specs.declared.command.Command.{Command}
-use Rattle.rules.specs.declared.state.Stamp.{Stamp}
-use Rattle.rules.specs.declared.state.Stamp.TheVariants.{Never, At}
 use Rattle.rules.specs.declared.state.Bank.{Bank}
 use Rattle.rules.specs.Kinds.{is_act, is_rd, is_wr, is_ref}
 use Rattle.rules.specs.Square.{group_of, rrd_of, from_rd, from_wr}
@@ -24,8 +24,8 @@ use Rattle.rules.proofs.laws.Below.{below_same, and_four, below_and, one_is}
 
 -- the cycle of the n-th record back, from 0, of the kinds and banks p
 abbrev pub back_in : (Kind → ℕ → Bool) → ℕ → List Command → Stamp
-back_in p n [] = Never
-back_in p zero (r ∷ h) = pick (p r.kind r.bank) (At r.cycle) (back_in p zero h)
+back_in p n [] = None
+back_in p zero (r ∷ h) = pick (p r.kind r.bank) (Some r.cycle) (back_in p zero h)
 back_in p (suc n) (r ∷ h) = pick (p r.kind r.bank) (back_in p n h) (back_in p (suc n) h)
 
 abbrev pub last_in : (Kind → ℕ → Bool) → List Command → Stamp
@@ -50,8 +50,8 @@ Rising (r ∷ h) = T (later r.cycle h) × Rising h
 
 -- a stamp is below c
 abbrev pub Below : ℕ → Stamp → Type 0
-Below c Never = Unit {0}
-Below c (At x) = x < c
+Below c None = Unit {0}
+Below c (Some x) = x < c
 
 -- every record is below c
 abbrev pub AllBelow : ℕ → List Command → Type 0
@@ -69,8 +69,8 @@ rising_below c (r ∷ h) l i =
     (e, all_below_up r.cycle c (omega arith) h (rising_below r.cycle h i.0 i.1))
 
 pub past_below : (s : Stamp) (c d t : ℕ) → Below c s → leb (c + d) t ≡ true → past s d t ≡ true
-past_below Never c d t q e = refl
-past_below (At x) c d t q e = le-leb (x + d) t (omega (arith, leb-true (c + d) t e))
+past_below None c d t q e = refl
+past_below (Some x) c d t q e = le-leb (x + d) t (omega (arith, leb-true (c + d) t e))
 
 -- at least d before t, if of the class p
 abbrev pub far_from : (Kind → ℕ → Bool) → ℕ → ℕ → Command → Bool
@@ -89,7 +89,7 @@ newest p d t [] i = refl
 newest p d t (r ∷ h) i = on (p r.kind r.bank) (newest p d t h i.1)
   where
     on : (b : Bool) → every (far_from p d t) h ≡ past (last_in p h) d t
-        → ((not b || leb (r.cycle + d) t) && every (far_from p d t) h) ≡ past (pick b (At r.cycle) (last_in p h)) d t
+        → ((not b || leb (r.cycle + d) t) && every (far_from p d t) h) ≡ past (pick b (Some r.cycle) (last_in p h)) d t
     on true ih =
         and_left (leb (r.cycle + d) t) (every (far_from p d t) h)
         (λ e. far_all p d t r.cycle h (rising_below r.cycle h i.0 i.1) (leb-true (r.cycle + d) t e))
@@ -185,7 +185,7 @@ module _ (τ : Table) (b t : ℕ) (h : List Command) (i : Rising h) where
 
 pub back_same : (n : ℕ) (h : List Command) → act_back n h ≡ back_in (any is_act) n h
 back_same n [] = refl
-back_same zero (r ∷ h) = ap (pick (is_act r.kind) (At r.cycle)) (back_same zero h)
+back_same zero (r ∷ h) = ap (pick (is_act r.kind) (Some r.cycle)) (back_same zero h)
 back_same (suc n) (r ∷ h) = rw (back_same n h, back_same (suc n) h)
 
 -- rule 7: "the fourth ACT before it"

@@ -1,5 +1,7 @@
 -- "The judge doesn't look at the transaction number."
 -- Assumes nothing.
+use Rattle.std.specs.Prelude.{Some, None}
+use Rattle.rules.specs.Types.{Found}
 use Prim.Native.Nat.{ℕ, zero, suc, ◌+◌}
 use mathlib.Core.Path.{◌≡◌, refl, sym, ap, ◌∙◌}
 use mathlib.Core.Bool.{Bool}
@@ -11,8 +13,6 @@ use Rattle.records.specs.declared.command.Kind.{Kind}
 use Rattle.records.specs.declared.command.Kind.TheVariants.{Act, Rd, Rda, Wr, Wra, Ref, Other}
 use Rattle.records.specs.declared.command.Command.{Command}
 use Rattle.records.specs.Command.{command}
-use Rattle.rules.specs.declared.verdict.Found.{Found}
-use Rattle.rules.specs.declared.verdict.Found.TheVariants.{Fine, Broken}
 use Rattle.rules.specs.declared.verdict.Verdict.{Verdict}
 use Rattle.rules.specs.declared.verdict.Verdict.TheVariants.{Refused}
 use Rattle.rules.specs.Kinds.{first_broken, rules_in_order}
@@ -40,7 +40,7 @@ back_same (suc n) (r ∷ h) = rw (back_same n h, back_same (suc n) h)
 
 -- the verdict, by what record n breaks
 abbrev go_on : Verdict → ℕ → Found → Verdict
-go_on v n f = elim f [ Fine ↦ v | Broken x ↦ Refused x n ]
+go_on v n f = elim f [ None ↦ v | Some x ↦ Refused x n ]
 
 module _ (τ : Table) where
   precharge_same : (b : ℕ) (h : List Command) → precharge_in τ b (unnumbered h) ≡ precharge_in τ b h
@@ -88,8 +88,8 @@ module _ (τ : Table) where
     where
       on : (f : Found) → judge_from τ (unnumbered rs) (suc n) (unnumbered (r ∷ h)) ≡ judge_from τ rs (suc n) (r ∷ h)
           → go_on (judge_from τ (unnumbered rs) (suc n) (unnumbered (r ∷ h))) n f ≡ go_on (judge_from τ rs (suc n) (r ∷ h)) n f
-      on Fine ih = ih
-      on (Broken x) ih = refl
+      on None ih = ih
+      on (Some x) ih = refl
 
   pub judge_same : (rs : List Command) → judge τ (unnumbered rs) ≡ judge τ rs
   judge_same rs = judge_from_same rs 0 []

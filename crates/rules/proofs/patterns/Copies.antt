@@ -1,5 +1,7 @@
 -- Four copies or more back, one copy more changes nothing that a rule reads but the cycles, which are L later.
 -- Assumes nothing.
+use Rattle.std.specs.Prelude.{Some, None}
+use Rattle.rules.specs.Types.{Stamp}
 use Prim.Native.Nat.{ℕ, zero, suc, ◌+◌, ◌*◌, ◌≤◌, ◌<◌}
 use native.Mathlib.Nat.{mul-le-mul_left}
 use native.Mathlib.Omega.{arith}
@@ -14,8 +16,6 @@ use Rattle.records.specs.declared.table.Table.{Table}
 use Rattle.records.specs.declared.command.Kind.{Kind}
 use Rattle.records.specs.declared.command.Kind.TheVariants.{Act, Rd, Rda, Wr, Wra, Ref, Other}
 use Rattle.records.specs.declared.command.Command.{Command}
-use Rattle.rules.specs.declared.state.Stamp.{Stamp}
-use Rattle.rules.specs.declared.state.Stamp.TheVariants.{Never, At}
 use Rattle.rules.specs.declared.state.Bank.{Bank}
 use Rattle.rules.specs.Kinds.{is_act, is_ref, is_known}
 use Rattle.rules.specs.State.{is_open, shut, bank_after, add_if}
@@ -85,7 +85,7 @@ none_of true n h = absurd (omega arith)
 none_of false n h = (refl, h)
 
 -- of a class with no records there is none to look back to
-back_none : (p : Kind → ℕ → Bool) (n : ℕ) (h : List Command) → count_in p h ≡ 0 → back_in p n h ≡ Never
+back_none : (p : Kind → ℕ → Bool) (n : ℕ) (h : List Command) → count_in p h ≡ 0 → back_in p n h ≡ None
 back_none p n [] e = refl
 back_none p zero (r ∷ h) e = let z = none_of (p r.kind r.bank) (count_in p h) e in rw z.0 (back_none p zero h z.1)
 back_none p (suc n) (r ∷ h) e = let z = none_of (p r.kind r.bank) (count_in p h) e in rw z.0 (back_none p (suc n) h z.1)
@@ -98,7 +98,7 @@ pick_same false x x' y y' f g = g refl
 back_append : (p : Kind → ℕ → Bool) (n : ℕ) (a b : List Command) → (count_in p a ≤ n → count_in p b ≡ 0) → back_in p n (a ++ b) ≡ back_in p n a
 back_append p n [] b f = back_none p n b (f (omega arith))
 back_append p zero (r ∷ a) b f =
-    pick_same (p r.kind r.bank) (At r.cycle) (At r.cycle) (back_in p 0 (a ++ b)) (back_in p 0 a) (λ e. refl)
+    pick_same (p r.kind r.bank) (Some r.cycle) (Some r.cycle) (back_in p 0 (a ++ b)) (back_in p 0 a) (λ e. refl)
     (λ e. back_append p zero a b (λ l. f (rw e l)))
 back_append p (suc n) (r ∷ a) b f =
     pick_same (p r.kind r.bank) (back_in p n (a ++ b)) (back_in p n a) (back_in p (suc n) (a ++ b)) (back_in p (suc n) a)

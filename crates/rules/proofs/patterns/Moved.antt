@@ -1,5 +1,8 @@
 -- Records moved by d, after a history that says d later what another says, get the verdict of the records after that other.
 -- Assumes nothing.
+use Rattle.std.specs.Prelude.{Some, None}
+use Rattle.rules.specs.Types.{Stamp}
+use Rattle.rules.specs.Types.{Found}
 use Prim.Native.Nat.{ℕ, zero, suc, ◌+◌, ◌≤◌, ◌<◌}
 use native.Mathlib.Numerals.{add-one}
 use native.Mathlib.Omega.{arith}
@@ -14,11 +17,7 @@ use Rattle.records.specs.declared.command.Kind.{Kind}
 use Rattle.records.specs.declared.command.Kind.TheVariants.{Act, Rd, Rda, Wr, Wra, Ref, Other}
 use Rattle.records.specs.declared.command.Command.{Command}
 use Rattle.records.specs.Command.{command}
-use Rattle.rules.specs.declared.state.Stamp.{Stamp}
-use Rattle.rules.specs.declared.state.Stamp.TheVariants.{Never, At}
 use Rattle.rules.specs.declared.state.Bank.{Bank}
-use Rattle.rules.specs.declared.verdict.Found.{Found}
-use Rattle.rules.specs.declared.verdict.Found.TheVariants.{Fine, Broken}
 use Rattle.rules.specs.declared.verdict.Verdict.{Verdict}
 use Rattle.rules.specs.declared.verdict.Verdict.TheVariants.{Refused}
 use Rattle.rules.specs.Kinds.{is_act, is_rd, is_wr, is_ref, first_broken, rules_in_order}
@@ -35,8 +34,8 @@ use Rattle.rules.proofs.history.Judged.{holds}
 
 -- a stamp, a bank, a record, d later
 abbrev pub stamp_later : ℕ → Stamp → Stamp
-stamp_later d Never = Never
-stamp_later d (At c) = At (c + d)
+stamp_later d None = None
+stamp_later d (Some c) = Some (c + d)
 
 abbrev pub bank_later : ℕ → Bank → Bank
 bank_later d k = record { opened = k.opened; act = stamp_later d k.act; rd = stamp_later d k.rd; wr = stamp_later d k.wr }
@@ -45,8 +44,8 @@ abbrev pub record_later : ℕ → Command → Command
 record_later d r = command (r.cycle + d) r.kind r.bank r.number
 
 past_later : (s : Stamp) (d e t : ℕ) → past (stamp_later d s) e (t + d) ≡ past s e t
-past_later Never d e t = refl
-past_later (At c) d e t =
+past_later None d e t = refl
+past_later (Some c) d e t =
     bool_eq (leb (c + d + e) (t + d)) (leb (c + e) t) (λ p. let l : c + d + e ≤ t + d = leb-true _ _ p in le-leb (c + e) t (omega arith))
     (λ p. let l : c + e ≤ t = leb-true _ _ p in le-leb (c + d + e) (t + d) (omega arith))
 
@@ -174,7 +173,7 @@ module _ (d : ℕ) (h h' : List Command) (q : Alike d h h') where
       on_pick false x x' y y' f g = g
 
       on_back : (p : Kind → ℕ → Bool) (n : ℕ) → n < 4 → back_in p n (record_later d r ∷ h') ≡ stamp_later d (back_in p n (r ∷ h))
-      on_back p zero z = on_pick (p r.kind r.bank) (At r.cycle) (At (r.cycle + d)) (back_in p 0 h) (back_in p 0 h') refl (q.back p 0 z)
+      on_back p zero z = on_pick (p r.kind r.bank) (Some r.cycle) (Some (r.cycle + d)) (back_in p 0 h) (back_in p 0 h') refl (q.back p 0 z)
       on_back p (suc n) z = on_pick (p r.kind r.bank) (back_in p n h) (back_in p n h') (back_in p (suc n) h) (back_in p (suc n) h') (q.back p n (omega arith)) (q.back p (suc n) z)
 
 pub judge_alike : (τ : Table) (d : ℕ) (rs : List Command) (n : ℕ) (h h' : List Command) → Alike d h h' → judge_from τ (moved d rs) n h' ≡ judge_from τ rs n h
@@ -184,10 +183,10 @@ judge_alike τ d (r ∷ rs) n h h' q =
     (on (broken τ r h) refl (λ l. judge_alike τ d rs (suc n) (r ∷ h) (record_later d r ∷ h') (push_alike d h h' q r l)))
   where
     on : (b : Found) → broken τ r h ≡ b → (T (later r.cycle h) → judge_from τ (moved d rs) (suc n) (record_later d r ∷ h') ≡ judge_from τ rs (suc n) (r ∷ h))
-        → ◌≡◌ {A = Verdict} (elim b [ Fine ↦ judge_from τ (moved d rs) (suc n) (record_later d r ∷ h') | Broken x ↦ Refused x n ])
-        (elim b [ Fine ↦ judge_from τ rs (suc n) (r ∷ h) | Broken x ↦ Refused x n ])
-    on Fine e ih = ih (to_T (later r.cycle h) (holds τ r h e 1))
-    on (Broken x) e ih = refl
+        → ◌≡◌ {A = Verdict} (elim b [ None ↦ judge_from τ (moved d rs) (suc n) (record_later d r ∷ h') | Some x ↦ Refused x n ])
+        (elim b [ None ↦ judge_from τ rs (suc n) (r ∷ h) | Some x ↦ Refused x n ])
+    on None e ih = ih (to_T (later r.cycle h) (holds τ r h e 1))
+    on (Some x) e ih = refl
 
 -- a moved history is alike
 pub alike_moved : (d : ℕ) (h : List Command) → Rising h → Alike d h (moved d h)

@@ -1,5 +1,7 @@
 -- Demands 2 and 3 hold of the definitions.
 -- Assumes nothing.
+use Rattle.std.specs.Prelude.{Some, None}
+use Rattle.rules.specs.Types.{Found}
 use Prim.Native.Nat.{ℕ, zero, suc, ◌+◌}
 use native.Mathlib.Omega.{arith}
 use mathlib.Core.Bool.{Bool, true, false}
@@ -15,8 +17,6 @@ use Rattle.records.specs.Table.{Accepted}
 use Rattle.records.specs.Transaction.{list_fits}
 use Rattle.rules.specs.declared.verdict.Rule.{Rule}
 use Rattle.rules.specs.declared.verdict.Rule.TheVariants.{End}
-use Rattle.rules.specs.declared.verdict.Found.{Found}
-use Rattle.rules.specs.declared.verdict.Found.TheVariants.{Fine, Broken}
 use Rattle.rules.specs.declared.verdict.Verdict.{Verdict}
 use Rattle.rules.specs.declared.verdict.Verdict.TheVariants.{Accepted as Passed, Refused}
 use Rattle.rules.specs.History.{broken}
@@ -28,7 +28,7 @@ use Rattle.rules.proofs.patterns.FiveDecide.{five_legal, refused_from, accepted_
 use Rattle.rules.proofs.shown.Promises.{promise}
 
 -- a record that breaks no rule, in front
-fine_first : (τ : Table) (h : List Command) (r : Command) (rs : List Command) (n : ℕ) → broken τ r h ≡ Fine → FineTo τ (r ∷ h) rs n → FineTo τ h (r ∷ rs) (suc n)
+fine_first : (τ : Table) (h : List Command) (r : Command) (rs : List Command) (n : ℕ) → broken τ r h ≡ None → FineTo τ (r ∷ h) rs n → FineTo τ h (r ∷ rs) (suc n)
 fine_first τ h r rs n e f zero q k g = ap (λ (c : Command). broken τ c h) (sym same) ∙ e
   where
     same : r ≡ q
@@ -43,7 +43,7 @@ none_yet τ h rs i r k g = absurd (omega arith)
 
 -- the verdict by what the record in front breaks
 abbrev verdict_on : Table → List Command → ℕ → Command → List Command → Found → Verdict
-verdict_on τ rs n r h f = elim f [ Fine ↦ judge_from τ rs (suc n) (r ∷ h) | Broken x ↦ Refused x n ]
+verdict_on τ rs n r h f = elim f [ None ↦ judge_from τ rs (suc n) (r ∷ h) | Some x ↦ Refused x n ]
 
 accepts_only : (τ : Table) (rs : List Command) (n : ℕ) (h : List Command) → judge_from τ rs n h ≡ Passed → FineTo τ h rs (length rs) × (all_shut τ.banks (onto rs h) ≡ true)
 accepts_only τ [] n h e = (none_yet τ h [], on (all_shut τ.banks h) e)
@@ -56,8 +56,8 @@ accepts_only τ (r ∷ rs) n h e = on (broken τ r h) refl e (accepts_only τ rs
     on : (f : Found) → broken τ r h ≡ f → verdict_on τ rs n r h f ≡ Passed
         → (judge_from τ rs (suc n) (r ∷ h) ≡ Passed → FineTo τ (r ∷ h) rs (length rs) × (all_shut τ.banks (onto rs (r ∷ h)) ≡ true))
         → FineTo τ h (r ∷ rs) (suc (length rs)) × (all_shut τ.banks (onto rs (r ∷ h)) ≡ true)
-    on Fine b e ih = (fine_first τ h r rs (length rs) b (ih e).0, (ih e).1)
-    on (Broken x) b e ih = let z : ◌≡◌ {A = ℕ} 0 1 = cc in absurd (omega arith)
+    on None b e ih = (fine_first τ h r rs (length rs) b (ih e).0, (ih e).1)
+    on (Some x) b e ih = let z : ◌≡◌ {A = ℕ} 0 1 = cc in absurd (omega arith)
 
 accepts_all : (τ : Table) (rs : List Command) (n : ℕ) (h : List Command) → FineTo τ h rs (length rs) → all_shut τ.banks (onto rs h) ≡ true → judge_from τ rs n h ≡ Passed
 accepts_all τ [] n h f e = rw e
@@ -83,13 +83,13 @@ names_from τ (r ∷ rs) n h x k e = on (broken τ r h) refl e (names_from τ rs
     on : (f : Found) → broken τ r h ≡ f → verdict_on τ rs n r h f ≡ Refused x k
         → (judge_from τ rs (suc n) (r ∷ h) ≡ Refused x k → (i : ℕ) × (k ≡ suc n + i) × FirstBroken τ (r ∷ h) rs x i)
         → (i : ℕ) × (k ≡ n + i) × FirstBroken τ h (r ∷ rs) x i
-    on Fine b e ih =
+    on None b e ih =
         let y = ih e in
         (suc y.0, omega (arith, y.1), (fine_first τ h r rs y.0 b y.2.0, further y.0 y.2.1))
-    on (Broken z) b e ih =
+    on (Some z) b e ih =
         let same : n ≡ k = cc in
         let rule : z ≡ x = cc in
-        (0, omega arith, (none_yet τ h (r ∷ rs), inl (r, refl, b ∙ ap Broken rule)))
+        (0, omega arith, (none_yet τ h (r ∷ rs), inl (r, refl, b ∙ ap Some rule)))
 
 pub demand_2 : Demand2
 demand_2 =

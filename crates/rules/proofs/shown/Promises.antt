@@ -1,5 +1,6 @@
 -- The promises on the built schedule and on runs, for every table that is accepted and every list that fits it.
 -- Assumes nothing.
+use Rattle.std.specs.Prelude.{Some}
 use Prim.Native.Nat.{ℕ, zero, suc, ◌+◌, ◌≤◌, ◌<◌}
 use native.Mathlib.Omega.{arith}
 use native.Mathlib.Numerals.{add-one}
@@ -13,7 +14,6 @@ use borrow.Author.Tests.{ltb-true, le-leb}
 use Rattle.records.specs.declared.table.Table.{Table}
 use Rattle.records.specs.declared.transaction.Transaction.{Transaction}
 use Rattle.records.specs.declared.command.Command.{Command}
-use Rattle.rules.specs.declared.state.Stamp.TheVariants.{At}
 use Rattle.records.specs.Tests.{pick, every}
 use Rattle.records.specs.Table.{Accepted}
 use Rattle.records.specs.Transaction.{is_write, is_refresh, fits_from, list_fits}
@@ -62,7 +62,7 @@ early_last : (k : ℕ) (h : List Command) → every (λ r. ltb r.cycle 100000000
 early_last k [] e = omega arith
 early_last k (r ∷ h) e = on (eqb r.number k && can_end r.kind) (early_last k h (and_snd (ltb r.cycle 100000000) (every (λ r. ltb r.cycle 100000000) h) e))
   where
-    on : (b : Bool) → cycle_of (last_command_in k h) < 100000000 → cycle_of (pick b (At r.cycle) (last_command_in k h)) < 100000000
+    on : (b : Bool) → cycle_of (last_command_in k h) < 100000000 → cycle_of (pick b (Some r.cycle) (last_command_in k h)) < 100000000
     on true i = ltb-true r.cycle 100000000 (and_fst (ltb r.cycle 100000000) (every (λ r. ltb r.cycle 100000000) h) e)
     on false i = i
 
@@ -71,8 +71,8 @@ module _ (τ : Table) (acc : Accepted τ) where
     abbrev fin : (last : ℕ → ℕ) × (start : ℕ → ℕ) × Finishes τ l (length l) last start (onto rs [])
     fin = built_bound τ acc l fit rs b
 
-    last_is : (k : ℕ) → k < length l → last_command k rs ≡ At (last_command_cycle k rs)
-    last_is k z = let e = fin.2.got k z in e ∙ ap At (sym (ap cycle_of e))
+    last_is : (k : ℕ) → k < length l → last_command k rs ≡ Some (last_command_cycle k rs)
+    last_is k z = let e = fin.2.got k z in e ∙ ap Some (sym (ap cycle_of e))
 
     -- a last command is within its span after where its count started
     within_span : (k : ℕ) (x : Transaction) → get_elem? l k ≡ some x → last_command_cycle k rs ≤ start_at x (fin.1 k) + span τ x
@@ -95,7 +95,7 @@ module _ (τ : Table) (acc : Accepted τ) where
             ∙ (fin.2.next k a.1 ∙ (ap (λ (y : Transaction). count_from τ y (fin.0 k)) a.0 ∙ ap (count_from τ w) (sym (ap cycle_of (fin.2.got k a.1)))))
 
     -- a transaction finishes no later than if its last command went at the limit
-    finish_at_lem : (k : ℕ) (x : Transaction) → get_elem? l k ≡ some x → finish τ x k rs ≡ At (finish_of τ x (last_command_cycle k rs))
+    finish_at_lem : (k : ℕ) (x : Transaction) → get_elem? l k ≡ some x → finish τ x k rs ≡ Some (finish_of τ x (last_command_cycle k rs))
     finish_at_lem k x e = ap (map_stamp (finish_of τ x)) (last_is k (at_number l k x e).1)
 
     finish_by : (k m : ℕ) (x : Transaction) → get_elem? l k ≡ some x → last_command_cycle k rs ≤ m → finish_cycle τ x k rs ≤ finish_of τ x m

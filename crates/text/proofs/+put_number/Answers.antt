@@ -19,11 +19,11 @@ returns-then-n-lt10 t c = number_one c.args.n _ _ _ _ _ c.if-n-lt10.true c.digit
 pub put_number-next-requires : goal.put_number-next-requires
 put_number-next-requires t c = (omega (arith, c.if-n-lt10.false), omega (arith, one_more_lem c.args.n c.if-n-lt10.false))
 
-pub put_byte-requires-2 : goal.put_byte-requires-2
-put_byte-requires-2 t c = omega (arith, one_more_lem c.args.n c.if-n-lt10.false)
+pub put_byte-requires-else-n-lt10 : goal.put_byte-requires-else-n-lt10
+put_byte-requires-else-n-lt10 t c = omega (arith, one_more_lem c.args.n c.if-n-lt10.false)
 
-pub shape_of-out : goal.shape_of-out
-shape_of-out t c = c.put_byte-2.ensures.size ∙ c.put_number-next.ensures.size
+pub shape_of-out-else-n-lt10 : goal.shape_of-out-else-n-lt10
+shape_of-out-else-n-lt10 t c = c.put_byte-else-n-lt10.ensures.size ∙ c.put_number-next.ensures.size
 
-pub returns : goal.returns
-returns t c = number_more c.args.n _ _ _ _ _ _ _ c.if-n-lt10.false c.digit-2.ensures c.put_number-next.ensures c.put_byte-2.ensures
+pub returns-else-n-lt10 : goal.returns-else-n-lt10
+returns-else-n-lt10 t c = number_more c.args.n _ _ _ _ _ _ _ c.if-n-lt10.false c.digit-else-n-lt10.ensures c.put_number-next.ensures c.put_byte-else-n-lt10.ensures

@@ -1,8 +1,8 @@
 use borrow.Author.Rules.{rules}
 use Rattle.answers.proofs.answer.of_bound.Goals as goal
 
-pub returns-in-Bound : goal.returns-in-Bound
-returns-in-Bound c = rw c.in-Bound.is c.told.ensures
+pub returns-in-Ok : goal.returns-in-Ok
+returns-in-Ok c = rw c.in-Ok.is c.told.ensures
 
-pub returns-in-Refused : goal.returns-in-Refused
-returns-in-Refused c = rw c.in-Refused.is c.refused.ensures
+pub returns-in-Err : goal.returns-in-Err
+returns-in-Err c = rw c.in-Err.is c.refused.ensures

@@ -1,4 +1,3 @@
-use Prim.Native.Nat.{◌≤◌, ◌-◌}
 use mathlib.Core.Path.{◌≡◌}
 use mathlib.Core.Bool.{true}
 use Rattle.records.specs.Tests.{every_below}
@@ -6,7 +5,4 @@ use Rattle.grouped.proofs.Grouped.{acts_at}
 use Rattle.grouped.proofs.groups.acts_far.Given as goal
 
 abbrev pub invariant-loop-g : goal.invariant-loop-g
-invariant-loop-g l = (l.g ≤ l.n) × (l.n ≡ l.t.groups) × (every_below l.g (acts_at l.groups l.own l.c l.t) ≡ true)
-
-abbrev pub decreases-loop-g : goal.decreases-loop-g
-decreases-loop-g l = l.n - l.g
+invariant-loop-g l = every_below l.g (acts_at l.groups l.own l.c l.t) ≡ true

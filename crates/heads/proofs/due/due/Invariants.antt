@@ -1,4 +1,3 @@
-use Prim.Native.Nat.{◌-◌, ◌≤◌}
 use mathlib.Core.Path.{◌≡◌}
 use Rattle.rules.specs.Queues.{act_count}
 use Rattle.rules.proofs.queues.Queue.{data_count, sum}
@@ -6,7 +5,4 @@ use Rattle.heads.proofs.Laws.{first}
 use Rattle.heads.proofs.due.due.Given as goal
 
 abbrev pub invariant-loop-k : goal.invariant-loop-k
-invariant-loop-k l = (l.k ≤ l.n) × (l.acts ≡ sum act_count (first l.list l.k)) × (l.datas ≡ sum data_count (first l.list l.k))
-
-abbrev pub decreases-loop-k : goal.decreases-loop-k
-decreases-loop-k l = l.n - l.k
+invariant-loop-k l = (l.acts ≡ sum act_count (first l.list l.k)) × (l.datas ≡ sum data_count (first l.list l.k))

@@ -1,17 +1,9 @@
-use native.Mathlib.Omega.{arith}
 use mathlib.Core.Bool.{true, false}
-use Rattle.heads.proofs.Laws.{few}
 use Rattle.heads.proofs.Standing.{asked, stands_here, nothing_here}
 use Rattle.heads.proofs.queue.head_at.Goals as goal
 
 pub returns-then-n-i : goal.returns-then-n-i
 returns-then-n-i c = nothing_here c.requires.0 c.requires.1 c.if-n-i.true _ c.no_head.ensures
-
-pub overflow_mul-i : goal.overflow_mul-i
-overflow_mul-i c = omega (arith, few c.requires.0)
-
-pub later_at-x-requires : goal.later_at-x-requires
-later_at-x-requires c = omega (arith, c.requires.0.bytes)
 
 pub data_head-requires : goal.data_head-requires
 data_head-requires c = asked c.requires.0 c.requires.1 _ c.later_at-x.ensures c.if-n-i.false true c.if-datas.true

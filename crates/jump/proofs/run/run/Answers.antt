@@ -1,4 +1,3 @@
-use borrow.Author.Rules.{rules}
 use native.Mathlib.Omega.{arith}
 use Rattle.heads.proofs.Laws.{few}
 use Rattle.jump.proofs.run.run.Goals as goal

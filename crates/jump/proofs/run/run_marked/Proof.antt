@@ -1,10 +1,9 @@
 use borrow.Author.Rules.{rules}
 use native.Mathlib.Omega.{arith}
-use Prim.Native.Nat.{ℕ, ◌-◌, ◌*◌, ◌≤◌, ◌<◌}
-use mathlib.Core.Path.{◌≡◌, refl, sym, ap, ◌∙◌, subst}
-use mathlib.Core.Logic.{inl, inr, ⊎_elim}
+use Prim.Native.Nat.{ℕ, ◌-◌, ◌*◌, ◌<◌}
+use mathlib.Core.Path.{refl, sym, ap, ◌∙◌, subst}
+use mathlib.Core.Logic.{inl, inr}
 use mathlib.Core.Bool.{true, false}
-use lib.ListN.{length-map}
 use Rattle.records.specs.Told.{put_at}
 use Rattle.records.specs.declared.command.Command.{Command}
 use Rattle.records.specs.Command.{bytes_of}
@@ -33,8 +32,8 @@ holds : (c : tie.Start invariant-loop decreases-loop) → Held c.args.t
 holds c = held c.args.t (ranges c.args.t c.requires.0.list.table)
 
 -- what a turn has computed where it knows the next cycle
-computed : (c : tie.After-later_of-at invariant-loop decreases-loop)
-    → Computed c.before.before.before.before.before.before.before.before.before.before.before.before.before.before.before.before.before.before.loop-from_a.invariant c.before.before.before.before.before.before.before.before.before.before.before.before.before.before.before.before.before.before.before.before.before.before.before.before.before.before.before.before.before.before.requires.0 c.before.before.before.before.before.before.before.before.before.before.before.before.before.before.before.before.before.before.before.before.before.before.before.before.before.before.distances-near.result c.before.before.before.before.before.before.before.before.before.before.before.before.before.before.before.before.before.before.before.before.before.before.before.before.before.distances-away.result c.before.before.before.before.before.before.before.before.before.before.before.before.group_of-dg.result c.before.before.before.before.before.before.before.before.before.before.before.before.before.group_of-ag.result c.before.before.before.before.before.before.before.before.before.before.is_wr-write.result c.before.before.before.before.before.before.before.before.before.before.before.is_ref-refreshes.result c.before.before.before.before.before.before.before.before.ready_from-ready.result c.before.before.before.before.before.before.before.nine_from-nine.result c.before.before.before.before.before.before.later_of-from_d.result c.before.before.before.before.opens_from-from_a.result c.before.before.if-both_of.from_a c.later_of-at.result
+computed : (c : tie.After-max-at invariant-loop decreases-loop)
+    → Computed c.before.before.before.before.before.before.before.before.before.before.before.before.before.before.before.before.before.before.loop-from_a.invariant c.before.before.before.before.before.before.before.before.before.before.before.before.before.before.before.before.before.before.before.before.before.before.before.before.before.before.before.before.before.before.requires.0 c.before.before.before.before.before.before.before.before.before.before.before.before.before.before.before.before.before.before.before.before.before.before.before.before.before.before.distances-near.result c.before.before.before.before.before.before.before.before.before.before.before.before.before.before.before.before.before.before.before.before.before.before.before.before.before.distances-away.result c.before.before.before.before.before.before.before.before.before.before.before.before.group_of-dg.result c.before.before.before.before.before.before.before.before.before.before.before.before.before.group_of-ag.result c.before.before.before.before.before.before.before.before.before.before.is_wr-write.result c.before.before.before.before.before.before.before.before.before.before.before.is_ref-refreshes.result c.before.before.before.before.before.before.before.before.ready_from-ready.result c.before.before.before.before.before.before.before.nine_from-nine.result c.before.before.before.before.before.before.max-from_d.result c.before.before.before.before.opens_from-from_a.result c.before.before.if-both_of.from_a c.max-at.result
 computed c =
     record {
       nears = c.before.before.before.before.before.before.before.before.before.before.before.before.before.before.before.before.before.before.before.before.before.before.before.before.before.before.distances-near.ensures;
@@ -45,15 +44,15 @@ computed c =
       refreshes = c.before.before.before.before.before.before.before.before.before.before.before.is_ref-refreshes.ensures;
       ready = c.before.before.before.before.before.before.before.before.ready_from-ready.ensures;
       rule9 = c.before.before.before.before.before.before.before.nine_from-nine.ensures;
-      data_from = c.before.before.before.before.before.before.later_of-from_d.ensures;
+      data_from = c.before.before.before.before.before.before.max-from_d.ensures;
       opens = c.before.before.before.before.opens_from-from_a.ensures;
       act_from = elim c.before.before.if-both_of.branch [ then-both_of w ↦ inl (sym c.before.before.before.both_of.ensures ∙ w.if-both_of.true, w.from_a-is ∙ rw w.rests_from.ensures at w.ref_head_from-from_a.ensures) | else-both_of w ↦ inr (sym c.before.before.before.both_of.ensures ∙ w.if-both_of.false, w.from_a-is) ];
-      at = rw c.before.sooner_of.ensures at c.later_of-at.ensures;
+      at = rw c.before.min.ensures at c.max-at.ensures;
     }
 
 -- a command goes before the run's end
 abbrev when : tie.Else-end-at invariant-loop decreases-loop → ℕ
-when c = c.before.later_of-at.result
+when c = c.before.max-at.result
 
 ahead : (c : tie.Else-end-at invariant-loop decreases-loop) → when c < c.before.before.before.before.before.before.before.before.before.before.before.before.before.before.before.before.before.before.before.before.before.before.before.before.before.end_of-end.result
 ahead c = omega (arith, c.if-end-at.false)

@@ -1,6 +1,6 @@
 use borrow.Author.Rules.{rules}
 use native.Mathlib.Omega.{arith}
-use Prim.Native.Nat.{ℕ, ◌+◌, ◌-◌, ◌<◌}
+use Prim.Native.Nat.{ℕ, ◌+◌, ◌<◌}
 use mathlib.Core.Bool.{true}
 use mathlib.Core.Path.{◌≡◌, refl, sym, ap, ◌∙◌, subst}
 use lib.ListN.{set, length as length_of}
@@ -9,7 +9,7 @@ use Rattle.records.specs.Command.{command}
 use Rattle.rules.proofs.laws.TestLaws.{true_false}
 use Rattle.shortest.specs.Search.{Placeable, Hopeless}
 use Rattle.shortest.proofs.Turns.{placeable_put}
-use Rattle.shortest.proofs.Orders.{Ordering, order_start, order_full, order_next, order_end}
+use Rattle.shortest.proofs.Orders.{order_start, order_full, order_next, order_end}
 use Rattle.lifts.proofs.hope.+hope.Goals as goal
 
 pub lift-requires : goal.lift-requires
@@ -27,11 +27,11 @@ hope-some-requires t c = (omega (arith, c.loop-b.invariant.1), (c.requires.0, c.
 pub returns-then-some : goal.returns-then-some
 returns-then-some t c f = true_false true refl f
 
-pub loop-b-preserved-else-some : goal.loop-b-preserved-else-some
-loop-b-preserved-else-some t c = (order_next c.loop-b.invariant.0 c.count-step.ensures c.kind_at.ensures c.put-order.ensures (c.hope-some.ensures c.if-some.false), c.loop-b.invariant.1, c.loop-b.invariant.2)
-
 pub loop-b-preserved : goal.loop-b-preserved
-loop-b-preserved t c = (order_full c.loop-b.invariant.0 (omega (arith, c.count-step.ensures, c.if-step-bc.false)), c.loop-b.invariant.1, c.loop-b.invariant.2)
+loop-b-preserved t c = (order_next c.loop-b.invariant.0 c.count-step.ensures c.kind_at.ensures c.put-order.ensures (c.hope-some.ensures c.if-some.false), c.loop-b.invariant.1, c.loop-b.invariant.2)
+
+pub loop-b-preserved-then-bc-step : goal.loop-b-preserved-then-bc-step
+loop-b-preserved-then-bc-step t c = (order_full c.loop-b.invariant.0 (omega (arith, c.count-step.ensures, c.if-bc-step.true)), c.loop-b.invariant.1, c.loop-b.invariant.2)
 
 pub returns : goal.returns
 returns t c f = order_end c.loop-b.invariant.0 c.loop-b-test.false

@@ -1,10 +1,6 @@
-use borrow.Author.Rules.{rules}
-use native.Mathlib.Omega.{arith}
+use Rattle.std.proofs.Common.{arith}
 use Rattle.pass.proofs.Passing.{few, finds_say}
 use Rattle.pass.proofs.schedule.served.Goals as goal
-
-pub pass-f-requires : goal.pass-f-requires
-pass-f-requires c = c.requires
 
 pub overflow_cast-n : goal.overflow_cast-n
 overflow_cast-n c = omega (arith, few c.requires.0)

@@ -12,20 +12,19 @@ use Rattle.printed.proofs.many.put_command_lines.Goals as goal
 
 pub loop-i-init : goal.loop-i-init
 unfolding command_lines commands_from
-loop-i-init c = (omega arith, omega arith, puts_nothing c.args.at c.args.out.now (omega arith))
+loop-i-init c = (omega arith, puts_nothing c.args.at c.args.out.now (omega arith))
 
 pub put_command_line-next-requires : goal.put_command_line-next-requires
 put_command_line-next-requires c = omega (arith, ap (λ (z : Command). length (command_line z)) c.command_at.ensures, command_most c.args.s.now (8 * c.loop-i.i) (λ k. (c.type_inv.s k).fits))
 
 pub loop-i-preserved : goal.loop-i-preserved
 loop-i-preserved c = (
-  omega arith,
   omega (arith, c.put_command_line-next.ensures.place, ap (λ (z : Command). length (command_line z)) c.command_at.ensures, command_most c.args.s.now (8 * c.loop-i.i) (λ k. (c.type_inv.s k).fits)),
-  command_turn c.args.s.now c.loop-i.i _ _ _ _ _ _ _ c.command_at.ensures c.loop-i.invariant.2 c.put_command_line-next.ensures,
+  command_turn c.args.s.now c.loop-i.i _ _ _ _ _ _ _ c.command_at.ensures c.loop-i.invariant.1 c.put_command_line-next.ensures,
 )
 
 pub shape_of-out : goal.shape_of-out
-shape_of-out c = c.loop-i.invariant.2.size
+shape_of-out c = c.loop-i.invariant.1.size
 
 pub returns : goal.returns
-returns c = command_end c.args.s.now c.loop-i.i _ _ _ _ _ (omega arith) c.loop-i.invariant.1 c.loop-i.invariant.2
+returns c = command_end c.args.s.now c.loop-i.i _ _ _ _ _ (omega arith) c.loop-i.invariant.0 c.loop-i.invariant.1

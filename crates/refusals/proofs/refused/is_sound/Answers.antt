@@ -1,8 +1,13 @@
-use borrow.Author.Rules.{rules}
-use mathlib.Core.Bool.{not, and-true}
+use Rattle.std.proofs.Common.{rules}
+use Rattle.std.proofs.lemmas.Grind.{common_steps}
+use native.Mathlib.Omega.{arith}
 use Rattle.timing.specs.Kept.{told}
 use Rattle.refusals.proofs.refused.is_sound.Goals as goal
 
-pub returns : goal.returns
+pub returns-then-gone : goal.returns-then-gone
 unfolding told
-returns c = rw (c.both_of-5.ensures, c.both_of-4.ensures, c.both_of-stored.ensures, c.both_of-3.ensures, c.both_of-2.ensures, c.both_of-counts.ensures, c.both_of.ensures, c.not_of.ensures, c.last_before-last.ensures, c.groups_before-groups.ensures, c.banks_before-banks.ensures, c.wide-edition.ensures, and-true (not c.args.more))
+returns-then-gone c = search rules
+
+pub returns-else-gone : goal.returns-else-gone
+unfolding told
+returns-else-gone c = grind (arith, common_steps)

@@ -4,5 +4,5 @@ use Rattle.runs.proofs.build.lines.Goals as goal
 
 pub built-requires : goal.built-requires
 built-requires g c =
-    let z = built_room _ _ _ _ _ _ _ _ _ _ _ c.schedule_of-answer.ensures c.in-Built.is in
+    let z = built_room _ _ _ _ _ _ _ _ _ _ _ c.schedule_of-answer.ensures c.in-Ok.is in
     (z.0, rw c.count_of-n.ensures z.1)

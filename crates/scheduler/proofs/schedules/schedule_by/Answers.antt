@@ -1,13 +1,8 @@
-use borrow.Author.Rules.{rules}
-use mathlib.Core.Path.{sym, ◌∙◌}
 use Rattle.scheduler.proofs.Told.{build_fine, build_refused}
 use Rattle.scheduler.proofs.schedules.schedule_by.Goals as goal
 
-pub schedule_fine-requires : goal.schedule_fine-requires
-schedule_fine-requires c = (c.requires, sym c.check_bytes.ensures ∙ c.in-Fine.is)
+pub returns-in-Ok : goal.returns-in-Ok
+returns-in-Ok g c = build_fine _ _ _ _ c.check_bytes.ensures c.in-Ok.is _ _ _ _ _ _ c.schedule_fine.ensures
 
-pub returns-in-Fine : goal.returns-in-Fine
-returns-in-Fine c = build_fine _ _ _ _ c.check_bytes.ensures c.in-Fine.is _ _ _ _ _ _ c.schedule_fine.ensures
-
-pub returns-in-Refused : goal.returns-in-Refused
-returns-in-Refused c = build_refused _ _ _ _ c.check_bytes.ensures _ c.in-Refused.is _ _ _
+pub returns-in-Err : goal.returns-in-Err
+returns-in-Err g c = build_refused _ _ _ _ c.check_bytes.ensures _ c.in-Err.is _ _ _

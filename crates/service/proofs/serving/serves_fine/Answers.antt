@@ -1,4 +1,3 @@
-use borrow.Author.Rules.{rules}
 use native.Mathlib.Omega.{arith}
 use lib.ListN.{length-take}
 use Rattle.admission.proofs.Laws.{fine_listed, few_plain, wide_room, wide_list, wide_listed}
@@ -19,8 +18,8 @@ slice_bounds-bytes-end c = omega (arith, few_plain c.args.t c.args.later c.args.
 pub slice_bounds-serves_packed-end : goal.slice_bounds-serves_packed-end
 slice_bounds-serves_packed-end c = rw length-take (omega (arith, wide_room c.args.t c.args.later c.args.list.now c.requires c.if-later.false c.widen-bytes.result c.widen-bytes.ensures))
 
-pub serves_packed-requires-2 : goal.serves_packed-requires-2
-serves_packed-requires-2 c = wide_listed _ _ _ c.requires c.if-later.false _ c.widen-bytes.ensures
+pub serves_packed-requires-else-later : goal.serves_packed-requires-else-later
+serves_packed-requires-else-later c = wide_listed _ _ _ c.requires c.if-later.false _ c.widen-bytes.ensures
 
-pub returns : goal.returns
-returns c = rw (← wide_list c.args.t c.args.later c.args.list.now c.requires c.if-later.false c.widen-bytes.result c.widen-bytes.ensures) c.serves_packed-2.ensures
+pub returns-else-later : goal.returns-else-later
+returns-else-later c = rw (← wide_list c.args.t c.args.later c.args.list.now c.requires c.if-later.false c.widen-bytes.result c.widen-bytes.ensures) c.serves_packed-else-later.ensures

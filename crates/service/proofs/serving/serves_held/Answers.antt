@@ -1,4 +1,3 @@
-use borrow.Author.Rules.{rules}
 use native.Mathlib.Omega.{arith}
 use mathlib.Core.Path.{◌≡◌}
 use lib.ListN.{length, length-take}
@@ -14,13 +13,13 @@ slice_bounds-serves_by-end c =
     rw length-take (omega (arith, full, c.requires.few))
 
 pub serves_by-requires : goal.serves_by-requires
-serves_by-requires c = c.requires.accepted _ c.in-Read.is
+serves_by-requires c = c.requires.accepted _ c.in-Ok.is
 
-pub returns-in-Read : goal.returns-in-Read
-returns-in-Read c =
+pub returns-in-Ok : goal.returns-in-Ok
+returns-in-Ok c =
     let full : length c.args.bytes ≡ 2048 = c.well_formed.1.0.1.0.1 in
-    held_serves c.args.w.n c.args.bytes (omega (arith, full, c.requires.few)) c.args.w.table _ c.in-Read.is
+    held_serves c.args.w.n c.args.bytes (omega (arith, full, c.requires.few)) c.args.w.table _ c.in-Ok.is
     _ _ c.serves_by.ensures
 
-pub returns-in-Refused : goal.returns-in-Refused
-returns-in-Refused c = held_not_told (λ (τ : Table). check_list τ (held c.args.w.n c.args.bytes)) c.args.w.table _ c.in-Refused.is _ _
+pub returns-in-Err : goal.returns-in-Err
+returns-in-Err c = held_not_told (λ (τ : Table). check_list τ (held c.args.w.n c.args.bytes)) c.args.w.table _ c.in-Err.is _ _

@@ -39,14 +39,14 @@ overflow_add-k c = omega (arith, k_few c.requires.0 c.args.q c.requires.1 c.requ
 pub bank_at-bank-requires : goal.bank_at-bank-requires
 bank_at-bank-requires c = (c.requires.0.table, rw c.later_at-x.ensures (fits_at c.requires.0 c.args.q.place.number (in_list c.requires.0 c.args.q c.requires.1 c.requires.2)), rw c.later_at-x.ensures (next_in_lem c.requires.0 c.args.q c.requires.1 c.requires.2 (c.args.q.head.act - c.args.q.place.before) refl (rw c.later_at-x.ensures at c.if-offset-ends.false) (rw c.later_at-x.ensures at c.if-offset-x.true)))
 
-pub overflow_add-result : goal.overflow_add-result
-overflow_add-result c = omega (arith, before_few c.requires.0 c.args.q c.requires.1 c.requires.2, k_few c.requires.0 c.args.q c.requires.1 c.requires.2 (c.args.q.head.act - c.args.q.place.before) refl)
+pub overflow_add-head : goal.overflow_add-head
+overflow_add-head c = omega (arith, before_few c.requires.0 c.args.q c.requires.1 c.requires.2, k_few c.requires.0 c.args.q c.requires.1 c.requires.2 (c.args.q.head.act - c.args.q.place.before) refl)
 
 pub returns-then-offset-x : goal.returns-then-offset-x
-returns-then-offset-x c = let l = rw c.later_at-x.ensures at c.if-offset-ends.false in (to_next c.requires.0 c.args.q c.requires.1 c.requires.2 (c.args.q.head.act - c.args.q.place.before) refl l (rw c.later_at-x.ensures at c.if-offset-x.true) c.data_kind-kind-then-offset-x.result c.bank_at-bank.result (rw c.later_at-x.ensures at c.data_kind-kind-then-offset-x.ensures) (rw c.later_at-x.ensures at c.bank_at-bank.ensures), λ e. true_false _ (closes_last c.requires.0 c.args.q c.requires.1 c.requires.2 (c.args.q.head.act - c.args.q.place.before) refl l) e)
+returns-then-offset-x c = let l = rw c.later_at-x.ensures at c.if-offset-ends.false in (to_next c.requires.0 c.args.q c.requires.1 c.requires.2 (c.args.q.head.act - c.args.q.place.before) refl l (rw c.later_at-x.ensures at c.if-offset-x.true) c.data_kind.result c.bank_at-bank.result (rw c.later_at-x.ensures at c.data_kind.ensures) (rw c.later_at-x.ensures at c.bank_at-bank.ensures), λ e. true_false _ (closes_last c.requires.0 c.args.q c.requires.1 c.requires.2 (c.args.q.head.act - c.args.q.place.before) refl l) e)
 
 pub data_from-requires : goal.data_from-requires
 data_from-requires c = (c.requires.0, record { within = c.requires.1.found.placed.within; before = c.requires.1.found.placed.before })
 
-pub returns : goal.returns
-returns c = (subst (λ (m : ℕ). Stood c.args.t c.args.list.now c.args.n m c.data_from.result) (omega arith) c.data_from.ensures, λ e. true_false _ (closes_last c.requires.0 c.args.q c.requires.1 c.requires.2 (c.args.q.head.act - c.args.q.place.before) refl (rw c.later_at-x.ensures at c.if-offset-ends.false)) e)
+pub returns-else-offset-x : goal.returns-else-offset-x
+returns-else-offset-x c = (subst (λ (m : ℕ). Stood c.args.t c.args.list.now c.args.n m c.data_from.result) (omega arith) c.data_from.ensures, λ e. true_false _ (closes_last c.requires.0 c.args.q c.requires.1 c.requires.2 (c.args.q.head.act - c.args.q.place.before) refl (rw c.later_at-x.ensures at c.if-offset-ends.false)) e)

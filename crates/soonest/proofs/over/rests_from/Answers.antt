@@ -1,15 +1,12 @@
 use native.Mathlib.Omega.{arith}
-use mathlib.Core.Path.{◌≡◌, refl, ◌∙◌}
+use mathlib.Core.Path.{◌≡◌, ◌∙◌}
 use Rattle.soonest.proofs.Numbers.{most_turn, rests_at, rests_told}
 use Rattle.soonest.proofs.over.rests_from.Goals as goal
 
-pub loop-b-init : goal.loop-b-init
-loop-b-init c = (omega arith, refl, refl)
-
 pub loop-b-preserved : goal.loop-b-preserved
-loop-b-preserved c = (omega arith, refl, most_turn (rests_at c.args.t c.args.s) c.loop-b.b c.loop-b.from _ _ c.loop-b.invariant.2 c.rest_from.ensures c.later_of-from.ensures)
+loop-b-preserved c = most_turn (rests_at c.args.t c.args.s) c.loop-b.b c.loop-b.from _ _ c.loop-b.invariant c.rest_from.ensures c.max-from.ensures
 
 pub returns : goal.returns
 returns c =
     let z : c.loop-b.b ≡ c.args.t.banks = omega arith in
-    rw z at c.loop-b.invariant.2 ∙ rests_told c.args.t c.args.s
+    rw z at c.loop-b.invariant ∙ rests_told c.args.t c.args.s

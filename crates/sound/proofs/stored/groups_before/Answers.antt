@@ -1,19 +1,15 @@
 use borrow.Author.Rules.{rules}
-use native.Mathlib.Omega.{arith}
-use Prim.Native.Nat.{◌-◌, ◌≤◌}
-use mathlib.Core.Path.{◌≡◌, refl, sym, ◌∙◌}
-use mathlib.Core.List.{map}
-use lib.ListN.{length}
-use Rattle.timing.specs.Kept.{told_group, quiet_kept}
-use Rattle.sound.specs.Refused.{group_before, groups_before}
+use borrow.Author.Tests.{tests}
+use mathlib.Core.Path.{◌∙◌}
+use lib.ListN.{take}
+use Rattle.std.proofs.lemmas.Iterator.{YieldsList-from_slice}
+use Rattle.std.proofs.lemmas.Iterator.Search.{all_from_yields_List}
+use Rattle.timing.specs.Kept.{told_group}
+use Rattle.sound.specs.Refused.{group_before}
 use Rattle.sound.proofs.Laws.{every_told}
 use Rattle.sound.proofs.stored.groups_before.Goals as goal
 
-pub loop-k-init : goal.loop-k-init
-loop-k-init c = (omega arith, refl)
-
-pub loop-k-preserved : goal.loop-k-preserved
-loop-k-preserved c = let z : length c.args.ks ≡ 8 = c.well_formed.0.1.0.1 in (omega (arith, c.loop-k-test.true), c.both_of-before.ensures ∙ rw (c.group_before.ensures, c.loop-k.invariant.1) (sym (every_told (group_before c.args.t) told_group c.args.ks c.loop-k.k quiet_kept (omega (arith, z, c.loop-k-test.true)))))
-
 pub returns : goal.returns
-returns c = let e : c.loop-k.k ≡ c.args.n = omega (arith, c.loop-k.invariant.0) in rw e at c.loop-k.invariant.1
+returns c =
+    all_from_yields_List {all = take c.args.n c.args.ks} (λ x. group_before c.args.t (told_group x)) _ _ _ c.all.ensures.ran (YieldsList-from_slice _ cc) (λ x b q k. search (rules, tests))
+    ∙ every_told (group_before c.args.t) told_group c.args.n c.args.ks

@@ -1,4 +1,3 @@
-use Prim.Native.Nat.{◌≤◌, ◌-◌}
 use mathlib.Core.Path.{◌≡◌}
 use lib.ListN.{take}
 use Rattle.records.specs.Told.{over}
@@ -6,7 +5,4 @@ use Rattle.records.specs.Little.{bytes16}
 use Rattle.tables.proofs.table.put_numbers.Given as goal
 
 abbrev pub invariant-loop-i : goal.invariant-loop-i
-invariant-loop-i l = (l.i ≤ 16) × (l.s ≡ over (bytes16 (take l.i l.n)) l.initial.s)
-
-abbrev pub decreases-loop-i : goal.decreases-loop-i
-decreases-loop-i l = 16 - l.i
+invariant-loop-i l = l.s ≡ over (bytes16 (take l.i l.n)) l.initial.s

@@ -1,8 +1,8 @@
 use borrow.Author.Rules.{rules}
 use Rattle.verdict_answers.proofs.verdict.serves_of.Goals as goal
 
-pub returns-in-Told : goal.returns-in-Told
-returns-in-Told c = rw c.in-Told.is c.served_said.ensures
+pub returns-in-Ok : goal.returns-in-Ok
+returns-in-Ok c = rw c.in-Ok.is c.served_said.ensures
 
-pub returns-in-Refused : goal.returns-in-Refused
-returns-in-Refused c = rw (c.in-Refused.is, c.refused-r.ensures)
+pub returns-in-Err : goal.returns-in-Err
+returns-in-Err c = rw (c.in-Err.is, c.refused-r.ensures)

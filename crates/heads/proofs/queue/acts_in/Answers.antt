@@ -1,9 +1,0 @@
-use native.Mathlib.Omega.{arith}
-use borrow.Author.Tests.{eq-eqb, ne_eqb}
-use Rattle.heads.proofs.queue.acts_in.Goals as goal
-
-pub returns-then-kind-eq2 : goal.returns-then-kind-eq2
-returns-then-kind-eq2 c = (rw (eq-eqb _ 2 c.if-kind-eq2.true), omega arith)
-
-pub returns-else-kind-eq2 : goal.returns-else-kind-eq2
-returns-else-kind-eq2 c = (rw (ne_eqb _ 2 c.if-kind-eq2.false), omega arith)

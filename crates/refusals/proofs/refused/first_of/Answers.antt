@@ -1,8 +1,0 @@
-use borrow.Author.Rules.{rules}
-use Rattle.refusals.proofs.refused.first_of.Goals as goal
-
-pub returns-then-a : goal.returns-then-a
-returns-then-a c = rw c.if-a.true
-
-pub returns : goal.returns
-returns c = rw c.if-a.false c.first_failed.ensures
