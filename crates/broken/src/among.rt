@@ -15,6 +15,8 @@ use timing::kept::{KeptBank, KeptGroup};
 
 // Rules 2 to 12 of a record that keeps rule 1 and is no REF, to bank k of the group `own` at cycle c; `cycle` is the first that rule 2 lets it
 // have. "Rules 6 and 9 .. over all earlier commands, since a neighbour in another group hides an older one": each group is asked for its latest.
+// Inlined, since the search for the shortest pattern asks it at each cycle in turn.
+#[inline(always)]
 #[tactic(auto, unfolding(crate::specs::ByState::found_on))]
 pub fn found_among(
     t: Table,
