@@ -94,13 +94,33 @@ impl From<KeptBank> for HostBank {
 pub fn banks_in(ks: [HostBank; 16]) -> [KeptBank; 16]
     ensures { map told_bank result ≡ map bank_tells ks }
 {
-    ks.map(KeptBank::from)
+    let shut = KeptBank {
+        opened: 0,
+        act: 0,
+        rd: 0,
+        wr: 0,
+    };
+    let mut kept = [shut; 16];
+    for i in 0..16 {
+        kept[i] = KeptBank::from(ks[i]);
+    }
+    kept
 }
 
 pub fn banks_kept(ks: [KeptBank; 16]) -> [HostBank; 16]
     ensures { result ≡ map bank_kept (map told_bank ks) }
 {
-    ks.map(HostBank::from)
+    let shut = HostBank {
+        opened: 0,
+        act: NEVER,
+        rd: NEVER,
+        wr: NEVER,
+    };
+    let mut held = [shut; 16];
+    for k in 0..16 {
+        held[k] = HostBank::from(ks[k]);
+    }
+    held
 }
 
 impl From<HostGroup> for KeptGroup {
@@ -130,13 +150,31 @@ impl From<KeptGroup> for HostGroup {
 pub fn groups_in(gs: [HostGroup; 8]) -> [KeptGroup; 8]
     ensures { map told_group result ≡ map group_tells gs }
 {
-    gs.map(KeptGroup::from)
+    let quiet = KeptGroup {
+        act: 0,
+        rd: 0,
+        wr: 0,
+    };
+    let mut kept = [quiet; 8];
+    for i in 0..8 {
+        kept[i] = KeptGroup::from(gs[i]);
+    }
+    kept
 }
 
 pub fn groups_kept(gs: [KeptGroup; 8]) -> [HostGroup; 8]
     ensures { result ≡ map group_kept (map told_group gs) }
 {
-    gs.map(HostGroup::from)
+    let quiet = HostGroup {
+        act: NEVER,
+        rd: NEVER,
+        wr: NEVER,
+    };
+    let mut held = [quiet; 8];
+    for k in 0..8 {
+        held[k] = HostGroup::from(gs[k]);
+    }
+    held
 }
 
 // What the controller tells, as a run keeps it.

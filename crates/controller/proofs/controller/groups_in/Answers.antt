@@ -1,10 +1,15 @@
-use Rattle.std.proofs.Common.{refl, rules}
+use mathlib.Core.Path.{refl}
+use Rattle.sound.proofs.Laws.{fill_start, fill_end}
 use Rattle.timing.specs.Kept.{told_group}
 use Rattle.controller.specs.Controller.{group_tells}
-use Rattle.controller.proofs.Numbers.{told_each, first_host_group, first_kept_group}
+use Rattle.controller.proofs.Numbers.{zero_group, in_turn}
 use Rattle.controller.proofs.controller.groups_in.Goals as goal
 
+pub loop-i-init : goal.loop-i-init
+loop-i-init c = fill_start 8 _ _ _ _ refl
+
+pub loop-i-preserved : goal.loop-i-preserved
+loop-i-preserved c = in_turn 8 told_group group_tells zero_group _ c.loop-i.kept _ c.from.result c.loop-i.invariant c.loop-i-test.true c.from.ensures
+
 pub returns : goal.returns
-returns c =
-    told_each 8 told_group group_tells first_host_group first_kept_group c.args.gs c.map.result refl (search rules) c.map.ensures.items.long
-    (λ i l. let h = c.map.ensures.items.at i first_host_group first_kept_group l in h.2.met)
+returns c = fill_end 8 _ _ _ _ _ c.loop-i.invariant c.loop-i-test.false c.well_formed.0.1.0.1
