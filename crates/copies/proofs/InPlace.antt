@@ -61,11 +61,11 @@ found_same τ st x inside ref g own =
 pub low_bank : {τ : Table} → Held τ → (k : Kind) (b : ℕ) → in_table τ k b ≡ true → b < 16
 low_bank {τ} fit k b e = omega (arith, fit.banks, in_bank τ k b e)
 
-known : (τ : Table) (x : Command) → in_table τ x.kind x.bank ≡ true → is_known x.kind ≡ true
+pub known : (τ : Table) (x : Command) → in_table τ x.kind x.bank ≡ true → is_known x.kind ≡ true
 known τ x e = and_fst (is_known x.kind) _ e
 
 -- record i, as the code reads it
-module _ {τ : Table} {s : List ℕ} {d : ℕ} {h : List Command} {n i : ℕ} (st : Kept) (turn : Turn τ s d h n i (told st)) (l : i < n)
+module _ {τ : Table} {s : List ℕ} {d : ℕ} {h : List Command} {n i : ℕ} (st : Kept) (fit : Held τ) (turn : Turn τ s d h n i (told st)) (l : i < n)
     {r : Command} (read : r ≡ command_at s (i * 8)) {shift : ℕ} (late : shift ≡ d) where
   abbrev x : Command
   x = command (r.cycle + shift) r.kind r.bank r.number
@@ -74,7 +74,7 @@ module _ {τ : Table} {s : List ℕ} {d : ℕ} {h : List Command} {n i : ℕ} (s
   here = record_read s d i r shift read late
 
   pub range_stops : in_table τ r.kind r.bank ≡ false → Refused Range i ≡ judge_from τ (left s d n 0) 0 h
-  range_stops e = turn_stops turn l here Range (sym (found_range τ (told st) x.kind x.cycle x.bank e))
+  range_stops e = turn_stops fit turn l here Range (sym (found_range τ (told st) x.kind x.cycle x.bank e))
 
   module _ (inside : in_table τ r.kind r.bank ≡ true) where
     module _ (ref : is_ref r.kind ≡ true) {rests : Bool} (rest : rests ≡ rule11 τ (told st) (r.cycle + shift)) {f : Found} (says : f ≡ ref_found τ st rests x) where
@@ -82,10 +82,10 @@ module _ {τ : Table} {s : List ℕ} {d : ℕ} {h : List Command} {n i : ℕ} (s
       ref_finds = sym (says ∙ ref_same τ st x inside ref rests rest)
 
       pub ref_stops : (y : Rule) → f ≡ Some y → Refused y i ≡ judge_from τ (left s d n 0) 0 h
-      ref_stops y e = turn_stops turn l here y (ref_finds ∙ e)
+      ref_stops y e = turn_stops fit turn l here y (ref_finds ∙ e)
 
       pub ref_next : f ≡ None → Turn τ s d h n (i + 1) (told (ref_kept st (r.cycle + shift + 1)))
-      ref_next e = subst (λ (z : State). Turn τ s d h n (i + 1) z) (sym (told_ref τ st x.kind x.cycle x.bank ref)) (turn_next turn l here (ref_finds ∙ e))
+      ref_next e = subst (λ (z : State). Turn τ s d h n (i + 1) z) (sym (told_ref τ st x.kind x.cycle x.bank ref)) (turn_next fit turn l here (ref_finds ∙ e))
 
     -- the table's groups are asked of another value, which is that table
     module _ (ref : is_ref r.kind ≡ false) {τ' : Table} (same : τ ≡ τ') {g : ℕ} (own : g ≡ group_of τ' r.bank) {f : Found} (says : f ≡ found_in τ' st g x) where
@@ -96,12 +96,12 @@ module _ {τ : Table} {s : List ℕ} {d : ℕ} {h : List Command} {n i : ℕ} (s
       finds = sym (subst (λ (t : Table). f ≡ found_in t st g x) (sym same) says ∙ found_same τ st x inside ref g place)
 
       pub rule_stops : (y : Rule) → f ≡ Some y → Refused y i ≡ judge_from τ (left s d n 0) 0 h
-      rule_stops y e = turn_stops turn l here y (finds ∙ e)
+      rule_stops y e = turn_stops fit turn l here y (finds ∙ e)
 
       -- the state after it, stored to place by place
       stored : (to : ℕ → Kept) → told (to (group_of τ x.bank)) ≡ note τ (told st) x.cycle x.kind x.bank → f ≡ None → Turn τ s d h n (i + 1) (told (to g))
       stored to e ok =
-          subst (λ (z : State). Turn τ s d h n (i + 1) z) (sym (ap (λ (j : ℕ). told (to j)) place ∙ e)) (turn_next turn l here (finds ∙ ok))
+          subst (λ (z : State). Turn τ s d h n (i + 1) z) (sym (ap (λ (j : ℕ). told (to j)) place ∙ e)) (turn_next fit turn l here (finds ∙ ok))
 
       pub act_next : f ≡ None → is_act r.kind ≡ true → Turn τ s d h n (i + 1) (told (act_kept st (r.cycle + shift + 1) r.bank g))
       act_next e a = stored (act_kept st (x.cycle + 1) x.bank) (told_act τ st x.kind x.cycle x.bank a) e

@@ -29,20 +29,19 @@ use Rattle.copies.proofs.Seen.{left, left_none, left_next}
 
 -- i records of a copy are judged: the state sums up all before the next, and the verdict on what is left is that on the whole copy
 pub record Turn (τ : Table) (s : List ℕ) (d : ℕ) (h : List Command) (n i : ℕ) (st : State) : Type 0 where
-  pub fit : Held τ
   pub low : i ≤ n
   pub judging : Judging τ (before s d i h) st
   pub rest : judge_from τ (left s d (n - i) i) i (before s d i h) ≡ judge_from τ (left s d n 0) 0 h
 
-pub turn_start : {τ : Table} {s : List ℕ} {d : ℕ} {h : List Command} {n : ℕ} {st : State} → Held τ → Judging τ h st → Turn τ s d h n 0 st
-turn_start fit q = record { fit = fit; low = omega arith; judging = q; rest = rw sub-zero }
+pub turn_start : {τ : Table} {s : List ℕ} {d : ℕ} {h : List Command} {n : ℕ} {st : State} → Judging τ h st → Turn τ s d h n 0 st
+turn_start q = record { low = omega arith; judging = q; rest = rw sub-zero }
 
 -- the verdict, by what the next record breaks
 abbrev go_on : Table → List Command → ℕ → Command → List Command → Found → Verdict
 go_on τ rs n r h f = elim f [ None ↦ judge_from τ rs (suc n) (r ∷ h) | Some x ↦ Refused x n ]
 
 -- x is record i
-module _ {τ : Table} {s : List ℕ} {d : ℕ} {h : List Command} {n i : ℕ} {st : State} (turn : Turn τ s d h n i st) (l : i < n)
+module _ {τ : Table} {s : List ℕ} {d : ℕ} {h : List Command} {n i : ℕ} {st : State} (fit : Held τ) (turn : Turn τ s d h n i st) (l : i < n)
     {x : Command} (here : record_in s d i ≡ x) where
   abbrev H : List Command
   H = before s d i h
@@ -53,7 +52,7 @@ module _ {τ : Table} {s : List ℕ} {d : ℕ} {h : List Command} {n i : ℕ} {s
 
   finds : broken τ x H ≡ found
   unfolding found_by
-  finds = judging_broken τ turn.fit H st turn.judging x
+  finds = judging_broken τ fit H st turn.judging x
 
   abbrev rest : List Command
   rest = left s d (n - suc i) (suc i)
@@ -70,15 +69,14 @@ module _ {τ : Table} {s : List ℕ} {d : ℕ} {h : List Command} {n i : ℕ} {s
   turn_stops y f = sym (goes ∙ ap (go_on τ rest i x H) f)
 
   pub turn_bank : found ≡ None → x.bank < 16
-  turn_bank f = below τ turn.fit x (holds τ x H (finds ∙ f) 0)
+  turn_bank f = below τ fit x (holds τ x H (finds ∙ f) 0)
 
   pub turn_next : found ≡ None → Turn τ s d h n (i + 1) (note τ st x.cycle x.kind x.bank)
   turn_next f =
       rw (add-one i)
       (record {
-        fit = turn.fit;
         low = omega arith;
-        judging = subst (λ (y : Command). Judging τ (y ∷ H) (note τ st x.cycle x.kind x.bank)) (sym here) (judging_note τ turn.fit H st turn.judging x (finds ∙ f));
+        judging = subst (λ (y : Command). Judging τ (y ∷ H) (note τ st x.cycle x.kind x.bank)) (sym here) (judging_note τ fit H st turn.judging x (finds ∙ f));
         rest = ap (λ (y : Command). judge_from τ rest (suc i) (y ∷ H)) here ∙ sym (goes ∙ ap (go_on τ rest i x H) f);
       })
 
@@ -87,7 +85,7 @@ shut_same : (τ : Table) (h : List Command) (st : State) → Judging τ h st →
 shut_same τ h st q zero l = refl
 shut_same τ h st q (suc m) l = rw (judging_open τ h st q m (omega arith), shut_same τ h st q m (omega arith))
 
-module _ {τ : Table} {s : List ℕ} {d : ℕ} {h : List Command} {n i : ℕ} {st : State} (q : Turn τ s d h n i st) (l : n ≤ i) where
+module _ {τ : Table} {s : List ℕ} {d : ℕ} {h : List Command} {n i : ℕ} {st : State} (fit : Held τ) (q : Turn τ s d h n i st) (l : n ≤ i) where
   at_end : i ≡ n
   at_end = omega (arith, q.low)
 
@@ -100,5 +98,5 @@ module _ {τ : Table} {s : List ℕ} {d : ℕ} {h : List Command} {n i : ℕ} {s
       sym (sym q.rest
       ∙ (ap (λ (y : ℕ). judge_from τ (left s d y i) i (before s d i h)) m
       ∙ (ap (λ (y : List Command). judge_from τ y i (before s d i h)) (left_none s d i)
-      ∙ (ap (λ (b : Bool). pick b Accepted (Refused End i)) (shut_same τ (before s d i h) st q.judging τ.banks q.fit.banks)
+      ∙ (ap (λ (b : Bool). pick b Accepted (Refused End i)) (shut_same τ (before s d i h) st q.judging τ.banks fit.banks)
       ∙ ap (λ (m : ℕ). pick (shut_by st τ.banks) Accepted (Refused End m)) at_end))))

@@ -1,3 +1,4 @@
+use native.Mathlib.Omega.{arith}
 use mathlib.Core.Path.{sym}
 use Rattle.timing.proofs.Telling.{told_fresh}
 use Rattle.judge.proofs.FiveCopies.{round_start, round_stops, round_next}
@@ -8,8 +9,8 @@ loop-k-init c = rw (c.new-grouping.ensures, c.kept_fresh-state.ensures, told_fre
 
 pub returns-in-Refused : goal.returns-in-Refused
 returns-in-Refused c =
-    rw (sym c.new-grouping.ensures) (round_stops c.loop-k.invariant c.loop-k-test.true _ c.judge_copy-copied.ensures.verdict _ _ c.in-Refused.is)
+    rw (sym c.new-grouping.ensures) (round_stops c.loop-k.invariant (omega (arith, c.loop-k-test.true)) _ c.judge_copy-copied.ensures.verdict _ _ c.in-Refused.is)
 
 pub loop-k-preserved : goal.loop-k-preserved
 loop-k-preserved c =
-    round_next c.loop-k.invariant c.loop-k-test.true _ c.judge_copy-copied.ensures.verdict _ c.in-Accepted.is c.judge_copy-copied.ensures.state
+    round_next c.loop-k.invariant (omega (arith, c.loop-k-test.true)) _ c.judge_copy-copied.ensures.verdict _ c.in-Accepted.is c.judge_copy-copied.ensures.state
