@@ -1,6 +1,6 @@
 -- The customer's three demands, of the public calls: on a table's bytes, the bytes or records of a list, a schedule's bytes, a controller. What
 -- the calls promise is in `desk`; here is what follows from it, by the numbers and values that `Numbers` gives for each case of
--- an answer. Ok this file first.
+-- an answer. Read this file first.
 use Rattle.std.specs.Prelude.{ℕ, suc, ◌+◌, ◌*◌, ◌≤◌, ◌<◌, Bool, true, false, ◌≡◌, ◌↔◌, ◌⊎◌, List, [], ◌∷◌, ltb, length, get_or, take, drop, Result, Ok, Err, Some}
 use Rattle.std.proofs.Math.Option.{some}
 use Rattle.std.proofs.Math.ListN.{get_elem?}

@@ -30,7 +30,7 @@ judged τ s =
     pick (eqb z 0) (Ok (τ.edition, judge τ (commands_in s))) (Err (refusal z 0 τ.edition))
 
 -- what a verdict on a pattern says of every number of copies. Accepted: "every number of copies, set end to end, is a legal schedule".
--- Err: "The verdict names the lowest copy, then the record within it"; fewer copies are accepted, and from that copy on all are refused alike
+-- Refused: "The verdict names the lowest copy, then the record within it"; fewer copies are accepted, and from that copy on all are refused alike
 abbrev pub PatternSays : Table → ℕ → List Command → PatternVerdict → Type 0
 PatternSays τ L p Accepted = EveryNumberLegal τ L p
 PatternSays τ L p (RefusedAt x c i) = (n : ℕ) → copies τ L p n ≡ pick (ltb n c) Accepted (RefusedAt x c i)

@@ -1,4 +1,4 @@
--- Document 02, request 6: a capture record is 4 bytes, "a 16-bit stamp, kind, bank". Ok and written as document 01 has it for the command.
+-- Document 02, request 6: a capture record is 4 bytes, "a 16-bit stamp, kind, bank". Read and written as document 01 has it for the command.
 use Rattle.std.specs.Prelude.{ℕ, ◌+◌, not, List, [], ◌∷◌, ◌++◌, length, ◌==◌, nat_le, slice_index, Result, Ok, Err}
 use Rattle.records.specs.declared.refusal.Refusal.{Refusal}
 use Rattle.records.specs.Tests.{pick}
